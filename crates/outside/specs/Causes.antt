@@ -1,0 +1,18 @@
+-- Counts of what failed, and the answers that they license.
+use Rattle.std.specs.Prelude.{◌≡◌, ℕ, zero, suc, ◌+◌, ◌-◌, ◌^◌, ◌<◌, ◌≤◌, min, length, List, [], ◌∷◌, Result, Ok, Err, OnErr}
+
+-- The count rose by one at least, or stands at the greatest u64, where a count stays.
+abbrev pub Rose : ℕ → ℕ → Type 0
+Rose before now = min (before + 1) (2 ^ 64 - 1) ≤ now
+
+-- The count never falls, and a failed call raised it.
+pub record HasCause {T E : Type 0} (before now : ℕ) (result : Result T E) : Type 0 where
+  pub later : before ≤ now
+  pub failed : OnErr result (Rose before now)
+
+-- A write that took nothing of a piece that isn't empty raises the count, and no other call changes it.
+abbrev pub CountsStall : {E : Type 0} → ℕ → List ℕ → Result ℕ E → ℕ → Type 0
+CountsStall before piece (Err e) now = now ≡ before
+CountsStall before [] (Ok count) now = now ≡ before
+CountsStall before (b ∷ bs) (Ok zero) now = (before ≤ now) × Rose before now
+CountsStall before (b ∷ bs) (Ok (suc n)) now = now ≡ before

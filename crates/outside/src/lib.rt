@@ -1,0 +1,18 @@
+//! The ends of the program: what it reads, what it writes, and the clock.
+//!
+//! Each end is a trait whose ghost members say what the outside gave or took, where it tells it.
+#![tactic(auto)]
+
+mod clock;
+mod link;
+mod sink;
+mod source;
+
+pub use clock::Clock;
+pub use link::Link;
+pub use sink::Sink;
+pub use source::Source;
+
+/// A call on the outside failed. The object that answers it counts it in its `faults`.
+#[derive(Clone, Copy, Debug)]
+pub struct Failed;
