@@ -1,0 +1,6 @@
+//! Names, realms and moments.
+#![tactic(auto)]
+
+mod bytes;
+
+pub use bytes::Bytes;
