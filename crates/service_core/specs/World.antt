@@ -1,0 +1,52 @@
+-- What the service holds.
+use Rattle.std.specs.Prelude.{◌≡◌, ◌≢◌, ℕ, ℤ, pos, ◌+ℤ◌, ◌≤ℤ◌, ◌<◌, List, [], ◌∷◌, ◌++◌, map, All, Contains, length}
+use Rattle.names_realms.specs.declared.states.State.TheVariants.{Active}
+use Rattle.names_realms.specs.declared.moments.Moment.{Moment}
+use Rattle.service_core.specs.declared.rows.Invocation.{Invocation}
+
+-- The invocations in order of creation, and the moment of the last change.
+pub record World : Type 0 where
+  pub invocations : List Invocation
+  pub last : ℤ
+
+abbrev pub empty_world : World
+empty_world = record { invocations = []; last = pos 0 }
+
+abbrev pub ids_of : World → List (List ℕ)
+ids_of w = map (λ i. i.id) w.invocations
+
+abbrev pub HasId : World → List ℕ → Type 0
+HasId w id = Contains (ids_of w) id
+
+-- two days, in microseconds
+abbrev pub default_lifetime : ℤ
+default_lifetime = pos 172_800_000_000
+
+-- A new invocation is active, and its deadline is two days away where the request gives none.
+abbrev pub new_row : ℤ → List ℕ → List ℕ → Invocation
+new_row moment id realm = record {
+  id = id; realm = realm; created = record { micros = moment };
+  deadline = record { micros = moment +ℤ default_lifetime }; state = Active }
+
+-- the world with one more row, which was made at its create time
+abbrev pub with_row : World → Invocation → World
+with_row w row = record { invocations = w.invocations ++ row ∷ []; last = row.created.micros }
+
+-- 9999-01-01T00:00:00Z
+abbrev pub greatest_moment : ℤ
+greatest_moment = pos 253_370_764_800_000_000
+
+-- A moment that a call may have.
+abbrev pub IsCallMoment : ℤ → Type 0
+IsCallMoment t = (pos 0 ≤ℤ t) × (t ≤ℤ greatest_moment)
+
+-- No two of the texts are the same.
+abbrev pub AreDifferent : List (List ℕ) → Type 0
+AreDifferent [] = Unit {0}
+AreDifferent (x ∷ xs) = (¬ Contains xs x) × AreDifferent xs
+
+-- What is so of the world between two calls.
+pub record IsValid (w : World) : Type 0 where
+  pub ids : AreDifferent (ids_of w)
+  pub last : IsCallMoment w.last
+  pub created : All (λ i. (pos 0 ≤ℤ i.created.micros) × (i.created.micros ≤ℤ w.last)) w.invocations
