@@ -6,6 +6,7 @@
 mod clock;
 mod counts;
 mod link;
+mod pair;
 mod sink;
 mod source;
 mod whole;
@@ -13,6 +14,7 @@ mod whole;
 pub use clock::Clock;
 pub use counts::counts_add_up;
 pub use link::Link;
+pub use pair::PairLink;
 pub use sink::Sink;
 pub use source::Source;
 pub use whole::{WriteEnd, put_whole, write_whole};
