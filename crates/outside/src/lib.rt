@@ -6,6 +6,7 @@
 mod clock;
 mod counts;
 mod link;
+mod memory;
 mod pair;
 mod sink;
 mod source;
