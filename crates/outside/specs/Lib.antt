@@ -2,3 +2,5 @@ pub mod Causes
 pub mod Bytes
 pub mod Whole
 pub mod Calls
+pub mod Incoming
+pub mod Outgoing

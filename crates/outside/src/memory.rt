@@ -1,3 +1,4 @@
 //! Ends in memory, for tests.
 
+pub(crate) mod incoming;
 pub(crate) mod schedule;
