@@ -1,6 +1,6 @@
 -- Bytes that were written to an end in memory.
 use Rattle.std.specs.Prelude.{◌≡◌, ℕ, zero, suc, List, [], ◌∷◌, ◌++◌, take, length, Result, Ok, Err, IfOk}
-use Rattle.outside.specs.Calls.{counted}
+use Rattle.outside.specs.Causes.{counted}
 use Rattle.outside.specs.declared.Failed.{Failed}
 use Rattle.outside.specs.declared.memory.schedule.Outcome.{Outcome}
 use Rattle.outside.specs.declared.memory.schedule.Outcome.TheVariants.{Works, Fails, Stalls}

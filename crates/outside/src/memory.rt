@@ -1,4 +1,5 @@
 //! Ends in memory, for tests.
 
 pub(crate) mod incoming;
+pub(crate) mod outgoing;
 pub(crate) mod schedule;
