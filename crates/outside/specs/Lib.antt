@@ -4,3 +4,4 @@ pub mod Whole
 pub mod Calls
 pub mod Incoming
 pub mod Outgoing
+pub mod Memory

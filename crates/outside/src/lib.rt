@@ -15,6 +15,7 @@ mod whole;
 pub use clock::Clock;
 pub use counts::counts_add_up;
 pub use link::Link;
+pub use memory::{MemoryLink, MemorySink, MemorySource};
 pub use pair::PairLink;
 pub use sink::Sink;
 pub use source::Source;

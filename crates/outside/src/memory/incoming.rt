@@ -81,6 +81,7 @@ impl Pieces {
         ensures count { result ≡ min (length (first_piece self.old)) (length room.new) }
         ensures given { take result room.new ≡ take result (first_piece self.old) }
         ensures rest { self.new ≡ pieces_after result self.old }
+        ensures end { first_piece self.old ≡ [] → self.old ≡ [] }
     {
         pass_empty(&mut self.current, &mut self.others);
         self.current.give(room)

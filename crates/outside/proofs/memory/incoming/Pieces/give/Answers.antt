@@ -1,6 +1,6 @@
 use Rattle.std.proofs.Common.{◌≡◌, ◌∙◌, sym, ap, map, length, take, ◌∷◌, min}
 use Rattle.outside.specs.Incoming.{without_empty, first_piece}
-use Rattle.outside.proofs.FirstPiece.{first_is, after_is}
+use Rattle.outside.proofs.FirstPiece.{first_is, after_is, end_is}
 use Rattle.outside.proofs.memory.incoming.Pieces.give.Goals as goal
 
 pub returns : goal.returns
@@ -14,4 +14,5 @@ returns c =
       given = c.give.ensures.given ∙ ap (take c.give.result) (sym first);
       rest = rw c.give.ensures.rest
           (after_is _ _ _ c.give.result same (λ h. ap (map (λ v. v.items)) (c.pass_empty.ensures.passed h)));
+      end = rw (← c.self.view_is) (end_is (c.self.inside.current ∷ map (λ v. v.items) c.self.inside.others.items));
     }
