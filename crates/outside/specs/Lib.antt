@@ -5,3 +5,4 @@ pub mod Calls
 pub mod Incoming
 pub mod Outgoing
 pub mod Memory
+pub mod Moments

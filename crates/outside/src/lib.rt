@@ -12,7 +12,7 @@ mod sink;
 mod source;
 mod whole;
 
-pub use clock::Clock;
+pub use clock::{Clock, ListClock, WallClock};
 pub use counts::counts_add_up;
 pub use link::Link;
 pub use memory::{MemoryLink, MemorySink, MemorySource};

@@ -1,4 +1,4 @@
-use Rattle.std.proofs.Common.{refl, ap, ◌∙◌, sym}
+use Rattle.std.proofs.Common.{refl, ap}
 use Rattle.std.specs.List.{concat}
 use Rattle.outside.proofs.FirstPiece.{gave_of_first, nothing_given}
 use Rattle.outside.proofs.memory.link.MemoryLinkLink.read.Goals as goal
