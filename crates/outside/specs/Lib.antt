@@ -6,3 +6,5 @@ pub mod Incoming
 pub mod Outgoing
 pub mod Memory
 pub mod Moments
+pub mod StreamCounts
+pub mod Streams
