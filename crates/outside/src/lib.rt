@@ -28,3 +28,6 @@ pub use whole::{WriteEnd, put_whole, write_whole};
 /// A call on the outside failed. The object that answers it counts it in its `faults`.
 #[derive(Clone, Copy, Debug)]
 pub struct Failed;
+
+#[cfg(test)]
+mod tests;
