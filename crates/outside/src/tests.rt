@@ -44,6 +44,20 @@ fn check_steps<L: Link>(rt: &impl Abort, link: &mut L, steps: &[Step<'_>]) {
     }
 }
 
+const LINK_STEPS: [Step<'static>; 11] = [
+    Step::Read(8, Some(b"ab")),
+    Step::Read(2, Some(b"cd")),
+    Step::Read(8, None),
+    Step::Write(b"xy", Some(2)),
+    Step::Write(b"z", Some(0)),
+    Step::Write(b"z", Some(1)),
+    Step::Read(8, None),
+    Step::Read(8, Some(b"e")),
+    Step::Read(8, Some(b"")),
+    Step::Write(b"!", None),
+    Step::Write(b"", None),
+];
+
 #[test]
 fn link_in_memory_keeps_cuts_and_counts(rt: HostRuntime) -> Result<(), Fail> {
     let pieces = vec![in rt.alloc();
@@ -53,23 +67,7 @@ fn link_in_memory_keeps_cuts_and_counts(rt: HostRuntime) -> Result<(), Fail> {
     ]?;
     let fails = vec![in rt.alloc(); 3, 5, 5, 7, 7, 10, 11, 11]?;
     let mut link = MemoryLink::new(rt.alloc(), pieces, fails)?;
-    check_steps(
-        &rt,
-        &mut link,
-        &[
-            Step::Read(8, Some(b"ab")),
-            Step::Read(2, Some(b"cd")),
-            Step::Read(8, None),
-            Step::Write(b"xy", Some(2)),
-            Step::Write(b"z", Some(0)),
-            Step::Write(b"z", Some(1)),
-            Step::Read(8, None),
-            Step::Read(8, Some(b"e")),
-            Step::Read(8, Some(b"")),
-            Step::Write(b"!", None),
-            Step::Write(b"", None),
-        ],
-    );
+    check_steps(&rt, &mut link, &LINK_STEPS);
     assert_eq!(rt; link.written(), b"xyz".as_slice());
     assert_eq!(rt; link.read_faults(), 2);
     assert_eq!(rt; link.write_faults(), 2);
@@ -77,24 +75,22 @@ fn link_in_memory_keeps_cuts_and_counts(rt: HostRuntime) -> Result<(), Fail> {
     Ok(())
 }
 
+const PAIR_STEPS: [Step<'static>; 7] = [
+    Step::Read(4, Some(b"abcd")),
+    Step::Read(4, None),
+    Step::Write(b"uv", Some(2)),
+    Step::Read(4, Some(b"ef")),
+    Step::Write(b"w", None),
+    Step::Write(b"w", Some(0)),
+    Step::Read(4, Some(b"")),
+];
+
 #[test]
 fn pair_reads_its_source_and_writes_its_sink(rt: HostRuntime) -> Result<(), Fail> {
     let bytes = b"abcdef".to_vec(rt.alloc())?;
     let mut source = MemorySource::new(rt.alloc(), bytes, vec![in rt.alloc(); 2]?)?;
     let mut sink = MemorySink::new(rt.alloc(), vec![in rt.alloc(); 2, 3, 3]?)?;
-    check_steps(
-        &rt,
-        &mut PairLink::new(&mut source, &mut sink),
-        &[
-            Step::Read(4, Some(b"abcd")),
-            Step::Read(4, None),
-            Step::Write(b"uv", Some(2)),
-            Step::Read(4, Some(b"ef")),
-            Step::Write(b"w", None),
-            Step::Write(b"w", Some(0)),
-            Step::Read(4, Some(b"")),
-        ],
-    );
+    check_steps(&rt, &mut PairLink::new(&mut source, &mut sink), &PAIR_STEPS);
     assert_eq!(rt; sink.written(), b"uv".as_slice());
     assert_eq!(rt; (source.faults(), sink.faults(), sink.stalls()), (1, 1, 1));
     Ok(())
