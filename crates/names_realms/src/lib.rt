@@ -1,0 +1,17 @@
+//! Names, moments and the small values that every other crate speaks of.
+//!
+//! Each name has one grammar and one spelling. `parse` reads exactly the texts of the grammar, and says of every other text what is
+//! wrong with it and where. `write_to` appends the one spelling.
+#![tactic(auto)]
+
+mod faults;
+mod ids;
+mod lists;
+mod parts;
+mod states;
+mod texts;
+
+pub use faults::NameFault;
+pub use ids::InvocationId;
+pub use lists::{Bytes, Numbers};
+pub use states::State;
