@@ -2,14 +2,14 @@
 use Rattle.std.proofs.Common.{◌≡◌, ◌≢◌, ℕ, suc, ◌+◌, ◌<◌, ◌≤◌, Bool, true, false, not, ◌&&◌, ◌||◌, nat_lt, cond, List, [], ◌∷◌, length, get_or, Option, Some, None, zero, option_map, lit<, refl, ◌∙◌, arith}
 use Rattle.std.specs.List.{list_any, list_all, position, prefix_len}
 use Rattle.std.specs.Str.{IsAscii, IsUtf8}
-use Rattle.std.proofs.lemmas.Bool.{and_parts, ltb-false, le-ltb, cond-true, cond-false}
+use Rattle.std.proofs.lemmas.Bool.{and_parts, ltb-true, ltb-false, le-ltb, cond-true, cond-false}
 use Rattle.std.proofs.lemmas.Bool.Decides.{nat_tests}
 use Rattle.std.proofs.lemmas.Str.{IsUtf8-from_ascii}
 use Rattle.names_realms.specs.declared.parts.PartForm.{PartForm}
 use Rattle.names_realms.specs.declared.parts.PartForm.TheVariants.{Invocation, Project, Subrealm, Outcome, Artifact}
 use Rattle.names_realms.specs.declared.faults.NameFault.{NameFault}
 use Rattle.names_realms.specs.declared.faults.NameFault.TheVariants.{Empty, TooLong, BadByte}
-use Rattle.names_realms.specs.Parts.{is_in, may_begin, may_follow, most_bytes, has_letters, IsPart, bad_place, unempty_fault, part_fault}
+use Rattle.names_realms.specs.Parts.{is_in, may_begin, may_follow, most_bytes, has_letters, IsPart, bad_place, limited_fault, unempty_fault, part_fault}
 
 -- a test passes everywhere just where none fails
 passes_to_the_end : (p : ℕ → Bool) (xs : List ℕ) → list_all p xs ≡ not (nat_lt (prefix_len (λ x. not (not (p x))) xs) (length xs))
@@ -26,11 +26,11 @@ none_fails p xs e = grind (arith, passes_to_the_end p xs)
 pub all_pass : (p : ℕ → Bool) (xs : List ℕ) → list_all p xs ≡ true → position (λ x. not (p x)) xs ≡ None
 all_pass p xs e = grind (arith, passes_to_the_end p xs)
 
-bad_place-None : (form : PartForm) (text : List ℕ) → bad_place form text ≡ None → has_letters form text ≡ true
+pub bad_place-None : (form : PartForm) (text : List ℕ) → bad_place form text ≡ None → has_letters form text ≡ true
 bad_place-None form [] e = cc
 bad_place-None form (b ∷ bs) e = grind (arith, none_fails (may_follow form) bs)
 
-letters-bad_place : (form : PartForm) (text : List ℕ) → has_letters form text ≡ true → bad_place form text ≡ None
+pub letters-bad_place : (form : PartForm) (text : List ℕ) → has_letters form text ≡ true → bad_place form text ≡ None
 letters-bad_place form [] e = cc
 letters-bad_place form (b ∷ bs) e = grind (arith, all_pass (may_follow form) bs)
 
@@ -38,21 +38,27 @@ option_map-None : (f : ℕ → NameFault) (o : Option ℕ) → option_map f o �
 option_map-None f None e = refl
 option_map-None f (Some x) e = cc
 
--- of the two faults neither is there
-neither : (b : Bool) (x : NameFault) (o : Option ℕ) → cond b (Some x) (option_map BadByte o) ≡ None → (b ≡ false) × (o ≡ None)
-neither true x o e = cc
-neither false x o e = (refl, option_map-None BadByte o e)
+-- no fault of so many bytes
+pub limited_fault-None : (most len : ℕ) (bad : Option ℕ) → limited_fault most len bad ≡ None → (len ≤ most) × (bad ≡ None)
+limited_fault-None most len bad =
+    elim (nat_lt most len) as (λ t. nat_lt most len ≡ t → cond t (Some (TooLong len)) (option_map BadByte bad) ≡ None → (len ≤ most) × (bad ≡ None)) [
+      | true ↦ λ is e. cc
+      | false ↦ λ is e. (ltb-false most len is, option_map-None BadByte bad e)
+    ] refl
+
+pub limited_fault-from : (most len : ℕ) (bad : Option ℕ) → len ≤ most → bad ≡ None → limited_fault most len bad ≡ None
+limited_fault-from most len bad few none = rw (le-ltb most len few, none) refl
 
 -- without a fault it is a part
 pub unempty_fault-None : (form : PartForm) (text : List ℕ) → unempty_fault form text ≡ None → IsPart form text
 unempty_fault-None form text e =
-    let parts = neither (nat_lt (most_bytes form) (length text)) (TooLong (length text)) (bad_place form text) e in
-    record { letters = bad_place-None form text parts.1; most = ltb-false (most_bytes form) (length text) parts.0 }
+    let parts = limited_fault-None (most_bytes form) (length text) (bad_place form text) e in
+    record { letters = bad_place-None form text parts.1; most = parts.0 }
 
 -- a part has no fault
 pub IsPart-unempty_fault : (form : PartForm) (text : List ℕ) → IsPart form text → unempty_fault form text ≡ None
 IsPart-unempty_fault form text part =
-    rw (le-ltb (most_bytes form) (length text) part.most, letters-bad_place form text part.letters) refl
+    limited_fault-from (most_bytes form) (length text) (bad_place form text) part.most (letters-bad_place form text part.letters)
 
 pub part_fault-None : (form : PartForm) (text : List ℕ) → part_fault form text ≡ None → IsPart form text
 part_fault-None form [] e = cc
@@ -89,3 +95,9 @@ IsPart-ascii form (b ∷ bs) part (suc i) = others_ascii form bs (and_parts _ _ 
 
 pub IsPart-utf8 : (form : PartForm) (text : List ℕ) → IsPart form text → IsUtf8 text
 IsPart-utf8 form text part = IsUtf8-from_ascii text (IsPart-ascii form text part)
+
+-- what is written out
+pub ascii_literal : (text : List ℕ) → list_all (λ b. nat_lt b 128) text ≡ true → IsAscii text
+ascii_literal [] e i = lit< tt
+ascii_literal (b ∷ bs) e zero = ltb-true b 128 (and_parts _ _ e).0
+ascii_literal (b ∷ bs) e (suc i) = ascii_literal bs (and_parts _ _ e).1 i

@@ -1,6 +1,6 @@
 -- A part of a name, which has an alphabet and a limit, and what is wrong with one.
-use Rattle.std.specs.Prelude.{◌≡◌, ℕ, suc, ◌+◌, ◌≤◌, Bool, false, not, ◌&&◌, ◌||◌, ◌==◌, if◌then◌else◌, nat_lt, List, [], ◌∷◌, length, codes, Option, Some, None, IsTrue, option_map}
-use Rattle.std.specs.List.{list_any, list_all, position}
+use Rattle.std.specs.Prelude.{◌≡◌, ℕ, suc, ◌+◌, ◌≤◌, Bool, false, not, ◌&&◌, ◌||◌, ◌==◌, if◌then◌else◌, nat_lt, nat_eq, List, [], ◌∷◌, length, codes, Option, Some, None, IsTrue, option_map}
+use Rattle.std.specs.List.{list_any, list_all, position, common_prefix_len}
 use Rattle.std.specs.Char.{is_ascii_lowercase, is_ascii_digit, is_ascii_alphanumeric}
 use Rattle.names_realms.specs.declared.parts.PartForm.{PartForm}
 use Rattle.names_realms.specs.declared.parts.PartForm.TheVariants.{Invocation, Project, Subrealm, Outcome, Artifact}
@@ -54,11 +54,13 @@ bad_place form [] = Some 0
 bad_place form (b ∷ bs) =
     if may_begin form b then option_map (λ n. n + 1) (position (λ x. not (may_follow form x)) bs) else Some 0
 
+-- the fault of so many bytes, of which there may be so many at most: that they are too many, then their first bad place
+abbrev pub limited_fault : ℕ → ℕ → Option ℕ → Option NameFault
+limited_fault most len bad = if nat_lt most len then Some (TooLong len) else option_map BadByte bad
+
 -- the fault of a part of which its emptiness is no fault of its own
 abbrev pub unempty_fault : PartForm → List ℕ → Option NameFault
-unempty_fault form text =
-    if nat_lt (most_bytes form) (length text) then Some (TooLong (length text))
-    else option_map BadByte (bad_place form text)
+unempty_fault form text = limited_fault (most_bytes form) (length text) (bad_place form text)
 
 -- the fault of a part: that it is empty, then that it is too long, then its first bad place
 abbrev pub part_fault : PartForm → List ℕ → Option NameFault
@@ -72,3 +74,15 @@ shifted n (BadByte at) = BadByte (n + at)
 shifted n (NotCanonical at) = NotCanonical (n + at)
 shifted n OutOfRange = OutOfRange
 shifted n Memory = Memory
+
+-- the place that a fault names
+abbrev pub place_of : NameFault → ℕ
+place_of (BadByte at) = at
+place_of (NotCanonical at) = at
+place_of _ = 0
+
+-- the first place at which the text isn't the literal, its length where it ends too soon
+abbrev pub literal_bad_place : List ℕ → List ℕ → Option ℕ
+literal_bad_place literal text =
+    if (common_prefix_len nat_eq text literal == length text) && (common_prefix_len nat_eq text literal == length literal) then None
+    else Some (common_prefix_len nat_eq text literal)

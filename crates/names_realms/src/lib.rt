@@ -8,10 +8,12 @@ mod faults;
 mod ids;
 mod lists;
 mod parts;
+mod realms;
 mod states;
 mod texts;
 
 pub use faults::NameFault;
 pub use ids::InvocationId;
 pub use lists::{Bytes, Numbers};
+pub use realms::Realm;
 pub use states::State;

@@ -1,7 +1,7 @@
 //! A part of a name: which bytes it may have, and how many.
-ghost use Rattle.std.specs.Prelude.{◌≡◌, ◌<◌, ◌≢◌, not, length, IfOk, IfErr, IfSome, Some, string_bytes};
+ghost use Rattle.std.specs.Prelude.{◌≡◌, ◌≢◌, ◌+◌, ◌^◌, ◌<◌, ◌≤◌, not, option_map, length, IfOk, IfErr, IfSome, Some, string_bytes};
 ghost use Rattle.std.specs.List.{position};
-ghost use Rattle.names_realms.specs.Parts.{IsPart, is_in, is_lower_or_digit_test, may_begin, may_follow, most_bytes, bad_place, unempty_fault, part_fault};
+ghost use Rattle.names_realms.specs.Parts.{IsPart, is_in, is_lower_or_digit_test, may_begin, may_follow, most_bytes, bad_place, limited_fault, shifted, place_of, unempty_fault, part_fault};
 
 use crate::NameFault;
 use crate::texts::owned_text;
@@ -83,8 +83,9 @@ fn first_that_may_not_follow(form: PartForm, text: &[u8]) -> Option<usize>
 }
 
 /// The first place whose byte the form doesn't have there, or 0 where there are no bytes.
-fn first_bad(form: PartForm, text: &[u8]) -> Option<usize>
-    ensures { result ≡ bad_place form text.now }
+pub(crate) fn first_bad(form: PartForm, text: &[u8]) -> Option<usize>
+    ensures place { result ≡ bad_place form text.now }
+    ensures within { IfSome result (λ place. place ≤ length text.now) }
 {
     let Some((first, rest)) = text.split_first() else {
         return Some(0);
@@ -98,17 +99,38 @@ fn first_bad(form: PartForm, text: &[u8]) -> Option<usize>
     }
 }
 
+/// The fault of a text of this length with this limit and this first bad place.
+pub(crate) fn limited(most: usize, len: usize, bad: Option<usize>) -> Option<NameFault>
+    requires { IfSome bad (λ at. at ≤ len) }
+    ensures value { result ≡ limited_fault most len bad }
+    ensures within { IfSome result (λ f. place_of f ≤ len) }
+{
+    if len > most {
+        return Some(NameFault::TooLong { len });
+    }
+    match bad {
+        Some(at) => Some(NameFault::BadByte { at }),
+        None => None,
+    }
+}
+
+/// The fault, if there is one, of a text that stands behind so many bytes.
+pub(crate) fn shifted_fault(behind: usize, fault: Option<NameFault>) -> Option<NameFault>
+    requires { IfSome fault (λ f. place_of f + behind < 2 ^ 64) }
+    ensures { result ≡ option_map (shifted behind) fault }
+{
+    match fault {
+        Some(NameFault::BadByte { at }) => Some(NameFault::BadByte { at: behind + at }),
+        Some(NameFault::NotCanonical { at }) => Some(NameFault::NotCanonical { at: behind + at }),
+        other => other,
+    }
+}
+
 /// What is wrong with a part that may be said to be too long or to have a bad byte, and not to be empty.
 pub(crate) fn fault_unless_empty(form: PartForm, text: &[u8]) -> Option<NameFault>
     ensures { result ≡ unempty_fault form text.now }
 {
-    if text.len() > form.most() {
-        return Some(NameFault::TooLong { len: text.len() });
-    }
-    match first_bad(form, text) {
-        Some(at) => Some(NameFault::BadByte { at }),
-        None => None,
-    }
+    limited(form.most(), text.len(), first_bad(form, text))
 }
 
 /// What is wrong with a part.
