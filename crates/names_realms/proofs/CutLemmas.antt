@@ -1,7 +1,7 @@
 -- A text cut before its first such byte, and a text against a literal.
-use Rattle.std.proofs.Common.{◌≡◌, ℕ, suc, zero, ◌+◌, ◌<◌, ◌≤◌, Bool, true, false, not, ◌&&◌, nat_eq, nat_lt, cond, List, [], ◌∷◌, ◌++◌, length, drop, take, Option, Some, None, refl, sym, ap, ◌∙◌, arith, one-add}
+use Rattle.std.proofs.Common.{◌≡◌, ℕ, suc, ◌+◌, true, false, not, nat_eq, cond, List, [], ◌∷◌, ◌++◌, length, drop, None, refl, arith, one-add}
 use Rattle.std.specs.Prelude.{◌==◌}
-use Rattle.std.specs.List.{list_all, position, prefix_len, position_or_len, common_prefix_len}
+use Rattle.std.specs.List.{list_all, position_or_len, common_prefix_len}
 use Rattle.std.proofs.lemmas.Bool.{and_parts, eqb-true, eq-eqb, not-true}
 use Rattle.std.proofs.lemmas.Bool.Decides.{nat_tests}
 use Rattle.names_realms.specs.Parts.{literal_bad_place}

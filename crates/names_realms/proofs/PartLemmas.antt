@@ -1,15 +1,15 @@
 -- A text has no fault just where it is a part.
-use Rattle.std.proofs.Common.{◌≡◌, ◌≢◌, ℕ, suc, ◌+◌, ◌<◌, ◌≤◌, Bool, true, false, not, ◌&&◌, ◌||◌, nat_lt, cond, List, [], ◌∷◌, length, get_or, Option, Some, None, zero, option_map, lit<, refl, ◌∙◌, arith}
-use Rattle.std.specs.List.{list_any, list_all, position, prefix_len}
+use Rattle.std.proofs.Common.{◌≡◌, ℕ, suc, ◌+◌, ◌<◌, ◌≤◌, Bool, true, false, not, ◌&&◌, nat_lt, cond, List, [], ◌∷◌, length, Option, Some, None, zero, option_map, lit<, refl, ◌∙◌, arith}
+use Rattle.std.specs.List.{list_all, position, prefix_len}
 use Rattle.std.specs.Str.{IsAscii, IsUtf8}
-use Rattle.std.proofs.lemmas.Bool.{and_parts, ltb-true, ltb-false, le-ltb, cond-true, cond-false}
+use Rattle.std.proofs.lemmas.Bool.{and_parts, ltb-true, ltb-false, le-ltb}
 use Rattle.std.proofs.lemmas.Bool.Decides.{nat_tests}
 use Rattle.std.proofs.lemmas.Str.{IsUtf8-from_ascii}
 use Rattle.names_realms.specs.declared.parts.PartForm.{PartForm}
 use Rattle.names_realms.specs.declared.parts.PartForm.TheVariants.{Invocation, Project, Subrealm, Outcome, Artifact}
 use Rattle.names_realms.specs.declared.faults.NameFault.{NameFault}
-use Rattle.names_realms.specs.declared.faults.NameFault.TheVariants.{Empty, TooLong, BadByte}
-use Rattle.names_realms.specs.Parts.{is_in, may_begin, may_follow, most_bytes, has_letters, IsPart, bad_place, limited_fault, unempty_fault, part_fault}
+use Rattle.names_realms.specs.declared.faults.NameFault.TheVariants.{TooLong, BadByte}
+use Rattle.names_realms.specs.Parts.{may_begin, may_follow, most_bytes, has_letters, IsPart, bad_place, limited_fault, unempty_fault, part_fault}
 
 -- a test passes everywhere just where none fails
 passes_to_the_end : (p : ℕ → Bool) (xs : List ℕ) → list_all p xs ≡ not (nat_lt (prefix_len (λ x. not (not (p x))) xs) (length xs))

@@ -1,20 +1,20 @@
 -- A text has no fault just where it is a realm.
-use Rattle.std.proofs.Common.{◌≡◌, ℕ, suc, zero, ◌+◌, ◌<◌, ◌≤◌, Bool, true, false, not, ◌&&◌, nat_eq, nat_lt, cond, List, [], ◌∷◌, ◌++◌, length, drop, take, codes, Option, Some, None, option_map, inl, inr, refl, sym, ap, ◌∙◌, arith, take-append-drop, subst, lit≤}
+use Rattle.std.proofs.Common.{◌≡◌, ℕ, suc, ◌+◌, ◌≤◌, true, false, not, cond, List, [], ◌∷◌, ◌++◌, length, drop, take, codes, Option, Some, None, option_map, inl, inr, refl, ap, ◌∙◌, arith, take-append-drop, subst, lit≤}
 use Rattle.std.specs.Prelude.{◌==◌}
 use Rattle.std.specs.Option.{option_or}
-use Rattle.std.specs.Str.{IsAscii, IsUtf8}
+use Rattle.std.specs.Str.{IsUtf8}
 use Rattle.std.specs.List.{list_all}
-use Rattle.std.proofs.lemmas.Bool.{and_parts, and_from, eqb-true, eq-eqb, not-true, le-ltb, ltb-false}
+use Rattle.std.proofs.lemmas.Bool.{and_parts, and_from}
 use Rattle.std.proofs.lemmas.Bool.Decides.{nat_tests}
 use Rattle.std.proofs.lemmas.List.{take_at, drop_at}
 use Rattle.std.proofs.lemmas.Str.{IsUtf8-append, IsUtf8-from_ascii}
 use Rattle.names_realms.specs.declared.faults.NameFault.{NameFault}
-use Rattle.names_realms.specs.declared.faults.NameFault.TheVariants.{Empty, TooLong, BadByte}
+use Rattle.names_realms.specs.declared.faults.NameFault.TheVariants.{Empty}
 use Rattle.names_realms.specs.declared.parts.PartForm.TheVariants as form
 use Rattle.names_realms.specs.Parts.{IsPart, may_follow, bad_place, limited_fault, unempty_fault, shifted, literal_bad_place}
 use Rattle.names_realms.specs.Realms.{IsSubrealm, IsRealm, bad_subrealm_place, colon_fault, project_len, realm_fault}
-use Rattle.names_realms.proofs.PartLemmas.{limited_fault-None, limited_fault-from, bad_place-None, letters-bad_place, unempty_fault-None, IsPart-unempty_fault, IsPart-utf8, ascii_literal}
-use Rattle.names_realms.proofs.CutLemmas.{cut_is, cut_before, literal_bad_place-None, literal_bad_place-literal}
+use Rattle.names_realms.proofs.PartLemmas.{limited_fault-None, limited_fault-from, letters-bad_place, unempty_fault-None, IsPart-unempty_fault, IsPart-utf8, ascii_literal}
+use Rattle.names_realms.proofs.CutLemmas.{cut_is, cut_before, literal_bad_place-None}
 
 shifted-None : (n : ℕ) (f : Option NameFault) → option_map (shifted n) f ≡ None → f ≡ None
 shifted-None n None e = refl
@@ -71,7 +71,7 @@ two_parts-None text e =
     let none = both_None _ _ e in
     let whole = take-append-drop (project_len text) text in
     subst IsRealm whole
-      (behind-None (take (project_len text) text) (drop (project_len text) text) (project_len text) (unempty_fault-None form.Project _ none.0) (cut_is 58 text) none.1)
+    (behind-None (take (project_len text) text) (drop (project_len text) text) (project_len text) (unempty_fault-None form.Project _ none.0) (cut_is 58 text) none.1)
 
 pub realm_fault-None : (text : List ℕ) → realm_fault text ≡ None → IsRealm text
 realm_fault-None [] e = cc
@@ -104,4 +104,4 @@ subrealm-utf8 text (inr part) = IsPart-utf8 form.Subrealm text part
 pub IsRealm-utf8 : (text : List ℕ) → IsRealm text → IsUtf8 text
 IsRealm-utf8 text is =
     rw is.parts (IsUtf8-append is.project (58 ∷ is.subrealm) (IsPart-utf8 form.Project is.project is.is_project)
-      (IsUtf8-append (58 ∷ []) is.subrealm (IsUtf8-from_ascii (58 ∷ []) (ascii_literal (58 ∷ []) refl)) (subrealm-utf8 is.subrealm is.is_subrealm)))
+    (IsUtf8-append (58 ∷ []) is.subrealm (IsUtf8-from_ascii (58 ∷ []) (ascii_literal (58 ∷ []) refl)) (subrealm-utf8 is.subrealm is.is_subrealm)))

@@ -1,5 +1,5 @@
 -- The grammar of ids and realms.
-use Rattle.std.specs.Prelude.{◌≡◌, ℕ, List, ◌++◌, ◌∷◌, codes, ◌⊎◌, Option}
+use Rattle.std.specs.Prelude.{ℕ, List, Option}
 use Rattle.names_realms.specs.declared.faults.NameFault.{NameFault}
 use Rattle.names_realms.specs.declared.parts.PartForm.TheVariants as form
 use Rattle.names_realms.specs.Parts.{IsPart, part_fault}

@@ -1,5 +1,5 @@
 -- A part of a name, which has an alphabet and a limit, and what is wrong with one.
-use Rattle.std.specs.Prelude.{◌≡◌, ℕ, suc, ◌+◌, ◌≤◌, Bool, false, not, ◌&&◌, ◌||◌, ◌==◌, if◌then◌else◌, nat_lt, nat_eq, List, [], ◌∷◌, length, codes, Option, Some, None, IsTrue, option_map}
+use Rattle.std.specs.Prelude.{ℕ, ◌+◌, ◌≤◌, Bool, false, not, ◌&&◌, ◌||◌, ◌==◌, if◌then◌else◌, nat_lt, nat_eq, List, [], ◌∷◌, length, codes, Option, Some, None, IsTrue, option_map}
 use Rattle.std.specs.List.{list_any, list_all, position, common_prefix_len}
 use Rattle.std.specs.Char.{is_ascii_lowercase, is_ascii_digit, is_ascii_alphanumeric}
 use Rattle.names_realms.specs.declared.parts.PartForm.{PartForm}

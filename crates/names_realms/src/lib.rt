@@ -4,9 +4,11 @@
 //! wrong with it and where. `write_to` appends the one spelling.
 #![tactic(auto)]
 
+mod civil;
 mod faults;
 mod ids;
 mod lists;
+mod moments;
 mod parts;
 mod realms;
 mod states;
@@ -15,5 +17,6 @@ mod texts;
 pub use faults::NameFault;
 pub use ids::InvocationId;
 pub use lists::{Bytes, Numbers};
+pub use moments::Moment;
 pub use realms::Realm;
 pub use states::State;

@@ -1,5 +1,5 @@
-use Rattle.std.proofs.Common.{◌≡◌, ◌≢◌, None, Some, sym, ◌∙◌, string_bytes}
-use Rattle.names_realms.specs.Parts.{IsPart, part_fault}
+use Rattle.std.proofs.Common.{◌≡◌, Some, sym, ◌∙◌}
+use Rattle.names_realms.specs.Parts.{part_fault}
 use Rattle.names_realms.proofs.PartLemmas.{part_fault-None, IsPart-part_fault, IsPart-utf8}
 use Rattle.names_realms.proofs.parts.read_part.Goals as goal
 
