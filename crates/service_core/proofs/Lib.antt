@@ -1,1 +1,4 @@
 pub mod StandinLaws
+pub mod WorldLaws
+pub mod StepLaws
+pub mod RequestLaws

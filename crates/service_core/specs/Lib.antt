@@ -5,3 +5,5 @@ pub mod Replies
 pub mod World
 pub mod Step
 pub mod History
+pub mod CoreState
+pub mod Plans
