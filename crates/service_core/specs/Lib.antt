@@ -7,3 +7,4 @@ pub mod Step
 pub mod History
 pub mod CoreState
 pub mod Plans
+pub mod Laws

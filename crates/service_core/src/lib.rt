@@ -3,6 +3,7 @@
 
 pub mod asked;
 pub mod forms;
+pub mod laws;
 pub mod plan;
 mod refusals;
 mod replies;
