@@ -1,0 +1,5 @@
+pub mod Parts
+pub mod Names
+pub mod Realms
+pub mod Civil
+pub mod Moments

@@ -1,6 +1,22 @@
-//! Names, realms and moments.
+//! Names, moments and the small values that every other crate speaks of.
+//!
+//! Each name has one grammar and one spelling. `parse` reads exactly the texts of the grammar, and says of every other text what is
+//! wrong with it and where. `write_to` appends the one spelling.
 #![tactic(auto)]
 
-mod bytes;
+mod civil;
+mod faults;
+mod ids;
+mod lists;
+mod moments;
+mod parts;
+mod realms;
+mod states;
+mod texts;
 
-pub use bytes::Bytes;
+pub use faults::NameFault;
+pub use ids::InvocationId;
+pub use lists::{Bytes, Numbers};
+pub use moments::Moment;
+pub use realms::Realm;
+pub use states::State;

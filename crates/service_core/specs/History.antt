@@ -28,6 +28,10 @@ pub record Leads (w : World) (e : Entry) (after : World) : Type 0 where
   pub later : w.last ≤ℤ e.moment
   pub tells : Tells w e.moment e.asked e.told after
 
+-- One call without others beside it, at the moment that this answer of a clock makes.
+abbrev pub Serves : World → ℤ → Asked → Told → World → Type 0
+Serves w now asked told after = Leads w (record { seat = 0; moment = moment_of w.last now; asked = asked; told = told }) after
+
 -- Each entry leads from the world that the one before it left.
 abbrev pub IsLegal : World → List Entry → World → Type 0
 IsLegal w [] end = end ≡ w

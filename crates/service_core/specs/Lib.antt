@@ -5,3 +5,6 @@ pub mod Replies
 pub mod World
 pub mod Step
 pub mod History
+pub mod CoreState
+pub mod Plans
+pub mod Laws

@@ -1,7 +1,11 @@
 -- Refusals and their texts.
-use Rattle.std.specs.Prelude.{ℕ, ◌==◌, if◌then◌else◌, List, [], ◌∷◌, ◌++◌, length, codes, decimal, None}
+use Rattle.std.specs.Prelude.{◌≡◌, ◌⊎◌, ℕ, ◌==◌, if◌then◌else◌, List, [], ◌++◌, length, codes, decimal, None}
 use Rattle.service_core.specs.declared.forms.Answer.{Answer}
 use Rattle.service_core.specs.declared.forms.Refusal.{Refusal}
+
+-- The rule is one of those that are asked: that the body has a form that is read, and that the id is free.
+abbrev pub IsBuiltRule : ℕ → Type 0
+IsBuiltRule n = (n ≡ 6) ⊎ (n ≡ 19)
 
 -- the name of a rule
 abbrev pub rule_name : ℕ → List ℕ

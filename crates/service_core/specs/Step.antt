@@ -1,5 +1,5 @@
 -- What the service does with one request.
-use Rattle.std.specs.Prelude.{◌≡◌, ◌⊎◌, ℕ, ℤ, pos, ◌≤ℤ◌, List, Option}
+use Rattle.std.specs.Prelude.{◌≡◌, ◌⊎◌, ℕ, ℤ, pos, List}
 use Rattle.std.specs.Int.{int_min, int_max}
 use Rattle.service_core.specs.declared.asked.Asked.{Asked}
 use Rattle.service_core.specs.declared.forms.Answer.{Answer}
@@ -7,7 +7,7 @@ use Rattle.service_core.specs.declared.forms.Refusal.{Refusal}
 use Rattle.service_core.specs.World.{World, HasId, new_row, with_row, greatest_moment}
 use Rattle.service_core.specs.Requests.{IsCreate, IsOther}
 use Rattle.service_core.specs.Refusals.{refusal_answer, body_not_built, id_taken}
-use Rattle.service_core.specs.Replies.{ShowsInvocation}
+use Rattle.service_core.specs.Replies.{invocation_answer}
 
 -- The moment of a call: what the clock says, brought into the years from 1970 to 9998, and no earlier than the last change.
 abbrev pub moment_of : ℤ → ℤ → ℤ
@@ -43,7 +43,7 @@ pub record Creates (w : World) (moment : ℤ) (asked : Asked) (after : World) (a
   pub realm : List ℕ
   pub accepts : Accepts w asked id realm
   pub added : after ≡ with_row w (new_row moment id realm)
-  pub shows : ShowsInvocation (new_row moment id realm) answer
+  pub shows : answer ≡ invocation_answer (new_row moment id realm)
 
 -- At this moment this request leads from the world w to the world after, with this answer.
 abbrev pub Step : World → ℤ → Asked → World → Answer → Type 0

@@ -1,7 +1,6 @@
 -- What the service holds.
-use Rattle.std.specs.Prelude.{◌≡◌, ◌≢◌, ℕ, ℤ, pos, ◌+ℤ◌, ◌≤ℤ◌, ◌<◌, List, [], ◌∷◌, ◌++◌, map, All, Contains, length}
+use Rattle.std.specs.Prelude.{ℕ, ℤ, pos, ◌+ℤ◌, ◌≤ℤ◌, List, [], ◌∷◌, ◌++◌, map, All, Contains}
 use Rattle.names_realms.specs.declared.states.State.TheVariants.{Active}
-use Rattle.names_realms.specs.declared.moments.Moment.{Moment}
 use Rattle.service_core.specs.declared.rows.Invocation.{Invocation}
 
 -- The invocations in order of creation, and the moment of the last change.
@@ -25,8 +24,12 @@ default_lifetime = pos 172_800_000_000
 -- A new invocation is active, and its deadline is two days away where the request gives none.
 abbrev pub new_row : ℤ → List ℕ → List ℕ → Invocation
 new_row moment id realm = record {
-  id = id; realm = realm; created = record { micros = moment };
-  deadline = record { micros = moment +ℤ default_lifetime }; state = Active }
+  id = id;
+  realm = realm;
+  created = record { micros = moment };
+  deadline = record { micros = moment +ℤ default_lifetime };
+  state = Active;
+}
 
 -- the world with one more row, which was made at its create time
 abbrev pub with_row : World → Invocation → World

@@ -13,6 +13,13 @@ pub struct Answer {
     pub body: Bytes,
 }
 
+/// Why a request is refused: the number of the rule that it breaks, and what breaks it.
+#[derive(Drop)]
+pub struct Refusal {
+    pub rule: u8,
+    pub subject: Bytes,
+}
+
 /// What is said in place of an answer.
 #[derive(Clone, Copy, Debug)]
 pub enum Standin {

@@ -3,5 +3,13 @@
 
 pub mod asked;
 pub mod forms;
+pub mod laws;
+pub mod plan;
+mod refusals;
+mod replies;
+mod requests;
+pub mod rows;
+pub mod world;
 
 pub use asked::Asked;
+pub use world::Core;

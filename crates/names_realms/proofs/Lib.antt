@@ -1,0 +1,4 @@
+pub mod PartLemmas
+pub mod CutLemmas
+pub mod RealmLemmas
+pub mod CivilLemmas

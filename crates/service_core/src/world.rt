@@ -1,0 +1,187 @@
+// The core: the world in memory, and its steps.
+ghost use Rattle.std.specs.Prelude.{◌≡◌, ◌≤ℤ◌, ◌+◌, ◌<◌, ◌≤◌, ◌↔◌, pos, IfOk, OnOk, IsTrue, Some, Contains, map};
+ghost use Rattle.std.specs.Int.{int_min, int_max};
+ghost use Rattle.service_core.specs.World.{empty_world, with_row, HasId, IsCallMoment, IsValid, greatest_moment};
+ghost use Rattle.service_core.specs.Step.{moment_of};
+ghost use Rattle.service_core.specs.Plans.{IsJudged, IsPrepared, CanCommit, plan_of};
+ghost use Rattle.service_core.specs.History.{Serves};
+
+use crate::asked::Asked;
+use crate::forms::{Answer, Standin, Told};
+use crate::plan::{Plan, Prepared};
+use crate::refusals::{not_built, taken};
+use crate::replies::invocation_answer;
+use crate::requests::{Create, read_create};
+use crate::rows::Invocation;
+use names_realms::{InvocationId, Moment};
+use std::alloc::{AllocError, Global};
+use std::marker::Model;
+
+// 9999-01-01T00:00:00Z
+const GREATEST_MOMENT: i64 = 253_370_764_800_000_000;
+
+// What is found of a request.
+#[derive(Drop)]
+enum Judged {
+    Refused(Answer),
+    Accepted(Create),
+}
+
+/// All that the service holds.
+#[derive(Drop)]
+pub struct Core {
+    rows: Vec<Invocation>,
+    last: Moment,
+}
+
+impl Model for Core {
+    ghost use Rattle.std.specs.Prelude.{◌-◌, vec_len, vec_capacity};
+    ghost use Rattle.service_core.specs.World.{World, IsValid};
+    ghost use Rattle.service_core.specs.CoreState.{CoreState};
+
+    ghost Value = { CoreState };
+
+    ghost view = { λ c. record {
+      world = record { invocations = c.rows.items; last = c.last.micros };
+      spare = vec_capacity c.rows - vec_len c.rows;
+    } };
+
+    ghost invariant = { λ c. IsValid (record { invocations = c.rows.items; last = c.last.micros }) };
+}
+
+impl Core {
+    /// The empty world.
+    pub fn new(alloc: Global) -> Result<Core, AllocError>
+        ensures { IfOk result (λ core. core.world ≡ empty_world) }
+    {
+        Ok(Core {
+            rows: Vec::new(alloc),
+            last: Moment { micros: 0 },
+        })
+    }
+
+    /// The invocations, in order of creation.
+    pub fn invocations(&self) -> &[Invocation]
+        ensures value { result.now ≡ self.now.world.invocations }
+        ensures valid { IsValid self.now.world }
+    {
+        self.rows.as_slice()
+    }
+
+    /// The moment of a call: what the clock says, in microseconds since 1970, brought into the years from 1970 to 9998, and no earlier
+    /// than the last change.
+    pub fn moment_of(&self, now: i64) -> Moment
+        ensures value { result.micros ≡ moment_of self.now.world.last now }
+        ensures in_range { IsCallMoment result.micros }
+        ensures later { self.now.world.last ≤ℤ result.micros }
+    {
+        Moment {
+            micros: within_years(now).max(self.last.micros),
+        }
+    }
+
+    // The first rule that a request breaks, or what it asks for.
+    fn judge(&self, alloc: Global, asked: &Asked) -> Result<Judged, AllocError>
+        ensures { IfOk result (IsJudged self.now.world asked.now) }
+    {
+        let Some(create) = read_create(alloc, asked.body.as_slice())? else {
+            return Ok(Judged::Refused(not_built(alloc)?));
+        };
+        if has_id(self.rows.as_slice(), &create.id) {
+            return Ok(Judged::Refused(taken(alloc, &create.id)?));
+        }
+        Ok(Judged::Accepted(create))
+    }
+
+    // The plan of a new invocation, with room for its row.
+    fn plan(&mut self, alloc: Global, moment: Moment, create: Create) -> Result<Plan, AllocError>
+        requires { IsCallMoment moment.micros }
+        ensures world { self.new.world ≡ self.old.world }
+        ensures spare { self.old.spare ≤ self.new.spare }
+        ensures room { OnOk result (0 < self.new.spare) }
+        ensures plan { IfOk result (λ plan. plan ≡ plan_of moment.micros create.id create.realm) }
+    {
+        self.rows.reserve(1)?;
+        let row = Invocation::new(moment, create.id, create.realm);
+        let answer = invocation_answer(alloc, &row)?;
+        Ok(Plan { row, answer })
+    }
+
+    /// What a request comes to at this moment. It takes all the memory that the change needs, and changes nothing yet.
+    /// `Err` where there is no memory.
+    pub fn prepare(
+        &mut self,
+        alloc: Global,
+        moment: Moment,
+        asked: &Asked,
+    ) -> Result<Prepared, AllocError>
+        requires in_range { IsCallMoment moment.micros }
+        requires later { self.old.world.last ≤ℤ moment.micros }
+        ensures world { self.new.world ≡ self.old.world }
+        ensures spare { self.old.spare ≤ self.new.spare }
+        ensures prepared { IfOk result (IsPrepared self.new moment.micros asked.now) }
+    {
+        match self.judge(alloc, asked)? {
+            Judged::Refused(answer) => Ok(Prepared::Refused(answer)),
+            Judged::Accepted(create) => Ok(Prepared::Change(self.plan(alloc, moment, create)?)),
+        }
+    }
+
+    /// Makes a change that was prepared, and gives its answer. It takes no memory.
+    pub fn commit(&mut self, plan: Plan) -> Option<Answer>
+        requires { CanCommit self.old plan }
+        ensures world { self.new.world ≡ with_row self.old.world plan.row }
+        ensures spare { self.new.spare + 1 ≡ self.old.spare }
+        ensures answer { result ≡ Some plan.answer }
+    {
+        let Plan { row, answer } = plan;
+        self.last = row.created;
+        self.rows.push_reserved(row);
+        Some(answer)
+    }
+
+    // Makes a change, and tells its answer.
+    fn carry_out(&mut self, plan: Plan) -> Told
+        requires { CanCommit self.old plan }
+        ensures world { self.new.world ≡ with_row self.old.world plan.row }
+        ensures told { result ≡ Told.Made plan.answer }
+    {
+        match self.commit(plan) {
+            Some(answer) => Told::Made(answer),
+            None => Told::Standin(Standin::Memory),
+        }
+    }
+
+    /// Serves a request at the moment that this answer of the clock makes, in microseconds since 1970. Where there is no memory,
+    /// the stand-in for it is told, and nothing is changed.
+    pub fn serve(&mut self, alloc: Global, now: i64, asked: &Asked) -> Told
+        ensures { Serves self.old.world now asked.now result self.new.world }
+    {
+        let moment = self.moment_of(now);
+        match self.prepare(alloc, moment, asked) {
+            Ok(Prepared::Refused(answer)) => Told::Made(answer),
+            Ok(Prepared::Change(plan)) => self.carry_out(plan),
+            Err(_) => Told::Standin(Standin::Memory),
+        }
+    }
+}
+
+// Whether one of the rows has this id.
+fn has_id(rows: &[Invocation], id: &InvocationId) -> bool
+    ensures { IsTrue result ↔ Contains (map (λ row. row.id) rows.now) id.now }
+{
+    for row in rows {
+        if row.id.same_as(id) {
+            return true;
+        }
+    }
+    false
+}
+
+// The clock's answer, brought into the years from 1970 to 9998.
+fn within_years(now: i64) -> i64
+    ensures value { result ≡ int_max (pos 0) (int_min now greatest_moment) }
+    ensures in_range { IsCallMoment result }
+{
+    now.min(GREATEST_MOMENT).max(0)
+}
