@@ -1,5 +1,5 @@
 -- Counts of what failed, and the answers that they license.
-use Rattle.std.specs.Prelude.{◌≡◌, ℕ, zero, suc, ◌+◌, ◌-◌, ◌^◌, ◌<◌, ◌≤◌, min, length, List, [], ◌∷◌, Result, Ok, Err, OnErr}
+use Rattle.std.specs.Prelude.{◌≡◌, ℕ, zero, suc, ◌+◌, ◌-◌, ◌^◌, ◌≤◌, min, List, [], ◌∷◌, Result, Ok, Err, OnErr}
 
 -- The count rose by one at least, or stands at the greatest u64, where a count stays.
 abbrev pub Rose : ℕ → ℕ → Type 0

@@ -1,2 +1,4 @@
 pub mod Causes
 pub mod Bytes
+pub mod Whole
+pub mod Calls

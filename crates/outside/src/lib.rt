@@ -4,14 +4,21 @@
 #![tactic(auto)]
 
 mod clock;
+mod counts;
 mod link;
+mod memory;
+mod pair;
 mod sink;
 mod source;
+mod whole;
 
 pub use clock::Clock;
+pub use counts::counts_add_up;
 pub use link::Link;
+pub use pair::PairLink;
 pub use sink::Sink;
 pub use source::Source;
+pub use whole::{WriteEnd, put_whole, write_whole};
 
 /// A call on the outside failed. The object that answers it counts it in its `faults`.
 #[derive(Clone, Copy, Debug)]

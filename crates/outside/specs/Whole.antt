@@ -1,0 +1,30 @@
+-- What a write of a whole piece did.
+use Rattle.std.specs.Prelude.{◌≡◌, ℕ, ◌≤◌, List, ◌++◌, Option, Result, Ok, Err}
+use Rattle.outside.specs.Causes.{Rose}
+use Rattle.outside.specs.Bytes.{Took}
+use Rattle.outside.specs.declared.whole.WriteEnd.{WriteEnd}
+use Rattle.outside.specs.declared.whole.WriteEnd.TheVariants.{WriteFault, SinkTakesNothing}
+
+-- Behind the bytes that were written, a front of these was taken.
+pub record TookFront (before : Option (List ℕ)) (bytes : List ℕ) (now : Option (List ℕ)) : Type 0 where
+  pub front : List ℕ
+  pub rest : List ℕ
+  pub parts : bytes ≡ front ++ rest
+  pub took : Took before front now
+
+-- All bytes were taken, or after an error a front of them.
+abbrev pub IsWritten : {T E : Type 0} → Option (List ℕ) → List ℕ → Result T E → Option (List ℕ) → Type 0
+IsWritten before bytes (Ok done) now = Took before bytes now
+IsWritten before bytes (Err e) now = TookFront before bytes now
+
+-- The count of faults never falls, and a write fault raised it.
+abbrev pub CountsFault : {T : Type 0} → ℕ → Result T WriteEnd → ℕ → Type 0
+CountsFault before (Ok done) now = before ≤ now
+CountsFault before (Err WriteFault) now = (before ≤ now) × Rose before now
+CountsFault before (Err SinkTakesNothing) now = before ≤ now
+
+-- The count of stalls rose where the sink took nothing, and nowhere else.
+abbrev pub CountsEnd : {T : Type 0} → ℕ → Result T WriteEnd → ℕ → Type 0
+CountsEnd before (Ok done) now = now ≡ before
+CountsEnd before (Err WriteFault) now = now ≡ before
+CountsEnd before (Err SinkTakesNothing) now = (before ≤ now) × Rose before now

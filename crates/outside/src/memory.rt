@@ -1,0 +1,3 @@
+//! Ends in memory, for tests.
+
+pub(crate) mod schedule;
