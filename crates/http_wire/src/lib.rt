@@ -5,7 +5,10 @@
 #![tactic(auto)]
 
 mod message;
+mod out;
+mod reply_head;
 mod wire;
 
 pub use message::{End, Message, WireFault};
+pub use out::{write_farewell, write_response, write_standin};
 pub use wire::Wire;

@@ -14,7 +14,7 @@ use outside::Link;
 #[derive(Drop)]
 pub struct Wire {
     buffer: Vec<u8>,
-    open: bool,
+    is_open: bool,
 }
 
 impl Model for Wire {
@@ -22,7 +22,7 @@ impl Model for Wire {
 
     ghost Value = { WireState };
 
-    ghost view = { λ w. record { held = w.buffer.items; is_open = w.open } };
+    ghost view = { λ w. record { held = w.buffer.items; is_open = w.is_open } };
 }
 
 impl Wire {
@@ -32,7 +32,7 @@ impl Wire {
         ensures is_open { IfOk result (λ w. w.is_open ≡ true) }
     {
         let buffer = Vec::with_capacity(alloc, 16384)?;
-        Ok(Wire { buffer, open: true })
+        Ok(Wire { buffer, is_open: true })
     }
 
     /// The next message, or `None` where the input ended behind the last one.
@@ -45,7 +45,7 @@ impl Wire {
         ensures closed_wire { self.old.is_open ≡ false → self.new ≡ self.old }
         ensures closed_link { self.old.is_open ≡ false → link.new ≡ link.old }
 
-        ensures open { self.old.is_open ≡ true → Reading self.old (L.left link.old) result (L.left link.new) self.new }
+        ensures reading { self.old.is_open ≡ true → Reading self.old (L.left link.old) result (L.left link.new) self.new }
         ensures faults { CountsRead (L.read_faults link.old) result (L.read_faults link.new) }
 
         // The other direction isn't touched.
@@ -54,10 +54,10 @@ impl Wire {
         ensures written { L.written link.new ≡ L.written link.old }
         ensures holds { L.holds link.new ≡ L.holds link.old }
     {
-        if !self.open {
+        if !self.is_open {
             return Ok(None);
         }
-        self.open = false;
+        self.is_open = false;
         Err(WireFault::Memory)
     }
 }
