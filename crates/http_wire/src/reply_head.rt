@@ -35,6 +35,16 @@ fn put(head: &mut Head, bytes: &[u8])
     let _ = head.try_extend_from_slice(bytes);
 }
 
+fn put_line(head: &mut Head, name: &[u8], value: &[u8])
+    requires { length head.old.items + length name.now + length value.now + 2 ≤ ROOM }
+    ensures items { head.new.items ≡ head.old.items ++ line (name.now ++ value.now) }
+    ensures len { length head.new.items ≡ length head.old.items + length name.now + length value.now + 2 }
+{
+    put(head, name);
+    put(head, value);
+    put(head, b"\r\n");
+}
+
 fn put_status_line(head: &mut Head, status: u16)
     requires { length head.old.items + 60 ≤ ROOM }
     ensures items { head.new.items ≡ head.old.items ++ line (codes "HTTP/1.1 " ++ (decimal status ++ (codes " " ++ unwrap_or (reason_phrase status) []))) }
@@ -62,10 +72,17 @@ fn put_type_line(head: &mut Head, status: u16)
     ensures items { head.new.items ≡ head.old.items ++ line (codes "Content-Type: " ++ content_type status) }
     ensures len { length head.new.items ≤ length head.old.items + 41 }
 {
+    put_line(head, b"Content-Type: ", type_text(status).as_bytes());
+}
+
+fn type_text(status: u16) -> &'static str
+    ensures text { result.now ≡ content_type status }
+    ensures short { length result.now ≤ 25 }
+{
     if status == 200 {
-        put(head, b"Content-Type: application/json\r\n");
+        "application/json"
     } else {
-        put(head, b"Content-Type: text/plain; charset=utf-8\r\n");
+        "text/plain; charset=utf-8"
     }
 }
 
@@ -74,9 +91,7 @@ fn put_code_line(head: &mut Head, code: u8)
     ensures items { head.new.items ≡ head.old.items ++ line (codes "X-Prpc-Grpc-Code: " ++ decimal code) }
     ensures len { length head.new.items ≤ length head.old.items + 23 }
 {
-    put(head, b"X-Prpc-Grpc-Code: ");
-    put(head, Buffer::new().format(code).as_bytes());
-    put(head, b"\r\n");
+    put_line(head, b"X-Prpc-Grpc-Code: ", Buffer::new().format(code).as_bytes());
 }
 
 fn put_token_line(head: &mut Head, token: &Option<[u8; 64]>)
@@ -85,10 +100,15 @@ fn put_token_line(head: &mut Head, token: &Option<[u8; 64]>)
     ensures len { length head.new.items ≤ length head.old.items + 80 }
 {
     if let Some(token) = token {
-        put(head, b"Update-Token: ");
-        put(head, token.as_slice());
-        put(head, b"\r\n");
+        put_line(head, b"Update-Token: ", token_bytes(token));
     }
+}
+
+fn token_bytes(token: &[u8; 64]) -> &[u8]
+    ensures value { result.now ≡ token.now }
+    ensures len { length result.now ≡ 64 }
+{
+    token.as_slice()
 }
 
 fn put_close_line(head: &mut Head, close: bool)
@@ -106,7 +126,5 @@ fn put_length_line(head: &mut Head, len: usize)
     ensures items { head.new.items ≡ head.old.items ++ line (codes "Content-Length: " ++ decimal len) }
     ensures len { length head.new.items ≤ length head.old.items + 38 }
 {
-    put(head, b"Content-Length: ");
-    put(head, Buffer::new().format(len).as_bytes());
-    put(head, b"\r\n");
+    put_line(head, b"Content-Length: ", Buffer::new().format(len).as_bytes());
 }
