@@ -1,2 +1,4 @@
 pub mod ReplyLaws
 pub mod ScanLaws
+pub mod RequestLaws
+pub mod StreamLaws
