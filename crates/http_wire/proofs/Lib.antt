@@ -2,3 +2,4 @@ pub mod ReplyLaws
 pub mod ScanLaws
 pub mod RequestLaws
 pub mod StreamLaws
+pub mod DigitLaws

@@ -40,9 +40,9 @@ same_requests h g r q e x y = request_unique (print_request h ++ r) h g r q (x, 
 
 one_length : (h : RequestHead) (m n : ℕ) → IsForm h m → IsForm h n → m ≡ n
 one_length h m n x y =
-    let lists : ◌≡◌ {A = List (List ℕ)} (x.text ∷ []) (y.text ∷ []) = sym x.one_length ∙ y.one_length in
-    let texts : x.text ≡ y.text = cc in
-    x.is_length.number ∙ ap (λ t. digits_value 10 t) texts ∙ sym y.is_length.number
+    let lists : ◌≡◌ {A = List (List ℕ)} (x.fields.text ∷ []) (y.fields.text ∷ []) = sym x.fields.one_length ∙ y.fields.one_length in
+    let texts : x.fields.text ≡ y.fields.text = cc in
+    x.fields.is_length.number ∙ ap (λ t. digits_value 10 t) texts ∙ sym y.fields.is_length.number
 
 -- two announcements at the front of the same bytes
 pub same_announced : (h g : RequestHead) (m n : ℕ) (r q : List ℕ) → print_request h ++ r ≡ print_request g ++ q → Announces h m → Announces g n

@@ -14,10 +14,6 @@ value_if name field = if str_eq_ignore_ascii_case field.0 name then field.1 ∷ 
 abbrev pub values_of : List ℕ → List (List ℕ × List ℕ) → List (List ℕ)
 values_of name fields = flat_map (value_if name) fields
 
--- the values that a head has under a name
-abbrev pub header_values : List ℕ → RequestHead → List (List ℕ)
-header_values name h = values_of name (map name_and_value h.fields)
-
 -- the text is 1 to 10 digits, and writes this number
 pub record IsLength (text : List ℕ) (len : ℕ) : Type 0 where
   pub some : 0 < length text
@@ -32,16 +28,19 @@ route_text = codes "/prpc/luci.resultdb.v1.Recorder/CreateInvocation"
 abbrev pub body_limit : ℕ
 body_limit = 4194304
 
--- A POST of HTTP/1.1 to the one route, with at most 64 header lines. Among them is one Content-Length, which is this
--- length, and neither Transfer-Encoding nor Connection.
+-- Among the fields is one Content-Length, which is this length, and neither Transfer-Encoding nor Connection.
+pub record AnnounceLength (fields : List (List ℕ × List ℕ)) (len : ℕ) : Type 0 where
+  pub text : List ℕ
+  pub one_length : values_of (codes "content-length") fields ≡ text ∷ []
+  pub is_length : IsLength text len
+  pub in_limit : len ≤ body_limit
+  pub no_coding : values_of (codes "transfer-encoding") fields ≡ []
+  pub no_connection : values_of (codes "connection") fields ≡ []
+
+-- a POST of HTTP/1.1 to the one route, with at most 64 header lines, which announce a body of this length
 pub record IsForm (h : RequestHead) (len : ℕ) : Type 0 where
   pub method : h.method ≡ codes "POST"
   pub target : h.target ≡ route_text
   pub version : h.minor ≡ 1
   pub lines : length h.fields ≤ 64
-  pub text : List ℕ
-  pub one_length : header_values (codes "content-length") h ≡ text ∷ []
-  pub is_length : IsLength text len
-  pub in_limit : len ≤ body_limit
-  pub no_coding : header_values (codes "transfer-encoding") h ≡ []
-  pub no_connection : header_values (codes "connection") h ≡ []
+  pub fields : AnnounceLength (map name_and_value h.fields) len

@@ -4,6 +4,7 @@
 //! read: a POST to one route with a Content-Length.
 #![tactic(auto)]
 
+mod fields;
 mod head_scan;
 mod message;
 mod out;
