@@ -5,19 +5,12 @@ use Rattle.std.specs.Str.Parse.{AllDigits, digits_value}
 use Rattle.std.proofs.lemmas.Int.Digits.{digits_value-lt, digits_value_more}
 use Rattle.std.proofs.lemmas.Str.{digit_value_digit}
 use Rattle.std.proofs.lemmas.Str.Parse.{digit_from_value, digits_value-take-le}
-use native.Mathlib.Numerals.{unary_clauses}
+use Rattle.std.proofs.Math.Nat.{pow-le-pow_right}
 
 digit_at : (bs : List ℕ) (i : ℕ) → AllDigits 10 bs → i < length bs → digit_value (get_or bs i 0) < 10
 digit_at [] i all h = absurd (omega arith)
 digit_at (b ∷ bs) zero all h = all.0
 digit_at (b ∷ bs) (suc i) all h = digit_at bs i all.1 (omega arith)
-
-few_tens : (n d : ℕ) → 10 ^ n ≤ 10 ^ (n + d)
-few_tens n zero = let e : n ≡ n + 0 = omega arith in subst (λ m. 10 ^ n ≤ 10 ^ m) e (omega arith)
-few_tens n (suc d) =
-    let e : suc (n + d) ≡ n + suc d = omega arith in
-    let less = few_tens n d in
-    subst (λ m. 10 ^ n ≤ 10 ^ m) e (simp unary_clauses (omega (arith, less)))
 
 -- one digit more: what it is, what the number is then, and that it stays small
 pub digit_step : (bs : List ℕ) (i number : ℕ) → AllDigits 10 bs → length bs ≤ 10 → i < length bs → number ≡ digits_value 10 (take i bs)
@@ -32,7 +25,6 @@ digit_step bs i number all few h is =
         ap (λ d. number * 10 + d) digit ∙ ap (λ n. n * 10 + digit_value b) is ∙ sym (digits_value_more 10 bs i h) in
     let whole = digits_value-take-le 10 bs (i + 1) (omega arith) in
     let small = digits_value-lt 10 bs all in
-    let tens = few_tens (length bs) (10 - length bs) in
-    let top : length bs + (10 - length bs) ≡ 10 = omega arith in
-    let tens_ten : 10 ^ length bs ≤ 10 ^ 10 = subst (λ m. 10 ^ length bs ≤ 10 ^ m) top tens in
-    (low, next, omega (arith, next, whole, small, tens_ten))
+    let some : 0 < 10 = omega arith in
+    let tens : 10 ^ length bs ≤ 10 ^ 10 = pow-le-pow_right some few in
+    (low, next, omega (arith, next, whole, small, tens))

@@ -3,3 +3,4 @@ pub mod ScanLaws
 pub mod RequestLaws
 pub mod StreamLaws
 pub mod DigitLaws
+pub mod AnnouncedLaws

@@ -1,13 +1,14 @@
 -- A head of the grammar is the text of a head, with a line for each field.
-use Rattle.std.proofs.Common.{inl, inr, ◌≡◌, ◌≢◌, ℕ, suc, ◌+◌, ◌<◌, ◌≤◌, Bool, true, false, List, [], ◌∷◌, ◌++◌, length, map, refl, sym, ap, ◌∙◌, subst, arith, append_assoc, append-nil}
+use Rattle.std.proofs.Common.{inl, inr, Some, ◌≡◌, ◌≢◌, ℕ, suc, ◌+◌, ◌<◌, ◌≤◌, Bool, true, false, List, [], ◌∷◌, ◌++◌, length, map, refl, sym, ap, ◌∙◌, subst, arith, append_assoc, append-nil}
 use Rattle.std.proofs.lemmas.List.{length-map}
 use Rattle.std.proofs.lemmas.List.Elements.{recursion_from_All}
 use Rattle.std.specs.List.{flat_map, AllByRecursion}
 use Rattle.std.specs.Prelude.{IsTrue, All}
-use Rattle.httparse.specs.Grammar.{LineEnd, crlf, lf, print_end, print_blank, print_version, Field, print_field, IsField, print_section, RequestHead, print_request, IsRequestHead, IsToken, AllPass, is_token_byte, is_uri_byte, is_value_byte}
+use Rattle.httparse.specs.Grammar.{LineEnd, crlf, lf, print_end, print_blank, print_version, Field, print_field, IsField, print_section, RequestHead, print_request, IsRequestHead, ReadsRequest, IsToken, AllPass, is_token_byte, is_uri_byte, is_value_byte}
 use Rattle.httparse.proofs.GrammarLemmas.{print_request-append, cons-append}
 use Rattle.http_wire.specs.Head.{line_bytes, lines_bytes, IsEmptyText, IsFilledText, IsHeadText}
-use Rattle.http_wire.proofs.ScanLaws.{filled_one}
+use Rattle.http_wire.proofs.ScanLaws.{filled_one, end_of_head}
+use Rattle.http_wire.specs.Scan.{head_end}
 
 abbrev NoFeed : List ℕ → Type 0
 NoFeed text = AllByRecursion (λ b. b ≢ 10) text
@@ -156,3 +157,7 @@ request_is_head h is = record {
   last_empty = end_empty h.last;
   counted = sym (length-map h.fields field_text);
 }
+
+-- Where a head of the grammar stands in front, it is where the search ends.
+pub request_ends : (buf : List ℕ) (h : RequestHead) (rest : List ℕ) → ReadsRequest buf h rest → head_end buf ≡ Some (length (print_request h), length h.fields)
+request_ends buf h rest x = ap head_end x.1 ∙ end_of_head (print_request h) rest (length h.fields) (request_is_head h x.0)

@@ -9,6 +9,7 @@ mod head_scan;
 mod message;
 mod out;
 mod reply_head;
+mod request;
 mod wire;
 
 pub use message::{End, Message, WireFault};
