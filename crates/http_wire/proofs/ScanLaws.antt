@@ -1,7 +1,6 @@
 -- The search finds the ends of heads: it ends where a head's text does, and nowhere else.
-use Rattle.std.proofs.Common.{◌≡◌, ◌≢◌, ℕ, suc, ◌+◌, ◌<◌, ◌≤◌, ◌⊎◌, inl, inr, Bool, true, false, cond, List, [], ◌∷◌, ◌++◌, length, take, drop, get_or, Option, Some, None, refl, sym, ap, ◌∙◌, subst, arith, append_assoc, append-nil, length-append, add_assoc, add-one, nat_eq}
-use Rattle.std.proofs.Math.Seq.{drop-cons}
-use Rattle.std.proofs.lemmas.List.{drop_all, take_at}
+use Rattle.std.proofs.Common.{◌≡◌, ◌≢◌, ℕ, suc, ◌+◌, ◌<◌, ◌≤◌, ◌⊎◌, inl, inr, Bool, true, false, cond, List, [], ◌∷◌, ◌++◌, length, take, drop, get_or, Option, Some, None, refl, sym, ap, ◌∙◌, subst, arith, append_assoc, append-nil, length-append, add_assoc, nat_eq}
+use Rattle.std.proofs.lemmas.List.{take_more}
 use Rattle.std.proofs.lemmas.Bool.{ne_eqb, eqb-true, eqb-false}
 use Rattle.std.specs.List.{flat_map, AllByRecursion}
 use Rattle.http_wire.specs.Head.{line_bytes, lines_bytes, IsEmptyText, IsFilledText, IsHeadText}
@@ -11,11 +10,18 @@ use Rattle.http_wire.specs.declared.head_scan.Place.TheVariants.{Before, BeforeC
 use Rattle.http_wire.specs.declared.head_scan.Step.{Step}
 use Rattle.http_wire.specs.declared.head_scan.Step.TheVariants.{To, EndsLine, EndsHead}
 
--- one byte of a piece that something follows
-pub scan-drop : (p : Place) (n k : ℕ) (piece : List ℕ) (i : ℕ) (rest : List ℕ) → i < length piece
-    → scan p n k (drop i piece ++ rest) ≡ after_step (step_of p (get_or piece i 0)) n k (λ q m j. scan q m j (drop (i + 1) piece ++ rest))
+-- one byte more in front of the rest
+pub scan_next : (p : Place) (n k : ℕ) (bytes : List ℕ) (i : ℕ) (rest : List ℕ) → i < length bytes
+    → ((rest : List ℕ) → head_end (take i bytes ++ rest) ≡ scan p n k rest)
+    → head_end (take (i + 1) bytes ++ rest) ≡ after_step (step_of p (get_or bytes i 0)) n k (λ q m j. scan q m j rest)
 unfolding scan
-scan-drop p n k piece i rest h = rw (add-one, drop-cons piece i 0 h)
+scan_next p n k bytes i rest h passed =
+    ap head_end (ap (λ x. x ++ rest) (take_more bytes i 0 h) ∙ append_assoc (take i bytes) (get_or bytes i 0 ∷ []) rest)
+    ∙ passed (get_or bytes i 0 ∷ rest)
+
+pub scan_nothing : (p : Place) (n k : ℕ) → scan p n k [] ≡ None
+unfolding scan
+scan_nothing p n k = refl
 
 -- ---- from a search's end to a head
 

@@ -5,8 +5,8 @@ use Rattle.http_wire.specs.declared.head_scan.Place.TheVariants.{Before, BeforeC
 use Rattle.http_wire.specs.declared.head_scan.Step.{Step}
 use Rattle.http_wire.specs.declared.head_scan.Step.TheVariants.{To, EndsLine, EndsHead}
 use Rattle.http_wire.specs.declared.head_scan.Progress.{Progress}
-use Rattle.http_wire.specs.declared.head_scan.Scanned.{Scanned}
-use Rattle.http_wire.specs.declared.head_scan.Scanned.TheVariants.{Ends, Goes}
+use Rattle.http_wire.specs.declared.head_scan.Search.{Search}
+use Rattle.http_wire.specs.declared.head_scan.Search.TheVariants.{Found, Goes}
 
 -- what a byte does at a place of the head
 abbrev pub step_of : Place → ℕ → Step
@@ -31,11 +31,13 @@ scan p n k (b ∷ bs) = after_step (step_of p b) n k (λ q m j. scan q m j bs)
 abbrev pub head_end : List ℕ → Option (ℕ × ℕ)
 head_end bytes = scan Before 0 0 bytes
 
--- What a search over a piece found, whatever follows the piece.
-abbrev pub IsScan : Progress → List ℕ → Scanned → Type 0
-IsScan start piece (Ends at lines) =
-    (at ≤ length piece) × (lines ≤ start.lines + length piece)
-    × ((n : ℕ) (rest : List ℕ) → scan start.place n start.lines (piece ++ rest) ≡ Some (n + at, lines))
-IsScan start piece (Goes next) =
-    (next.lines ≤ start.lines + length piece)
-    × ((n : ℕ) (rest : List ℕ) → scan start.place n start.lines (piece ++ rest) ≡ scan next.place (n + length piece) next.lines rest)
+-- A search has passed these bytes, and goes on from there whatever follows them.
+pub record Passed (bytes : List ℕ) (p : Progress) : Type 0 where
+  pub scanned : p.scanned ≡ length bytes
+  pub few : p.lines ≤ p.scanned
+  pub goes : (rest : List ℕ) → head_end (bytes ++ rest) ≡ scan p.place p.scanned p.lines rest
+
+-- what a search over all of the bytes says
+abbrev pub IsSearch : List ℕ → Search → Type 0
+IsSearch bytes (Found end) = head_end bytes ≡ Some (end.len, end.lines)
+IsSearch bytes (Goes p) = Passed bytes p

@@ -1,6 +1,6 @@
 // Where a head ends, byte by byte.
-ghost use Rattle.std.specs.Prelude.{◌≡◌, ◌+◌, ◌≤◌, length};
-ghost use Rattle.http_wire.specs.Scan.{step_of, IsScan};
+ghost use Rattle.std.specs.Prelude.{◌≡◌, ◌≤◌, [], length, take};
+ghost use Rattle.http_wire.specs.Scan.{step_of, Passed, IsSearch};
 
 /// Where the next byte stands.
 #[derive(Clone, Copy)]
@@ -30,16 +30,26 @@ pub enum Step {
 /// How far a search has come.
 #[derive(Clone, Copy)]
 pub struct Progress {
+    /// How many bytes it has passed.
+    pub scanned: usize,
     pub place: Place,
     /// How many header lines have ended.
     pub lines: usize,
 }
 
-/// What a piece of the input says of the head's end.
+/// Where a head ends.
 #[derive(Clone, Copy)]
-pub enum Scanned {
-    /// The head ends so many bytes into the piece, and has so many header lines.
-    Ends { at: usize, lines: usize },
+pub struct HeadEnd {
+    /// How many bytes the head has.
+    pub len: usize,
+    /// How many header lines it has.
+    pub lines: usize,
+}
+
+/// What a search says of the bytes that are there.
+#[derive(Clone, Copy)]
+pub enum Search {
+    Found(HeadEnd),
     Goes(Progress),
 }
 
@@ -76,22 +86,38 @@ fn next_step(place: Place, byte: u8) -> Step
     }
 }
 
-/// Goes on with a search over the next piece of the input.
-pub fn scan_piece(start: Progress, piece: &[u8]) -> Scanned
-    requires { start.lines + length piece.now ≤ usize.MAX }
-    ensures { IsScan start piece.now result }
+/// A search that has passed nothing.
+pub fn begin() -> Progress
+    ensures { Passed [] result }
 {
-    let mut place = start.place;
-    let mut lines = start.lines;
-    for i in 0..piece.len() {
-        match next_step(place, piece[i]) {
+    Progress {
+        scanned: 0,
+        place: Place::Before,
+        lines: 0,
+    }
+}
+
+/// Goes on with a search to the end of the bytes.
+pub fn search_on(bytes: &[u8], from: Progress) -> Search
+    requires within { from.scanned ≤ length bytes.now }
+    requires passed { Passed (take from.scanned bytes.now) from }
+    ensures { IsSearch bytes.now result }
+{
+    let mut place = from.place;
+    let mut lines = from.lines;
+    for i in from.scanned..bytes.len() {
+        match next_step(place, bytes[i]) {
             Step::To(next) => place = next,
             Step::EndsLine => {
                 place = Place::LineStart;
                 lines += 1;
             }
-            Step::EndsHead => return Scanned::Ends { at: i + 1, lines },
+            Step::EndsHead => return Search::Found(HeadEnd { len: i + 1, lines }),
         }
     }
-    Scanned::Goes(Progress { place, lines })
+    Search::Goes(Progress {
+        scanned: bytes.len(),
+        place,
+        lines,
+    })
 }
