@@ -1,13 +1,17 @@
-// A library with one function.
+//! HTTP/1.1 on a connection: requests in, replies out.
+//!
+//! `Wire` reads one message after the other from a link, in whatever pieces the bytes come. Messages of one form are
+//! read: a POST to one route with a Content-Length.
 #![tactic(auto)]
 
-ghost use Rattle.std.specs.Prelude.{◌≡◌};
-ghost use Rattle.http_wire.specs.Echo.{echo_of};
+mod fields;
+mod head_scan;
+mod message;
+mod out;
+mod reply_head;
+mod request;
+mod wire;
 
-// The `ensures` clause is the contract: what `echo` returns is `echo_of` of its argument, a definition
-// in `specs/Echo.antt`, which a caller's clause can cite too.
-pub fn echo(x: usize) -> usize
-    ensures { result ≡ echo_of x }
-{
-    x
-}
+pub use message::{End, Message, WireFault};
+pub use out::{write_farewell, write_response, write_standin};
+pub use wire::Wire;

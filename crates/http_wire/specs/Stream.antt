@@ -1,0 +1,91 @@
+-- A stream as messages one after the other, and what follows them.
+use Rattle.std.specs.Prelude.{◌≡◌, ◌≢◌, ℕ, ◌<◌, ◌≤◌, ◌⊎◌, false, List, [], ◌∷◌, ◌++◌, length, codes, None}
+use Rattle.httparse.specs.Grammar.{RequestHead, IsRequestHead, print_request}
+use Rattle.http_wire.specs.Head.{IsHeadText, HasNoHead, head_limit}
+use Rattle.http_wire.specs.Form.{IsForm, route_text}
+use Rattle.service_core.specs.declared.asked.Asked.{Asked}
+use Rattle.http_wire.specs.declared.message.Message.{Message}
+use Rattle.http_wire.specs.declared.message.End.{End}
+use Rattle.http_wire.specs.declared.message.End.TheVariants.{Finished, CutShort, Unread}
+
+-- the message with this body
+abbrev pub message_of : List ℕ → Message
+message_of body = record {
+  asked = record {
+    bearer = None;
+    update_token = None;
+    service = codes "luci.resultdb.v1.Recorder";
+    method = codes "CreateInvocation";
+    body = body;
+  };
+  target = route_text;
+  close = false;
+}
+
+-- a head within the limit that announces a body of this length
+pub record Announces (h : RequestHead) (len : ℕ) : Type 0 where
+  pub head : IsRequestHead h
+  pub form : IsForm h len
+  pub short : length (print_request h) ≤ head_limit
+
+-- the bytes are one message: a head, and so many bytes of body as it announces
+pub record IsMessage (bytes : List ℕ) (m : Message) : Type 0 where
+  pub h : RequestHead
+  pub body : List ℕ
+  pub announced : Announces h (length body)
+  pub parts : bytes ≡ print_request h ++ body
+  pub means : m ≡ message_of body
+
+-- a whole head of the form, and less of a body than it announces
+pub record LacksBody (bytes : List ℕ) : Type 0 where
+  pub h : RequestHead
+  pub len : ℕ
+  pub body : List ℕ
+  pub announced : Announces h len
+  pub parts : bytes ≡ print_request h ++ body
+  pub less : length body < len
+
+-- The bytes end inside a message: inside its head, which may still end within the limit, or inside its body.
+pub record IsCutShort (bytes : List ℕ) (have : ℕ) : Type 0 where
+  pub some : bytes ≢ []
+  pub count : have ≡ length bytes
+  pub inside : ((length bytes < head_limit) × HasNoHead bytes) ⊎ LacksBody bytes
+
+-- a whole head within the limit that isn't of the form
+pub record IsOtherHead (bytes : List ℕ) : Type 0 where
+  pub text : List ℕ
+  pub rest : List ℕ
+  pub count : ℕ
+  pub parts : bytes ≡ text ++ rest
+  pub head : IsHeadText text count
+  pub short : length text ≤ head_limit
+  pub other : (h : RequestHead) (len : ℕ) → Announces h len → ¬ (text ≡ print_request h)
+
+-- so many bytes as a head may have, and no head within them
+pub record IsEndless (bytes : List ℕ) : Type 0 where
+  pub long : head_limit ≤ length bytes
+  pub no_head : (text rest : List ℕ) (count : ℕ) → bytes ≡ text ++ rest → length text ≤ head_limit → ¬ (IsHeadText text count)
+
+-- What comes first isn't a message of the form, however the bytes go on.
+abbrev pub IsUnread : List ℕ → Type 0
+IsUnread bytes = IsOtherHead bytes ⊎ IsEndless bytes
+
+-- no front of the bytes is a message
+abbrev pub HasNoMessage : List ℕ → Type 0
+HasNoMessage bytes = (front rest : List ℕ) (m : Message) → bytes ≡ front ++ rest → ¬ (IsMessage front m)
+
+-- what stands behind the last message
+abbrev pub Ends : List ℕ → End → Type 0
+Ends bytes Finished = bytes ≡ []
+Ends bytes (CutShort have) = IsCutShort bytes have
+Ends bytes Unread = IsUnread bytes
+
+-- the bytes are these messages one after the other, and then this end
+abbrev pub Framed : List ℕ → List Message → End → Type 0
+Framed bytes [] end = Ends bytes end
+Framed bytes (m ∷ ms) end = (front : List ℕ) × (rest : List ℕ) × IsMessage front m × (bytes ≡ front ++ rest) × Framed rest ms end
+
+-- the bytes are these messages one after the other, and nothing else
+abbrev pub Spells : List Message → List ℕ → Type 0
+Spells [] bytes = bytes ≡ []
+Spells (m ∷ ms) bytes = (front : List ℕ) × (rest : List ℕ) × IsMessage front m × (bytes ≡ front ++ rest) × Spells ms rest
