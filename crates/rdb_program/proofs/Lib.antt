@@ -1,0 +1,6 @@
+pub mod LineLaws
+pub mod ByteLaws
+pub mod HistoryLaws
+pub mod Serving
+pub mod FramingLaws
+pub mod RunLaws

@@ -1,0 +1,9 @@
+pub mod Words
+pub mod Endings
+pub mod Ends
+pub mod Connection
+pub mod Framing
+pub mod Turn
+pub mod Closing
+pub mod Statuses
+pub mod Run

@@ -1,0 +1,112 @@
+// How a run ends: its exit status, and its line on standard error.
+ghost use Rattle.std.specs.Prelude.{◌≡◌};
+ghost use Rattle.rdb_program.specs.Endings.{status_of, line_of, cause_of};
+
+use http_wire::WireFault;
+use outside::WriteEnd;
+
+/// Why a connection ended.
+#[derive(Clone, Copy, Debug)]
+pub enum Cause {
+    /// The input was read to its end, and each message was answered.
+    End,
+    /// The input isn't messages to its end: `CutShort` or `Unread`.
+    Wire(WireFault),
+    /// A read failed.
+    ReadFault,
+    /// A write failed.
+    WriteFault,
+    /// The output took nothing.
+    SinkTakesNothing,
+    /// Memory was wanting to read a message.
+    Memory,
+}
+
+impl From<WriteEnd> for Cause {
+    ghost use Rattle.std.specs.Prelude.{◌≡◌};
+    ghost use Rattle.rdb_program.specs.Endings.{cause_of};
+
+    ghost from_gives = { λ end cause. cause ≡ cause_of end };
+
+    fn from(end: WriteEnd) -> Cause
+        ensures { result ≡ cause_of end }
+    {
+        match end {
+            WriteEnd::WriteFault => Cause::WriteFault,
+            WriteEnd::SinkTakesNothing => Cause::SinkTakesNothing,
+        }
+    }
+}
+
+/// How a run ended.
+#[derive(Clone, Copy, Debug)]
+pub enum Ending {
+    /// The words are outside the grammar.
+    WordsRefused,
+    /// Memory was wanting before anything was read.
+    Unstarted,
+    /// The connection was served, and ended by this cause.
+    Served(Cause),
+}
+
+impl Ending {
+    /// The exit status.
+    pub fn status(&self) -> u8
+        ensures { result ≡ status_of self.now }
+    {
+        match self {
+            Ending::WordsRefused => 1,
+            Ending::Unstarted => 7,
+            Ending::Served(cause) => cause.status(),
+        }
+    }
+
+    /// The line on standard error: none where the work is done.
+    pub fn line(&self) -> &'static str
+        ensures { result.now ≡ line_of self.now }
+    {
+        match self {
+            Ending::WordsRefused => "rdb: words refused\n",
+            Ending::Unstarted => "rdb: want of memory\n",
+            Ending::Served(cause) => cause.line(),
+        }
+    }
+}
+
+impl Cause {
+    fn status(&self) -> u8
+        ensures { result ≡ status_of (Ending.Served self.now) }
+    {
+        match self {
+            Cause::End => 0,
+            Cause::ReadFault | Cause::WriteFault => 4,
+            Cause::Memory => 7,
+            Cause::Wire(_) => 8,
+            Cause::SinkTakesNothing => 9,
+        }
+    }
+
+    fn line(&self) -> &'static str
+        ensures { result.now ≡ line_of (Ending.Served self.now) }
+    {
+        match self {
+            Cause::End => "",
+            Cause::ReadFault => "rdb: fault of input\n",
+            Cause::WriteFault => "rdb: fault of output\n",
+            Cause::Memory => "rdb: want of memory\n",
+            Cause::Wire(fault) => wire_line(fault),
+            Cause::SinkTakesNothing => "rdb: output takes nothing\n",
+        }
+    }
+}
+
+fn wire_line(fault: &WireFault) -> &'static str
+    ensures { result.now ≡ line_of (Ending.Served (Cause.Wire fault.now)) }
+{
+    match fault {
+        WireFault::CutShort { .. } => "rdb: wire 8 CutShort\n",
+        WireFault::ReadFault => "rdb: wire 9 ReadFault\n",
+        WireFault::Memory => "rdb: wire 10 Memory\n",
+        WireFault::Unread => "rdb: wire 11 Unread\n",
+    }
+}
