@@ -19,19 +19,25 @@ use Rattle.rdb_program.specs.declared.ending.Cause.TheVariants as causes
 front_of_front : (bytes more text rest : List ℕ) → bytes ++ more ≡ text ++ rest → length text ≤ length bytes → bytes ≡ text ++ drop (length text) bytes
 front_of_front bytes more text rest e short =
     let here : take (length text) bytes ≡ text =
-        sym (take-append-le (length text) bytes more short) ∙ ap (λ t. take (length text) t) e ∙ take_at text rest (length text) refl in
+    sym (take-append-le (length text) bytes more short) ∙ ap (λ t. take (length text) t) e ∙ take_at text rest (length text) refl in
     sym (take-append-drop (length text) bytes) ∙ ap (λ t. t ++ drop (length text) bytes) here
 
 -- What isn't read stays unread, however the stream goes on.
 pub unread_goes_on : (bytes more : List ℕ) → IsUnread bytes → IsUnread (bytes ++ more)
 unread_goes_on bytes more (inl o) = inl (record {
-    text = o.text; rest = o.rest ++ more; count = o.count;
-    parts = ap (λ t. t ++ more) o.parts ∙ append_assoc o.text o.rest more;
-    head = o.head; short = o.short; other = o.other })
+  text = o.text;
+  rest = o.rest ++ more;
+  count = o.count;
+  parts = ap (λ t. t ++ more) o.parts ∙ append_assoc o.text o.rest more;
+  head = o.head;
+  short = o.short;
+  other = o.other;
+})
 unread_goes_on bytes more (inr o) = inr (record {
-    long = omega (arith, o.long, length-append bytes more);
-    no_head = λ text rest count e short.
-        o.no_head text (drop (length text) bytes) count (front_of_front bytes more text rest e (omega (arith, short, o.long))) short })
+  long = omega (arith, o.long, length-append bytes more);
+  no_head = λ text rest count e short.
+      o.no_head text (drop (length text) bytes) count (front_of_front bytes more text rest e (omega (arith, short, o.long))) short;
+})
 
 -- the stream, where nothing is left
 stream_at_end : (stream text rest : List ℕ) (after : Option (List ℕ)) → Gave (Some stream) (text ++ rest) after → IsEnd after → stream ≡ text ++ rest
@@ -72,7 +78,8 @@ framing causes.Memory ms stream text rest after gave spelled is = are_first ms s
 
 pub served : (first : World) (before : ends.Ends) (tb : List ℤ → Type 0) (cause : Cause) (after : ends.Ends) (ta : List ℤ → Type 0) → Connection first before tb cause after ta → Served first before tb cause after ta
 served first before tb cause after ta c = record {
-    connection = c;
-    framed = λ stream told.
-        let P : Option (List ℕ) → Type 0 = λ o. Gave o (c.text ++ c.rest) after.left in
-        framing cause c.messages stream c.text c.rest after.left (subst P told c.read) c.answered.spelled c.rest_is }
+  connection = c;
+  framed = λ stream told.
+      let P : Option (List ℕ) → Type 0 = λ o. Gave o (c.text ++ c.rest) after.left in
+      framing cause c.messages stream c.text c.rest after.left (subst P told c.read) c.answered.spelled c.rest_is;
+}

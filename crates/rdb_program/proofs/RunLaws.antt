@@ -150,6 +150,6 @@ complete words before tb after ta Unstarted run are stream ms told framed fault 
 complete words before tb after ta (WasServed cause) run are stream ms told framed fault stall =
     let c = run.1.connection in
     zero_or_seven cause
-        (λ is. fault (fault_rose cause before.read_faults after.read_faults before.write_faults after.write_faults c.read_faults c.write_faults is))
-        (λ is. let end = broken cause c.messages stream (run.1.framed stream told) is in end.2 (framed_once c.messages ms stream end.0 stream_ends.Finished end.1 framed).1)
-        (λ is. stall (stall_rose cause before.stalls after.stalls c.stalls is))
+    (λ is. fault (fault_rose cause before.read_faults after.read_faults before.write_faults after.write_faults c.read_faults c.write_faults is))
+    (λ is. let end = broken cause c.messages stream (run.1.framed stream told) is in end.2 (framed_once c.messages ms stream end.0 stream_ends.Finished end.1 framed).1)
+    (λ is. stall (stall_rose cause before.stalls after.stalls c.stalls is))

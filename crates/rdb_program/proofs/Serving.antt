@@ -50,13 +50,19 @@ clocked_nothing tells (x ∷ xs) others same told = absurd (omega arith)
 pub begins : (first : World) (before : Ends) (tells : List ℤ → Type 0) (wire : WireState) → wire.held ≡ [] → wire.is_open ≡ true
     → Serving first before tells wire before tells first
 begins first before tells wire empty is_open = record {
-    messages = []; text = []; history = []; answers = [];
-    is_open = is_open;
-    read = let P : List ℕ → Type 0 = λ t. Gave before.left t before.left in subst P (sym empty) (gave_nothing before.left);
-    answered = record { spelled = refl; requests = refl; seats = tt; timed = refl };
-    clocked = clocked_nothing tells;
-    wrote = took_nothing before.written;
-    read_faults = omega arith; write_faults = omega arith; stalls = refl }
+  messages = [];
+  text = [];
+  history = [];
+  answers = [];
+  is_open = is_open;
+  read = let P : List ℕ → Type 0 = λ t. Gave before.left t before.left in subst P (sym empty) (gave_nothing before.left);
+  answered = record { spelled = refl; requests = refl; seats = tt; timed = refl };
+  clocked = clocked_nothing tells;
+  wrote = took_nothing before.written;
+  read_faults = omega arith;
+  write_faults = omega arith;
+  stalls = refl;
+}
 
 -- what was read more
 read_on : (a b c : Option (List ℕ)) (text here got : List ℕ) → Gave a (text ++ here) b → Gave b got c → Gave a (text ++ (here ++ got)) c
@@ -95,11 +101,12 @@ answered_more : (first mid last : World) (ms : List Message) (text : List ℕ) (
     → Answered first ms text h answers mid → IsMessage bytes m → IsTimed first (h ++ e ∷ []) (answers ++ now ∷ []) last → e.seat ≡ 0 → e.asked ≡ m.asked
     → Answered first (ms ++ m ∷ []) (text ++ bytes) (h ++ e ∷ []) (answers ++ now ∷ []) last
 answered_more first mid last ms text h answers m bytes e now before is timed seat asked = record {
-    spelled = spells_more ms m text bytes before.spelled is;
-    requests = map-append (λ x. x.asked) h (e ∷ []) ∙ ap (λ t. t ++ e.asked ∷ []) before.requests ∙ ap (λ a. map (λ x. x.asked) ms ++ a ∷ []) asked
-        ∙ sym (map-append (λ x. x.asked) ms (m ∷ []));
-    seats = seats_more h e before.seats seat;
-    timed = timed }
+  spelled = spells_more ms m text bytes before.spelled is;
+  requests = map-append (λ x. x.asked) h (e ∷ []) ∙ ap (λ t. t ++ e.asked ∷ []) before.requests ∙ ap (λ a. map (λ x. x.asked) ms ++ a ∷ []) asked
+      ∙ sym (map-append (λ x. x.asked) ms (m ∷ []));
+  seats = seats_more h e before.seats seat;
+  timed = timed;
+}
 
 rose_before : (a b c : ℕ) → a ≤ b → Rose b c → Rose a c
 rose_before a b c later rose = omega (arith, later, rose)
@@ -128,16 +135,23 @@ closed first world before now after tb tn wire wire' (faults.CutShort have) caus
     let stalls = subst S closes.cause_is closes.stalls in
     let replies = reply_bytes s.messages (tolds_of s.history) in
     subst P (sym closes.cause_is) (record {
-        messages = s.messages; text = s.text; rest = wire.held ++ got; history = s.history; answers = s.answers; last = world;
-        sent = replies ++ closes.front;
-        read = read_on before.left now.left after.left s.text wire.held got s.read gave;
-        answered = s.answered; clocked = s.clocked;
-        wrote = took_more before.written now.written after.written replies closes.front s.wrote closes.took;
-        sent_is = ap (λ f. replies ++ f) (nil_front closes.front closes.rest closes.parts) ∙ append-nil replies;
-        rest_is = (answer.1, answer.2);
-        read_faults = omega (arith, s.read_faults, counts);
-        write_faults = omega (arith, s.write_faults, closes.write_faults);
-        stalls = omega (arith, s.stalls, stalls) })
+      messages = s.messages;
+      text = s.text;
+      rest = wire.held ++ got;
+      history = s.history;
+      answers = s.answers;
+      last = world;
+      sent = replies ++ closes.front;
+      read = read_on before.left now.left after.left s.text wire.held got s.read gave;
+      answered = s.answered;
+      clocked = s.clocked;
+      wrote = took_more before.written now.written after.written replies closes.front s.wrote closes.took;
+      sent_is = ap (λ f. replies ++ f) (nil_front closes.front closes.rest closes.parts) ∙ append-nil replies;
+      rest_is = (answer.1, answer.2);
+      read_faults = omega (arith, s.read_faults, counts);
+      write_faults = omega (arith, s.write_faults, closes.write_faults);
+      stalls = omega (arith, s.stalls, stalls);
+    })
 closed first world before now after tb tn wire wire' faults.Unread cause got s gave answer counts closes =
     let P : Cause → Type 0 = λ k. Connection first before tb k after tn in
     let S : Cause → Type 0 = λ k. CountsStalls k now.stalls after.stalls in
@@ -145,63 +159,102 @@ closed first world before now after tb tn wire wire' faults.Unread cause got s g
     let replies = reply_bytes s.messages (tolds_of s.history) in
     let same : before.stalls ≤ now.stalls = omega (arith, s.stalls) in
     subst P (sym closes.cause_is) (record {
-        messages = s.messages; text = s.text; rest = wire.held ++ got; history = s.history; answers = s.answers; last = world;
-        sent = replies ++ closes.front;
-        read = read_on before.left now.left after.left s.text wire.held got s.read gave;
-        answered = s.answered; clocked = s.clocked;
-        wrote = took_more before.written now.written after.written replies closes.front s.wrote closes.took;
-        sent_is = record { front = closes.front; rest = closes.rest; parts = closes.parts; sent_is = refl;
-            cut = cut_before closes.rest before.write_faults now.write_faults after.write_faults before.stalls now.stalls after.stalls s.write_faults same closes.cut };
-        rest_is = answer.1;
-        read_faults = omega (arith, s.read_faults, counts);
-        write_faults = omega (arith, s.write_faults, closes.write_faults);
-        stalls = omega (arith, s.stalls, stalls) })
+      messages = s.messages;
+      text = s.text;
+      rest = wire.held ++ got;
+      history = s.history;
+      answers = s.answers;
+      last = world;
+      sent = replies ++ closes.front;
+      read = read_on before.left now.left after.left s.text wire.held got s.read gave;
+      answered = s.answered;
+      clocked = s.clocked;
+      wrote = took_more before.written now.written after.written replies closes.front s.wrote closes.took;
+      sent_is = record {
+        front = closes.front;
+        rest = closes.rest;
+        parts = closes.parts;
+        sent_is = refl;
+        cut = cut_before closes.rest before.write_faults now.write_faults after.write_faults before.stalls now.stalls after.stalls s.write_faults same closes.cut;
+      };
+      rest_is = answer.1;
+      read_faults = omega (arith, s.read_faults, counts);
+      write_faults = omega (arith, s.write_faults, closes.write_faults);
+      stalls = omega (arith, s.stalls, stalls);
+    })
 closed first world before now after tb tn wire wire' faults.ReadFault cause got s gave answer counts closes =
     let P : Cause → Type 0 = λ k. Connection first before tb k after tn in
     let S : Cause → Type 0 = λ k. CountsStalls k now.stalls after.stalls in
     let stalls = subst S closes.cause_is closes.stalls in
     let replies = reply_bytes s.messages (tolds_of s.history) in
     subst P (sym closes.cause_is) (record {
-        messages = s.messages; text = s.text; rest = wire.held ++ got; history = s.history; answers = s.answers; last = world;
-        sent = replies ++ closes.front;
-        read = read_on before.left now.left after.left s.text wire.held got s.read gave;
-        answered = s.answered; clocked = s.clocked;
-        wrote = took_more before.written now.written after.written replies closes.front s.wrote closes.took;
-        sent_is = ap (λ f. replies ++ f) (nil_front closes.front closes.rest closes.parts) ∙ append-nil replies;
-        rest_is = answer.1;
-        read_faults = (omega (arith, s.read_faults, counts.0), rose_before before.read_faults now.read_faults after.read_faults s.read_faults counts.1);
-        write_faults = omega (arith, s.write_faults, closes.write_faults);
-        stalls = stalls ∙ s.stalls })
+      messages = s.messages;
+      text = s.text;
+      rest = wire.held ++ got;
+      history = s.history;
+      answers = s.answers;
+      last = world;
+      sent = replies ++ closes.front;
+      read = read_on before.left now.left after.left s.text wire.held got s.read gave;
+      answered = s.answered;
+      clocked = s.clocked;
+      wrote = took_more before.written now.written after.written replies closes.front s.wrote closes.took;
+      sent_is = ap (λ f. replies ++ f) (nil_front closes.front closes.rest closes.parts) ∙ append-nil replies;
+      rest_is = answer.1;
+      read_faults = (omega (arith, s.read_faults, counts.0), rose_before before.read_faults now.read_faults after.read_faults s.read_faults counts.1);
+      write_faults = omega (arith, s.write_faults, closes.write_faults);
+      stalls = stalls ∙ s.stalls;
+    })
 closed first world before now after tb tn wire wire' faults.Memory cause got s gave answer counts closes =
     let P : Cause → Type 0 = λ k. Connection first before tb k after tn in
     let S : Cause → Type 0 = λ k. CountsStalls k now.stalls after.stalls in
     let replies = reply_bytes s.messages (tolds_of s.history) in
     let same : before.stalls ≤ now.stalls = omega (arith, s.stalls) in
     let behind : SentBehind replies closing_standin (replies ++ closes.front) before after = record {
-        front = closes.front; rest = closes.rest; parts = closes.parts; sent_is = refl;
-        cut = cut_before closes.rest before.write_faults now.write_faults after.write_faults before.stalls now.stalls after.stalls s.write_faults same closes.cut } in
+      front = closes.front;
+      rest = closes.rest;
+      parts = closes.parts;
+      sent_is = refl;
+      cut = cut_before closes.rest before.write_faults now.write_faults after.write_faults before.stalls now.stalls after.stalls s.write_faults same closes.cut;
+    } in
     elim closes.cause_is [
       | inl memory ↦ subst P (sym memory) (record {
-            messages = s.messages; text = s.text; rest = wire.held ++ got; history = s.history; answers = s.answers; last = world;
-            sent = replies ++ closes.front;
-            read = read_on before.left now.left after.left s.text wire.held got s.read gave;
-            answered = s.answered; clocked = s.clocked;
-            wrote = took_more before.written now.written after.written replies closes.front s.wrote closes.took;
-            sent_is = behind; rest_is = tt;
-            read_faults = omega (arith, s.read_faults, counts);
-            write_faults = omega (arith, s.write_faults, closes.write_faults);
-            stalls = subst S memory closes.stalls ∙ s.stalls })
+        messages = s.messages;
+        text = s.text;
+        rest = wire.held ++ got;
+        history = s.history;
+        answers = s.answers;
+        last = world;
+        sent = replies ++ closes.front;
+        read = read_on before.left now.left after.left s.text wire.held got s.read gave;
+        answered = s.answered;
+        clocked = s.clocked;
+        wrote = took_more before.written now.written after.written replies closes.front s.wrote closes.took;
+        sent_is = behind;
+        rest_is = tt;
+        read_faults = omega (arith, s.read_faults, counts);
+        write_faults = omega (arith, s.write_faults, closes.write_faults);
+        stalls = subst S memory closes.stalls ∙ s.stalls;
+      })
       | inr nothing ↦ subst P (sym nothing) (record {
-            messages = s.messages; text = s.text; rest = wire.held ++ got; history = s.history; answers = s.answers; last = world;
-            sent = replies ++ closes.front;
-            read = read_on before.left now.left after.left s.text wire.held got s.read gave;
-            answered = s.answered; clocked = s.clocked;
-            wrote = took_more before.written now.written after.written replies closes.front s.wrote closes.took;
-            sent_is = inr behind; rest_is = tt;
-            read_faults = omega (arith, s.read_faults, counts);
-            write_faults = omega (arith, s.write_faults, closes.write_faults);
-            stalls = let stalled = subst S nothing closes.stalls in
-                (omega (arith, s.stalls, stalled.0), rose_before before.stalls now.stalls after.stalls same stalled.1) })
+        messages = s.messages;
+        text = s.text;
+        rest = wire.held ++ got;
+        history = s.history;
+        answers = s.answers;
+        last = world;
+        sent = replies ++ closes.front;
+        read = read_on before.left now.left after.left s.text wire.held got s.read gave;
+        answered = s.answered;
+        clocked = s.clocked;
+        wrote = took_more before.written now.written after.written replies closes.front s.wrote closes.took;
+        sent_is = inr behind;
+        rest_is = tt;
+        read_faults = omega (arith, s.read_faults, counts);
+        write_faults = omega (arith, s.write_faults, closes.write_faults);
+        stalls = let stalled = subst S nothing closes.stalls in
+            (omega (arith, s.stalls, stalled.0), rose_before before.stalls now.stalls after.stalls same stalled.1);
+      })
     ]
 
 -- The wire found the end of the input.
@@ -215,16 +268,23 @@ finished first world before now after tb tn wire wire' s reading counts written 
     let replies = reply_bytes s.messages (tolds_of s.history) in
     let P : Option (List ℕ) → Type 0 = λ o. Took before.written replies o in
     record {
-        messages = s.messages; text = s.text; rest = wire.held ++ reading.got; history = s.history; answers = s.answers; last = world;
-        sent = replies;
-        read = read_on before.left now.left after.left s.text wire.held reading.got s.read reading.gave;
-        answered = s.answered; clocked = s.clocked;
-        wrote = subst P (sym written) s.wrote;
-        sent_is = refl;
-        rest_is = (reading.answer.1, reading.answer.3);
-        read_faults = omega (arith, s.read_faults, counts);
-        write_faults = omega (arith, s.write_faults, write_faults);
-        stalls = stalls ∙ s.stalls }
+      messages = s.messages;
+      text = s.text;
+      rest = wire.held ++ reading.got;
+      history = s.history;
+      answers = s.answers;
+      last = world;
+      sent = replies;
+      read = read_on before.left now.left after.left s.text wire.held reading.got s.read reading.gave;
+      answered = s.answered;
+      clocked = s.clocked;
+      wrote = subst P (sym written) s.wrote;
+      sent_is = refl;
+      rest_is = (reading.answer.1, reading.answer.3);
+      read_faults = omega (arith, s.read_faults, counts);
+      write_faults = omega (arith, s.write_faults, write_faults);
+      stalls = stalls ∙ s.stalls;
+    }
 
 -- the stream behind one more message
 read_message : (a b c : Option (List ℕ)) (text here got bytes rest : List ℕ) → Gave a (text ++ here) b → Gave b got c → here ++ got ≡ bytes ++ rest
@@ -260,19 +320,23 @@ goes_on first world world' before now then tb tn tn' wire wire' m done mid_writt
     let bytes = reading.answer.1 in
     let timed = timed_more first world world' s.history s.answers e turn.now s.answered.timed turn.serves refl in
     let replies : reply_bytes (s.messages ++ m ∷ []) (tolds_of (s.history ++ e ∷ [])) ≡ reply_bytes s.messages (tolds_of s.history) ++ told_bytes turn.told m.close =
-        ap (reply_bytes (s.messages ++ m ∷ [])) (map-append (λ x. x.told) s.history (e ∷ []))
-        ∙ replies_more s.messages m (tolds_of s.history) turn.told (same_length s.history s.messages s.answered.requests) in
+    ap (reply_bytes (s.messages ++ m ∷ [])) (map-append (λ x. x.told) s.history (e ∷ []))
+    ∙ replies_more s.messages m (tolds_of s.history) turn.told (same_length s.history s.messages s.answered.requests) in
     let W : List ℕ → Type 0 = λ t. Took before.written t then.written in
     record {
-        messages = s.messages ++ m ∷ []; text = s.text ++ bytes; history = s.history ++ e ∷ []; answers = s.answers ++ turn.now ∷ [];
-        is_open = reading.answer.0;
-        read = read_message before.left now.left then.left s.text wire.held reading.got bytes wire'.held s.read reading.gave reading.answer.3;
-        answered = answered_more first world world' s.messages s.text s.history s.answers m bytes e turn.now s.answered reading.answer.2 timed refl refl;
-        clocked = clocked_more tb tn tn' s.answers turn.now s.clocked turn.clocked;
-        wrote = subst W (sym replies) (took_more before.written now.written then.written (reply_bytes s.messages (tolds_of s.history)) (told_bytes turn.told m.close) s.wrote turn.written);
-        read_faults = omega (arith, s.read_faults, counts);
-        write_faults = omega (arith, s.write_faults, same_faults, write_faults);
-        stalls = stalls ∙ same_stalls ∙ s.stalls }
+      messages = s.messages ++ m ∷ [];
+      text = s.text ++ bytes;
+      history = s.history ++ e ∷ [];
+      answers = s.answers ++ turn.now ∷ [];
+      is_open = reading.answer.0;
+      read = read_message before.left now.left then.left s.text wire.held reading.got bytes wire'.held s.read reading.gave reading.answer.3;
+      answered = answered_more first world world' s.messages s.text s.history s.answers m bytes e turn.now s.answered reading.answer.2 timed refl refl;
+      clocked = clocked_more tb tn tn' s.answers turn.now s.clocked turn.clocked;
+      wrote = subst W (sym replies) (took_more before.written now.written then.written (reply_bytes s.messages (tolds_of s.history)) (told_bytes turn.told m.close) s.wrote turn.written);
+      read_faults = omega (arith, s.read_faults, counts);
+      write_faults = omega (arith, s.write_faults, same_faults, write_faults);
+      stalls = stalls ∙ same_stalls ∙ s.stalls;
+    }
 
 -- One message more was read, and its reply wasn't written whole.
 pub breaks_off : {T : Type 0} (first world world' : World) (before now then : Ends) (tb tn tn' : List ℤ → Type 0) (wire wire' : WireState) (m : Message) (end : WriteEnd)
@@ -293,20 +357,34 @@ breaks_off {T} first world world' before now then tb tn tn' wire wire' m write_e
     let timed = timed_more first world world' s.history s.answers e turn.now s.answered.timed turn.serves refl in
     let replies = reply_bytes s.messages (tolds_of s.history) in
     record {
-        messages = s.messages ++ m ∷ []; text = s.text ++ bytes; rest = wire'.held; history = s.history ++ e ∷ []; answers = s.answers ++ turn.now ∷ []; last = world';
-        sent = replies ++ turn.written.front;
-        read = read_message before.left now.left then.left s.text wire.held reading.got bytes wire'.held s.read reading.gave reading.answer.3;
-        answered = answered_more first world world' s.messages s.text s.history s.answers m bytes e turn.now s.answered reading.answer.2 timed refl refl;
-        clocked = clocked_more tb tn tn' s.answers turn.now s.clocked turn.clocked;
-        wrote = took_more before.written now.written then.written replies turn.written.front s.wrote turn.written.took;
-        sent_is = record {
-            messages_before = s.messages; tolds_before = tolds_of s.history; message = m; told = turn.told;
-            messages_are = refl; tolds_are = map-append (λ x. x.told) s.history (e ∷ []);
-            front = turn.written.front; rest = turn.written.rest; parts = turn.written.parts; sent_is = refl };
-        rest_is = tt;
-        read_faults = omega (arith, s.read_faults, counts);
-        write_faults = (omega (arith, s.write_faults, faulted.0), rose_before before.write_faults now.write_faults then.write_faults s.write_faults faulted.1);
-        stalls = stalled ∙ s.stalls }
+      messages = s.messages ++ m ∷ [];
+      text = s.text ++ bytes;
+      rest = wire'.held;
+      history = s.history ++ e ∷ [];
+      answers = s.answers ++ turn.now ∷ [];
+      last = world';
+      sent = replies ++ turn.written.front;
+      read = read_message before.left now.left then.left s.text wire.held reading.got bytes wire'.held s.read reading.gave reading.answer.3;
+      answered = answered_more first world world' s.messages s.text s.history s.answers m bytes e turn.now s.answered reading.answer.2 timed refl refl;
+      clocked = clocked_more tb tn tn' s.answers turn.now s.clocked turn.clocked;
+      wrote = took_more before.written now.written then.written replies turn.written.front s.wrote turn.written.took;
+      sent_is = record {
+        messages_before = s.messages;
+        tolds_before = tolds_of s.history;
+        message = m;
+        told = turn.told;
+        messages_are = refl;
+        tolds_are = map-append (λ x. x.told) s.history (e ∷ []);
+        front = turn.written.front;
+        rest = turn.written.rest;
+        parts = turn.written.parts;
+        sent_is = refl;
+      };
+      rest_is = tt;
+      read_faults = omega (arith, s.read_faults, counts);
+      write_faults = (omega (arith, s.write_faults, faulted.0), rose_before before.write_faults now.write_faults then.write_faults s.write_faults faulted.1);
+      stalls = stalled ∙ s.stalls;
+    }
 breaks_off {T} first world world' before now then tb tn tn' wire wire' m write_ends.SinkTakesNothing mid_written mid_faults mid_stalls same_written same_faults same_stalls s reading counts mid_turn mid_faulted mid_stalled =
     let turn = turn_before world world' tn tn' m mid_written now.written then.written (Err write_ends.SinkTakesNothing) same_written mid_turn in
     let faulted = faults_before {T = T} mid_faults now.write_faults then.write_faults (Err write_ends.SinkTakesNothing) same_faults mid_faulted in
@@ -317,17 +395,31 @@ breaks_off {T} first world world' before now then tb tn tn' wire wire' m write_e
     let replies = reply_bytes s.messages (tolds_of s.history) in
     let same : before.stalls ≤ now.stalls = omega (arith, s.stalls) in
     record {
-        messages = s.messages ++ m ∷ []; text = s.text ++ bytes; rest = wire'.held; history = s.history ++ e ∷ []; answers = s.answers ++ turn.now ∷ []; last = world';
-        sent = replies ++ turn.written.front;
-        read = read_message before.left now.left then.left s.text wire.held reading.got bytes wire'.held s.read reading.gave reading.answer.3;
-        answered = answered_more first world world' s.messages s.text s.history s.answers m bytes e turn.now s.answered reading.answer.2 timed refl refl;
-        clocked = clocked_more tb tn tn' s.answers turn.now s.clocked turn.clocked;
-        wrote = took_more before.written now.written then.written replies turn.written.front s.wrote turn.written.took;
-        sent_is = inl (record {
-            messages_before = s.messages; tolds_before = tolds_of s.history; message = m; told = turn.told;
-            messages_are = refl; tolds_are = map-append (λ x. x.told) s.history (e ∷ []);
-            front = turn.written.front; rest = turn.written.rest; parts = turn.written.parts; sent_is = refl });
-        rest_is = tt;
-        read_faults = omega (arith, s.read_faults, counts);
-        write_faults = omega (arith, s.write_faults, faulted);
-        stalls = (omega (arith, s.stalls, stalled.0), rose_before before.stalls now.stalls then.stalls same stalled.1) }
+      messages = s.messages ++ m ∷ [];
+      text = s.text ++ bytes;
+      rest = wire'.held;
+      history = s.history ++ e ∷ [];
+      answers = s.answers ++ turn.now ∷ [];
+      last = world';
+      sent = replies ++ turn.written.front;
+      read = read_message before.left now.left then.left s.text wire.held reading.got bytes wire'.held s.read reading.gave reading.answer.3;
+      answered = answered_more first world world' s.messages s.text s.history s.answers m bytes e turn.now s.answered reading.answer.2 timed refl refl;
+      clocked = clocked_more tb tn tn' s.answers turn.now s.clocked turn.clocked;
+      wrote = took_more before.written now.written then.written replies turn.written.front s.wrote turn.written.took;
+      sent_is = inl (record {
+        messages_before = s.messages;
+        tolds_before = tolds_of s.history;
+        message = m;
+        told = turn.told;
+        messages_are = refl;
+        tolds_are = map-append (λ x. x.told) s.history (e ∷ []);
+        front = turn.written.front;
+        rest = turn.written.rest;
+        parts = turn.written.parts;
+        sent_is = refl;
+      });
+      rest_is = tt;
+      read_faults = omega (arith, s.read_faults, counts);
+      write_faults = omega (arith, s.write_faults, faulted);
+      stalls = (omega (arith, s.stalls, stalled.0), rose_before before.stalls now.stalls then.stalls same stalled.1);
+    }

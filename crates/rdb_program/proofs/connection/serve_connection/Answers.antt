@@ -29,9 +29,10 @@ messages-preserved g c =
     let reading = rw c.in-Ok-Some.field-0-is at (c.in-Ok-Some.ensures.reading s.is_open) in
     let told = c.in_default.ensures in
     record {
-        serving = rw (c.answer_message.ensures.left, c.answer_message.ensures.read_faults)
-            (goes_on _ _ _ _ _ _ _ _ _ _ _ _ _ _ _ _ c.next.ensures.written c.next.ensures.write_faults c.next.ensures.stalls s reading c.in-Ok-Some.ensures.faults told.turn told.faults told.stalls);
-        holds = c.answer_message.ensures.holds ∙ c.next.ensures.holds ∙ c.messages.invariant.holds }
+      serving = rw (c.answer_message.ensures.left, c.answer_message.ensures.read_faults)
+          (goes_on _ _ _ _ _ _ _ _ _ _ _ _ _ _ _ _ c.next.ensures.written c.next.ensures.write_faults c.next.ensures.stalls s reading c.in-Ok-Some.ensures.faults told.turn told.faults told.stalls);
+      holds = c.answer_message.ensures.holds ∙ c.next.ensures.holds ∙ c.messages.invariant.holds;
+    }
 
 pub returns-clause-connection : goal.returns-clause-connection
 returns-clause-connection g c =

@@ -10,5 +10,5 @@ invariant-messages g l = record {
       (g.C.Clock.tells (g.C.Clock.state l.fn.clock)) l.wire
       (ends (g.L.Link.left l.link) (g.L.Link.written l.link) (g.L.Link.read_faults l.link) (g.L.Link.write_faults l.link) (g.L.Link.stalls l.link))
       (g.C.Clock.tells (g.C.Clock.state l.clock)) l.core.world;
-  holds : g.L.Link.holds l.link ≡ g.L.Link.holds l.fn.link
+  holds : g.L.Link.holds l.link ≡ g.L.Link.holds l.fn.link;
 }
