@@ -1,4 +1,7 @@
 // What the ends give and take, call by call.
+ghost use Rattle.std.specs.Prelude.{◌≡◌, [], length, IfOk};
+ghost use Rattle.outside.specs.Whole.{CountsFault};
+
 use crate::*;
 use std::process::Abort;
 use std::test::Fail;
@@ -93,6 +96,37 @@ fn pair_reads_its_source_and_writes_its_sink(rt: HostRuntime) -> Result<(), Fail
     check_steps(&rt, &mut PairLink::new(&mut source, &mut sink), &PAIR_STEPS);
     assert_eq!(rt; sink.written(), b"uv".as_slice());
     assert_eq!(rt; (source.faults(), sink.faults(), sink.stalls()), (1, 1, 1));
+    Ok(())
+}
+
+/// Whoever writes through a pair learns that the source stays as it was, and which count of the sink rose.
+fn write_beside<I: Source, O: Sink>(
+    source: &mut I,
+    sink: &mut O,
+    bytes: &[u8],
+) -> Result<(), WriteEnd>
+    ensures source_faults { I.faults source.new ≡ I.faults source.old }
+    ensures source_left { I.left source.new ≡ I.left source.old }
+    ensures sink_faults { CountsFault (O.faults sink.old) result (O.faults sink.new) }
+{
+    write_whole(&mut PairLink::new(source, sink), bytes)
+}
+
+/// A sink with no call that is to fail takes the whole piece, unless there is no memory for it.
+fn take_piece(sink: &mut MemorySink, piece: &[u8]) -> Result<usize, Failed>
+    requires { sink.old.calls.fails ≡ [] }
+    ensures { IfOk result (λ count. count ≡ length piece.now) }
+{
+    sink.write(piece)
+}
+
+#[test]
+fn callers_learn_of_their_ends(rt: HostRuntime) -> Result<(), Fail> {
+    let mut source = MemorySource::new(rt.alloc(), Vec::new(rt.alloc()), Vec::new(rt.alloc()))?;
+    let mut sink = MemorySink::new(rt.alloc(), Vec::new(rt.alloc()))?;
+    assert!(rt; take_piece(&mut sink, b"ab").is_ok());
+    assert_eq!(rt; write_beside(&mut source, &mut sink, b"cd"), Ok(()));
+    assert_eq!(rt; sink.written(), b"abcd".as_slice());
     Ok(())
 }
 
