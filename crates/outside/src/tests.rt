@@ -3,8 +3,27 @@ ghost use Rattle.std.specs.Prelude.{◌≡◌, [], length, IfOk};
 ghost use Rattle.outside.specs.Whole.{CountsFault};
 
 use crate::*;
+use std::alloc::{AllocError, Global};
 use std::process::Abort;
 use std::test::Fail;
+
+fn new_source(alloc: Global, bytes: &[u8], fails: &[u64]) -> Result<MemorySource, AllocError> {
+    MemorySource::new(alloc, bytes.to_vec(alloc)?, fails.to_vec(alloc)?)
+}
+
+fn new_sink(alloc: Global, fails: &[u64]) -> Result<MemorySink, AllocError>
+    ensures { IfOk result (λ s. s.calls.fails ≡ fails.now) }
+{
+    MemorySink::new(alloc, fails.to_vec(alloc)?)
+}
+
+fn new_link(alloc: Global, pieces: &[&[u8]], fails: &[u64]) -> Result<MemoryLink, AllocError> {
+    let mut copied = Vec::new(alloc);
+    for piece in pieces {
+        copied.push(piece.to_vec(alloc)?)?;
+    }
+    MemoryLink::new(alloc, copied, fails.to_vec(alloc)?)
+}
 
 /// A call, and the answer that is expected: `None` where the call is to fail.
 enum Step<'a> {
@@ -47,6 +66,10 @@ fn check_steps<L: Link>(rt: &impl Abort, link: &mut L, steps: &[Step<'_>]) {
     }
 }
 
+const LINK_PIECES: [&[u8]; 3] = [b"ab", b"", b"cde"];
+
+const LINK_FAILS: [u64; 8] = [3, 5, 5, 7, 7, 10, 11, 11];
+
 const LINK_STEPS: [Step<'static>; 11] = [
     Step::Read(8, Some(b"ab")),
     Step::Read(2, Some(b"cd")),
@@ -63,18 +86,13 @@ const LINK_STEPS: [Step<'static>; 11] = [
 
 #[test]
 fn link_in_memory_keeps_cuts_and_counts(rt: HostRuntime) -> Result<(), Fail> {
-    let pieces = vec![in rt.alloc();
-        b"ab".to_vec(rt.alloc())?,
-        Vec::new(rt.alloc()),
-        b"cde".to_vec(rt.alloc())?,
-    ]?;
-    let fails = vec![in rt.alloc(); 3, 5, 5, 7, 7, 10, 11, 11]?;
-    let mut link = MemoryLink::new(rt.alloc(), pieces, fails)?;
+    let mut link = new_link(rt.alloc(), &LINK_PIECES, &LINK_FAILS)?;
     check_steps(&rt, &mut link, &LINK_STEPS);
     assert_eq!(rt; link.written(), b"xyz".as_slice());
-    assert_eq!(rt; link.read_faults(), 2);
-    assert_eq!(rt; link.write_faults(), 2);
-    assert_eq!(rt; link.stalls(), 1);
+    assert_eq!(rt;
+        (link.read_faults(), link.write_faults(), link.stalls()),
+        (2, 2, 1)
+    );
     Ok(())
 }
 
@@ -90,9 +108,8 @@ const PAIR_STEPS: [Step<'static>; 7] = [
 
 #[test]
 fn pair_reads_its_source_and_writes_its_sink(rt: HostRuntime) -> Result<(), Fail> {
-    let bytes = b"abcdef".to_vec(rt.alloc())?;
-    let mut source = MemorySource::new(rt.alloc(), bytes, vec![in rt.alloc(); 2]?)?;
-    let mut sink = MemorySink::new(rt.alloc(), vec![in rt.alloc(); 2, 3, 3]?)?;
+    let mut source = new_source(rt.alloc(), b"abcdef", &[2])?;
+    let mut sink = new_sink(rt.alloc(), &[2, 3, 3])?;
     check_steps(&rt, &mut PairLink::new(&mut source, &mut sink), &PAIR_STEPS);
     assert_eq!(rt; sink.written(), b"uv".as_slice());
     assert_eq!(rt; (source.faults(), sink.faults(), sink.stalls()), (1, 1, 1));
@@ -122,8 +139,8 @@ fn take_piece(sink: &mut MemorySink, piece: &[u8]) -> Result<usize, Failed>
 
 #[test]
 fn callers_learn_of_their_ends(rt: HostRuntime) -> Result<(), Fail> {
-    let mut source = MemorySource::new(rt.alloc(), Vec::new(rt.alloc()), Vec::new(rt.alloc()))?;
-    let mut sink = MemorySink::new(rt.alloc(), Vec::new(rt.alloc()))?;
+    let mut source = new_source(rt.alloc(), b"", &[])?;
+    let mut sink = new_sink(rt.alloc(), &[])?;
     assert!(rt; take_piece(&mut sink, b"ab").is_ok());
     assert_eq!(rt; write_beside(&mut source, &mut sink, b"cd"), Ok(()));
     assert_eq!(rt; sink.written(), b"abcd".as_slice());
@@ -157,10 +174,10 @@ fn whole_writes_go_on_and_tell_their_end(rt: HostRuntime) -> Result<(), Fail> {
     let mut one_by_one = OneByOne { taken: 0 };
     assert_eq!(rt; put_whole(&mut one_by_one, b"abc"), Ok(()));
     assert_eq!(rt; one_by_one.taken, 3);
-    let mut sink = MemorySink::new(rt.alloc(), vec![in rt.alloc(); 2, 3, 3]?)?;
+    let mut sink = new_sink(rt.alloc(), &[2])?;
     assert_eq!(rt; put_whole(&mut sink, b"abc"), Ok(()));
     assert_eq!(rt; put_whole(&mut sink, b"d"), Err(WriteEnd::WriteFault));
-    let mut link = MemoryLink::new(rt.alloc(), Vec::new(rt.alloc()), vec![in rt.alloc(); 2, 2]?)?;
+    let mut link = new_link(rt.alloc(), &[], &[2, 2])?;
     assert_eq!(rt; write_whole(&mut link, b"abc"), Ok(()));
     assert_eq!(rt;
         write_whole(&mut link, b"d"),
