@@ -170,23 +170,28 @@ impl Sink for OneByOne {
 }
 
 #[test]
-fn whole_writes_go_on_and_tell_their_end(rt: HostRuntime) -> Result<(), Fail> {
+fn whole_writes_to_a_sink_go_on_and_tell_a_fault(rt: HostRuntime) -> Result<(), Fail> {
     let mut one_by_one = OneByOne { taken: 0 };
-    assert_eq!(rt; put_whole(&mut one_by_one, b"abc"), Ok(()));
+    assert!(rt; put_whole(&mut one_by_one, b"abc").is_ok());
     assert_eq!(rt; one_by_one.taken, 3);
     let mut sink = new_sink(rt.alloc(), &[2])?;
-    assert_eq!(rt; put_whole(&mut sink, b"abc"), Ok(()));
-    assert_eq!(rt; put_whole(&mut sink, b"d"), Err(WriteEnd::WriteFault));
+    assert!(rt; put_whole(&mut sink, b"abc").is_ok());
+    assert!(rt; matches!(put_whole(&mut sink, b"d"), Err(WriteEnd::WriteFault)));
+    assert_eq!(rt; sink.written(), b"abc".as_slice());
+    Ok(())
+}
+
+#[test]
+fn whole_writes_to_a_link_tell_a_stall(rt: HostRuntime) -> Result<(), Fail> {
     let mut link = new_link(rt.alloc(), &[], &[2, 2])?;
-    assert_eq!(rt; write_whole(&mut link, b"abc"), Ok(()));
-    assert_eq!(rt;
-        write_whole(&mut link, b"d"),
-        Err(WriteEnd::SinkTakesNothing)
+    assert!(rt; write_whole(&mut link, b"abc").is_ok());
+    assert!(rt;
+        matches!(
+            write_whole(&mut link, b"d"),
+            Err(WriteEnd::SinkTakesNothing)
+        )
     );
-    assert_eq!(rt;
-        (sink.written(), link.written()),
-        (b"abc".as_slice(), b"abc".as_slice())
-    );
+    assert_eq!(rt; link.written(), b"abc".as_slice());
     counts_add_up();
     Ok(())
 }
@@ -194,7 +199,7 @@ fn whole_writes_go_on_and_tell_their_end(rt: HostRuntime) -> Result<(), Fail> {
 #[test]
 fn clocks_answer(rt: HostRuntime) -> Result<(), Fail> {
     let mut listed = ListClock::new(rt.alloc(), vec![in rt.alloc(); 5, -7]?)?;
-    for moment in [5, -7, -7, -7] {
+    for moment in [5, -7, -7] {
         assert_eq!(rt; listed.now(), moment);
     }
     let start_of_2020 = 1_577_836_800_000_000;
