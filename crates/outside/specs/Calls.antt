@@ -9,6 +9,10 @@ pub record Calls : Type 0 where
   pub fails : List ℕ
   pub made : ℕ
 
+-- No call was made yet.
+abbrev pub no_call_yet : List ℕ → Calls
+no_call_yet fails = record { fails = fails; made = 0 }
+
 abbrev pub one_call_more : Calls → Calls
 one_call_more calls = record calls { made = counted calls.made }
 

@@ -11,6 +11,9 @@ pub record Output : Type 0 where
   pub faults : ℕ
   pub stalls : ℕ
 
+abbrev pub nothing_written : Output
+nothing_written = record { written = []; faults = 0; stalls = 0 }
+
 -- The output after a write of a piece.
 abbrev pub output_after : Output → List ℕ → Result ℕ Failed → Output
 output_after output piece (Err e) = record output { faults = counted output.faults }

@@ -120,7 +120,8 @@ impl<S: Write + Drop> Sink for StreamSink<S> {
         ensures cause { HasCause self.old.faults self.new.faults result }
         ensures takes { Writes None piece.now result None }
         ensures stalls { CountsStall self.old.stalls piece.now result self.new.stalls }
-        ensures faults { MatchResult result (λ _. self.new.faults ≡ self.old.faults) (λ _. self.new.faults ≡ counted self.old.faults) }
+        ensures faults { MatchResult result (λ _. self.new.faults ≡ self.old.faults)
+            (λ _. self.new.faults ≡ counted self.old.faults) }
     {
         match self.stream.write(piece) {
             Ok(count) => {

@@ -1,7 +1,29 @@
 // What the ends give and take, call by call.
+ghost use Rattle.std.specs.Prelude.{◌≡◌, [], length, IfOk};
+ghost use Rattle.outside.specs.Whole.{CountsFault};
+
 use crate::*;
+use std::alloc::{AllocError, Global};
 use std::process::Abort;
 use std::test::Fail;
+
+fn new_source(alloc: Global, bytes: &[u8], fails: &[u64]) -> Result<MemorySource, AllocError> {
+    MemorySource::new(alloc, bytes.to_vec(alloc)?, fails.to_vec(alloc)?)
+}
+
+fn new_sink(alloc: Global, fails: &[u64]) -> Result<MemorySink, AllocError>
+    ensures { IfOk result (λ s. s.calls.fails ≡ fails.now) }
+{
+    MemorySink::new(alloc, fails.to_vec(alloc)?)
+}
+
+fn new_link(alloc: Global, pieces: &[&[u8]], fails: &[u64]) -> Result<MemoryLink, AllocError> {
+    let mut copied = Vec::new(alloc);
+    for piece in pieces {
+        copied.push(piece.to_vec(alloc)?)?;
+    }
+    MemoryLink::new(alloc, copied, fails.to_vec(alloc)?)
+}
 
 /// A call, and the answer that is expected: `None` where the call is to fail.
 enum Step<'a> {
@@ -44,6 +66,10 @@ fn check_steps<L: Link>(rt: &impl Abort, link: &mut L, steps: &[Step<'_>]) {
     }
 }
 
+const LINK_PIECES: [&[u8]; 3] = [b"ab", b"", b"cde"];
+
+const LINK_FAILS: [u64; 8] = [3, 5, 5, 7, 7, 10, 11, 11];
+
 const LINK_STEPS: [Step<'static>; 11] = [
     Step::Read(8, Some(b"ab")),
     Step::Read(2, Some(b"cd")),
@@ -60,18 +86,13 @@ const LINK_STEPS: [Step<'static>; 11] = [
 
 #[test]
 fn link_in_memory_keeps_cuts_and_counts(rt: HostRuntime) -> Result<(), Fail> {
-    let pieces = vec![in rt.alloc();
-        b"ab".to_vec(rt.alloc())?,
-        Vec::new(rt.alloc()),
-        b"cde".to_vec(rt.alloc())?,
-    ]?;
-    let fails = vec![in rt.alloc(); 3, 5, 5, 7, 7, 10, 11, 11]?;
-    let mut link = MemoryLink::new(rt.alloc(), pieces, fails)?;
+    let mut link = new_link(rt.alloc(), &LINK_PIECES, &LINK_FAILS)?;
     check_steps(&rt, &mut link, &LINK_STEPS);
     assert_eq!(rt; link.written(), b"xyz".as_slice());
-    assert_eq!(rt; link.read_faults(), 2);
-    assert_eq!(rt; link.write_faults(), 2);
-    assert_eq!(rt; link.stalls(), 1);
+    assert_eq!(rt;
+        (link.read_faults(), link.write_faults(), link.stalls()),
+        (2, 2, 1)
+    );
     Ok(())
 }
 
@@ -87,12 +108,42 @@ const PAIR_STEPS: [Step<'static>; 7] = [
 
 #[test]
 fn pair_reads_its_source_and_writes_its_sink(rt: HostRuntime) -> Result<(), Fail> {
-    let bytes = b"abcdef".to_vec(rt.alloc())?;
-    let mut source = MemorySource::new(rt.alloc(), bytes, vec![in rt.alloc(); 2]?)?;
-    let mut sink = MemorySink::new(rt.alloc(), vec![in rt.alloc(); 2, 3, 3]?)?;
+    let mut source = new_source(rt.alloc(), b"abcdef", &[2])?;
+    let mut sink = new_sink(rt.alloc(), &[2, 3, 3])?;
     check_steps(&rt, &mut PairLink::new(&mut source, &mut sink), &PAIR_STEPS);
     assert_eq!(rt; sink.written(), b"uv".as_slice());
     assert_eq!(rt; (source.faults(), sink.faults(), sink.stalls()), (1, 1, 1));
+    Ok(())
+}
+
+/// Whoever writes through a pair learns that the source stays as it was, and which count of the sink rose.
+fn write_beside<I: Source, O: Sink>(
+    source: &mut I,
+    sink: &mut O,
+    bytes: &[u8],
+) -> Result<(), WriteEnd>
+    ensures source_faults { I.faults source.new ≡ I.faults source.old }
+    ensures source_left { I.left source.new ≡ I.left source.old }
+    ensures sink_faults { CountsFault (O.faults sink.old) result (O.faults sink.new) }
+{
+    write_whole(&mut PairLink::new(source, sink), bytes)
+}
+
+/// A sink with no call that is to fail takes the whole piece, unless there is no memory for it.
+fn take_piece(sink: &mut MemorySink, piece: &[u8]) -> Result<usize, Failed>
+    requires { sink.old.calls.fails ≡ [] }
+    ensures { IfOk result (λ count. count ≡ length piece.now) }
+{
+    sink.write(piece)
+}
+
+#[test]
+fn callers_learn_of_their_ends(rt: HostRuntime) -> Result<(), Fail> {
+    let mut source = new_source(rt.alloc(), b"", &[])?;
+    let mut sink = new_sink(rt.alloc(), &[])?;
+    assert!(rt; take_piece(&mut sink, b"ab").is_ok());
+    assert_eq!(rt; write_beside(&mut source, &mut sink, b"cd"), Ok(()));
+    assert_eq!(rt; sink.written(), b"abcd".as_slice());
     Ok(())
 }
 
@@ -119,23 +170,28 @@ impl Sink for OneByOne {
 }
 
 #[test]
-fn whole_writes_go_on_and_tell_their_end(rt: HostRuntime) -> Result<(), Fail> {
+fn whole_writes_to_a_sink_go_on_and_tell_a_fault(rt: HostRuntime) -> Result<(), Fail> {
     let mut one_by_one = OneByOne { taken: 0 };
-    assert_eq!(rt; put_whole(&mut one_by_one, b"abc"), Ok(()));
+    assert!(rt; put_whole(&mut one_by_one, b"abc").is_ok());
     assert_eq!(rt; one_by_one.taken, 3);
-    let mut sink = MemorySink::new(rt.alloc(), vec![in rt.alloc(); 2, 3, 3]?)?;
-    assert_eq!(rt; put_whole(&mut sink, b"abc"), Ok(()));
-    assert_eq!(rt; put_whole(&mut sink, b"d"), Err(WriteEnd::WriteFault));
-    let mut link = MemoryLink::new(rt.alloc(), Vec::new(rt.alloc()), vec![in rt.alloc(); 2, 2]?)?;
-    assert_eq!(rt; write_whole(&mut link, b"abc"), Ok(()));
-    assert_eq!(rt;
-        write_whole(&mut link, b"d"),
-        Err(WriteEnd::SinkTakesNothing)
+    let mut sink = new_sink(rt.alloc(), &[2])?;
+    assert!(rt; put_whole(&mut sink, b"abc").is_ok());
+    assert!(rt; matches!(put_whole(&mut sink, b"d"), Err(WriteEnd::WriteFault)));
+    assert_eq!(rt; sink.written(), b"abc".as_slice());
+    Ok(())
+}
+
+#[test]
+fn whole_writes_to_a_link_tell_a_stall(rt: HostRuntime) -> Result<(), Fail> {
+    let mut link = new_link(rt.alloc(), &[], &[2, 2])?;
+    assert!(rt; write_whole(&mut link, b"abc").is_ok());
+    assert!(rt;
+        matches!(
+            write_whole(&mut link, b"d"),
+            Err(WriteEnd::SinkTakesNothing)
+        )
     );
-    assert_eq!(rt;
-        (sink.written(), link.written()),
-        (b"abc".as_slice(), b"abc".as_slice())
-    );
+    assert_eq!(rt; link.written(), b"abc".as_slice());
     counts_add_up();
     Ok(())
 }
@@ -143,7 +199,7 @@ fn whole_writes_go_on_and_tell_their_end(rt: HostRuntime) -> Result<(), Fail> {
 #[test]
 fn clocks_answer(rt: HostRuntime) -> Result<(), Fail> {
     let mut listed = ListClock::new(rt.alloc(), vec![in rt.alloc(); 5, -7]?)?;
-    for moment in [5, -7, -7, -7] {
+    for moment in [5, -7, -7] {
         assert_eq!(rt; listed.now(), moment);
     }
     let start_of_2020 = 1_577_836_800_000_000;

@@ -76,7 +76,8 @@ impl Pieces {
         }
     }
 
-    /// Puts bytes of the first piece that isn't empty at the front of `room`, as many as fit, and answers how many they are.
+    /// Puts bytes of the first piece that isn't empty at the front of `room`, as many as fit, and answers how many
+    /// they are.
     pub fn give(&mut self, room: &mut [u8]) -> usize
         ensures count { result ≡ min (length (first_piece self.old)) (length room.new) }
         ensures given { take result room.new ≡ take result (first_piece self.old) }
@@ -90,7 +91,8 @@ impl Pieces {
 
 /// Goes on to the first piece that isn't empty.
 fn pass_empty(current: &mut Unread, others: &mut VecDeque<Vec<u8>>)
-    ensures same { without_empty (current.new ∷ map (λ v. v.items) others.new.items) ≡ without_empty (current.old ∷ map (λ v. v.items) others.old.items) }
+    ensures same { without_empty (current.new ∷ map (λ v. v.items) others.new.items)
+        ≡ without_empty (current.old ∷ map (λ v. v.items) others.old.items) }
     ensures passed { current.new ≡ [] → others.new.items ≡ [] }
 {
     while current.is_empty() {

@@ -4,9 +4,9 @@ ghost use Rattle.std.specs.List.{concat};
 ghost use Rattle.std.specs.Io.{ReadsAtMost, WritesAtMost};
 ghost use Rattle.outside.specs.Causes.{HasCause, CountsStall};
 ghost use Rattle.outside.specs.Bytes.{Reads, Writes};
-ghost use Rattle.outside.specs.Calls.{outcome_of, times_listed};
+ghost use Rattle.outside.specs.Calls.{no_call_yet, outcome_of, times_listed};
 ghost use Rattle.outside.specs.Incoming.{without_empty, first_piece};
-ghost use Rattle.outside.specs.Outgoing.{EndsWrite};
+ghost use Rattle.outside.specs.Outgoing.{nothing_written, EndsWrite};
 ghost use Rattle.outside.specs.Memory.{EndsRead, link_after_read, link_after_write};
 
 use super::incoming::Pieces;
@@ -31,7 +31,12 @@ impl Model for MemoryLink {
 
     ghost Value = { LinkState };
 
-    ghost view = { λ l. record { calls = l.schedule; pieces = l.incoming; read_faults = l.read_faults; output = l.outgoing } };
+    ghost view = { λ l. record {
+      calls = l.schedule;
+      pieces = l.incoming;
+      read_faults = l.read_faults;
+      output = l.outgoing;
+    } };
 }
 
 impl MemoryLink {
@@ -44,7 +49,10 @@ impl MemoryLink {
         pieces: Vec<Vec<u8>>,
         fails: Vec<u64>,
     ) -> Result<MemoryLink, AllocError>
-        ensures { IfOk result (λ l. l ≡ record { calls = record { fails = fails.items; made = 0 }; pieces = without_empty (map (λ v. v.items) pieces.items); read_faults = 0; output = record { written = []; faults = 0; stalls = 0 } }) }
+        ensures calls { IfOk result (λ l. l.calls ≡ no_call_yet fails.items) }
+        ensures pieces { IfOk result (λ l. l.pieces ≡ without_empty (map (λ v. v.items) pieces.items)) }
+        ensures read_faults { IfOk result (λ l. l.read_faults ≡ 0) }
+        ensures output { IfOk result (λ l. l.output ≡ nothing_written) }
     {
         Ok(MemoryLink {
             schedule: Schedule::new(fails),

@@ -3,7 +3,7 @@ ghost use Rattle.std.specs.Prelude.{◌≡◌, [], Some};
 ghost use Rattle.std.specs.Io.{WritesAtMost};
 ghost use Rattle.outside.specs.Causes.{HasCause, CountsStall};
 ghost use Rattle.outside.specs.Bytes.{Writes};
-ghost use Rattle.outside.specs.Outgoing.{Output, EndsWrite, output_after};
+ghost use Rattle.outside.specs.Outgoing.{nothing_written, EndsWrite, output_after};
 
 use super::schedule::Outcome;
 use crate::Failed;
@@ -29,7 +29,7 @@ impl Model for Outgoing {
 
 impl Outgoing {
     pub fn new(alloc: Global) -> Outgoing
-        ensures { result ≡ record { written = []; faults = 0; stalls = 0 } }
+        ensures { result ≡ nothing_written }
     {
         Outgoing {
             written: Vec::new(alloc),

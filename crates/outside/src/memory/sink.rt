@@ -3,8 +3,8 @@ ghost use Rattle.std.specs.Prelude.{◌≡◌, ℕ, List, [], Some, IfOk};
 ghost use Rattle.std.specs.Io.{WritesAtMost};
 ghost use Rattle.outside.specs.Causes.{HasCause, CountsStall};
 ghost use Rattle.outside.specs.Bytes.{Writes};
-ghost use Rattle.outside.specs.Calls.{outcome_of, times_listed};
-ghost use Rattle.outside.specs.Outgoing.{EndsWrite};
+ghost use Rattle.outside.specs.Calls.{no_call_yet, outcome_of, times_listed};
+ghost use Rattle.outside.specs.Outgoing.{nothing_written, EndsWrite};
 ghost use Rattle.outside.specs.Memory.{sink_after};
 
 use super::outgoing::Outgoing;
@@ -34,7 +34,8 @@ impl MemorySink {
     /// The calls whose numbers, counted from 1, stand in `fails` fail. Where a number stands there twice, the write
     /// takes nothing instead, if its piece isn't empty.
     pub fn new(alloc: Global, fails: Vec<u64>) -> Result<MemorySink, AllocError>
-        ensures { IfOk result (λ s. s ≡ record { calls = record { fails = fails.items; made = 0 }; output = record { written = []; faults = 0; stalls = 0 } }) }
+        ensures calls { IfOk result (λ s. s.calls ≡ no_call_yet fails.items) }
+        ensures output { IfOk result (λ s. s.output ≡ nothing_written) }
     {
         Ok(MemorySink {
             schedule: Schedule::new(fails),

@@ -3,7 +3,7 @@ ghost use Rattle.std.specs.Prelude.{◌≡◌, ℕ, List, Option, Some, IfOk};
 ghost use Rattle.std.specs.Io.{ReadsAtMost};
 ghost use Rattle.outside.specs.Causes.{HasCause};
 ghost use Rattle.outside.specs.Bytes.{Reads};
-ghost use Rattle.outside.specs.Calls.{outcome_of, times_listed};
+ghost use Rattle.outside.specs.Calls.{no_call_yet, outcome_of, times_listed};
 ghost use Rattle.outside.specs.Memory.{EndsRead, source_after};
 
 use super::incoming::Unread;
@@ -32,7 +32,9 @@ impl Model for MemorySource {
 impl MemorySource {
     /// A source that gives `bytes`. The calls whose numbers, counted from 1, stand in `fails` fail.
     pub fn new(_alloc: Global, bytes: Vec<u8>, fails: Vec<u64>) -> Result<MemorySource, AllocError>
-        ensures { IfOk result (λ s. s ≡ record { calls = record { fails = fails.items; made = 0 }; left = bytes.items; faults = 0 }) }
+        ensures calls { IfOk result (λ s. s.calls ≡ no_call_yet fails.items) }
+        ensures left { IfOk result (λ s. s.left ≡ bytes.items) }
+        ensures faults { IfOk result (λ s. s.faults ≡ 0) }
     {
         Ok(MemorySource {
             schedule: Schedule::new(fails),
