@@ -13,3 +13,6 @@ pub mod world;
 
 pub use asked::Asked;
 pub use world::Core;
+
+#[cfg(test)]
+mod tests;
