@@ -5,11 +5,14 @@ pub mod asked;
 pub mod forms;
 pub mod laws;
 pub mod plan;
-mod refusals;
-mod replies;
+pub mod refusals;
+pub mod replies;
 mod requests;
 pub mod rows;
 pub mod world;
 
 pub use asked::Asked;
 pub use world::Core;
+
+#[cfg(test)]
+mod tests;

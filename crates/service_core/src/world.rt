@@ -148,7 +148,7 @@ impl Core {
     {
         match self.commit(plan) {
             Some(answer) => Told::Made(answer),
-            None => Told::Standin(Standin::Memory),
+            None => unreachable!(),
         }
     }
 
