@@ -4,3 +4,6 @@ pub mod RequestLaws
 pub mod StreamLaws
 pub mod DigitLaws
 pub mod AnnouncedLaws
+pub mod BufferLaws
+pub mod HeadSearchLaws
+pub mod BodyLaws

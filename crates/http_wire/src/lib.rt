@@ -4,8 +4,11 @@
 //! read: a POST to one route with a Content-Length.
 #![tactic(auto)]
 
+mod body;
+mod buffer;
 mod fields;
 mod head_scan;
+mod head_search;
 mod message;
 mod out;
 mod reply_head;
