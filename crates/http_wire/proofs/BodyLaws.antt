@@ -82,9 +82,9 @@ part_between xs head len fits =
     let n : head + len - head ≡ len = omega arith in
     sym (take-append-drop head xs)
     ∙ ap (λ x. take head xs ++ x)
-        (sym (take-append-drop len (drop head xs))
-        ∙ ap (λ x. take len (drop head xs) ++ x) (drop-drop len head xs)
-        ∙ ap (λ k. take k (drop head xs) ++ drop (head + len) xs) (sym n))
+    (sym (take-append-drop len (drop head xs))
+    ∙ ap (λ x. take len (drop head xs) ++ x) (drop-drop len head xs)
+    ∙ ap (λ k. take k (drop head xs) ++ drop (head + len) xs) (sym n))
 
 -- all of the body was held
 pub taken_held : (held now : List ℕ) (left : Option (List ℕ)) (head len : ℕ) (v : Vec ℕ) → head + len ≤ length held → v.items ≡ slice_range held head (head + len)
@@ -94,11 +94,13 @@ taken_held held now left head len v fits is after =
     record {
       got = [];
       gave = gave_nothing left;
-      answer = (ap length is ∙ count,
-          append-nil held ∙ part_between held head len fits
-          ∙ ap (λ x. take head held ++ (x ++ drop (head + len) held)) (sym is)
-          ∙ ap (λ x. take head held ++ (v.items ++ x)) (sym after)
-          ∙ ap (λ x. take head x ++ (v.items ++ now)) (sym (append-nil held)));
+      answer = (
+        ap length is ∙ count,
+        append-nil held ∙ part_between held head len fits
+            ∙ ap (λ x. take head held ++ (x ++ drop (head + len) held)) (sym is)
+            ∙ ap (λ x. take head held ++ (v.items ++ x)) (sym after)
+            ∙ ap (λ x. take head x ++ (v.items ++ now)) (sym (append-nil held)),
+      );
     }
 
 -- the rest of the body was read
@@ -113,12 +115,14 @@ taken_read held now start body had left head stored len done v low is front coun
     record {
       got = f.got;
       gave = f.gave;
-      answer = (ap length same ∙ count,
-          ap (λ x. x ++ f.got) (sym (take-append-drop head held)) ∙ append_assoc (take head held) (drop head held) f.got
-          ∙ ap (λ x. take head held ++ x) (sym (append-nil (drop head held ++ f.got)))
-          ∙ ap (λ x. take head held ++ (x ++ [])) (sym items)
-          ∙ ap (λ x. take head held ++ (v.items ++ x)) (sym nothing)
-          ∙ ap (λ x. x ++ (v.items ++ now)) (sym (take-append-le head held f.got low)));
+      answer = (
+        ap length same ∙ count,
+        ap (λ x. x ++ f.got) (sym (take-append-drop head held)) ∙ append_assoc (take head held) (drop head held) f.got
+            ∙ ap (λ x. take head held ++ x) (sym (append-nil (drop head held ++ f.got)))
+            ∙ ap (λ x. take head held ++ (x ++ [])) (sym items)
+            ∙ ap (λ x. take head held ++ (v.items ++ x)) (sym nothing)
+            ∙ ap (λ x. x ++ (v.items ++ now)) (sym (take-append-le head held f.got low)),
+      );
     }
 
 -- the rest of the body didn't come

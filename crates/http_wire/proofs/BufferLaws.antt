@@ -47,7 +47,7 @@ pub filled_part : (items b1 r1 b2 r2 last held : List ℕ) (from to f t n : ℕ)
 filled_part items b1 r1 b2 r2 last held from to f t n had left view b1_is same b2_is kept last_is low fits gave at_end =
     let before = ap (λ x. slice_range x f t) b2_is ∙ same ∙ ap (λ x. slice_range x from to) b1_is ∙ view in
     let behind : slice_range last f (t + n) ≡ held ++ take n (drop t r2) =
-        ap (λ x. slice_range x f (t + n)) last_is ∙ longer_part r2 b2 f t n low (omega arith) kept ∙ ap (λ x. x ++ take n (drop t r2)) before in
+    ap (λ x. slice_range x f (t + n)) last_is ∙ longer_part r2 b2 f t n low (omega arith) kept ∙ ap (λ x. x ++ take n (drop t r2)) before in
     let count : length (take n (drop t r2)) ≡ n = simp (length-take, length-drop) (omega arith) in
     record {
       read = record { got = take n (drop t r2); gave = gave; behind = behind };

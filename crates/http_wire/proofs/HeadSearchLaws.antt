@@ -39,12 +39,14 @@ ended bytes p left true e passed less short end =
     let scanned = passed.scanned in
     (nil_from_length bytes (sym scanned ∙ none), end)
 ended bytes p left false e passed less short end =
-    let scanned = passed.scanned in
-    (record {
-      some = λ nothing. eqb-false p.scanned 0 e (scanned ∙ ap length nothing);
-      count = scanned;
-      inside = inl ((omega (arith, scanned, less, short)), no_head_passed bytes p passed);
-    }, end)
+    let scanned = passed.scanned in (
+      record {
+        some = λ nothing. eqb-false p.scanned 0 e (scanned ∙ ap length nothing);
+        count = scanned;
+        inside = inl ((omega (arith, scanned, less, short)), no_head_passed bytes p passed);
+      },
+      end,
+    )
 
 pub ended_passed : (bytes now : List ℕ) (p : Progress) (had left : Option (List ℕ)) (count : ℕ) (r : Result (Option HeadEnd) WireFault) → Passed bytes p → p.scanned ≢ head_limit
     → length bytes ≤ head_limit → IsFilled bytes had count now left → count ≡ 0 → r ≡ cond (nat_eq p.scanned 0) (Ok None) (Err (CutShort p.scanned))
@@ -52,9 +54,9 @@ pub ended_passed : (bytes now : List ℕ) (p : Progress) (had left : Option (Lis
 ended_passed bytes now p had left count r passed less short filled none is =
     let many = filled.many in
     let nothing : length filled.read.got ≡ 0 =
-        let both : length now ≡ length bytes + length filled.read.got = ap length filled.read.behind ∙ length-append bytes filled.read.got in
-        omega (arith, both, many, none) in
+    let both : length now ≡ length bytes + length filled.read.got = ap length filled.read.behind ∙ length-append bytes filled.read.got in
+    omega (arith, both, many, none) in
     let same : now ≡ bytes = filled.read.behind ∙ ap (λ x. bytes ++ x) (nil_from_length filled.read.got nothing) ∙ append-nil bytes in
     subst (λ x. IsHeadAnswer now left x) (sym is)
     (subst (λ x. IsHeadAnswer x left (cond (nat_eq p.scanned 0) (Ok None) (Err (CutShort p.scanned)))) (sym same)
-        (ended bytes p left (nat_eq p.scanned 0) refl passed less short (filled.at_end none)))
+    (ended bytes p left (nat_eq p.scanned 0) refl passed less short (filled.at_end none)))

@@ -7,3 +7,4 @@ pub mod AnnouncedLaws
 pub mod BufferLaws
 pub mod HeadSearchLaws
 pub mod BodyLaws
+pub mod NextLaws

@@ -3,11 +3,10 @@ ghost use Rattle.std.specs.Prelude.{◌≡◌, ◌+◌, ◌<◌, ◌≤◌, ◌+
 ghost use Rattle.http_wire.specs.Held.{CountsRead};
 ghost use Rattle.http_wire.specs.Reads.{BodyTaken, BodyFilled};
 
-use std::alloc::{AllocError, Global};
-
 use crate::buffer::{Buffer, read_at};
 use crate::message::WireFault;
 use outside::Link;
+use std::alloc::{AllocError, Global};
 
 /// Takes the body of so many bytes from behind a head of so many.
 ///
@@ -53,7 +52,12 @@ fn begun(alloc: Global, front: &[u8], len: usize) -> Result<Vec<u8>, AllocError>
 }
 
 /// Reads what a body lacks, of which `stored` bytes are there behind a head of `head` bytes.
-fn fill_body<L: Link>(link: &mut L, body: &mut [u8], stored: usize, head: usize) -> Result<(), WireFault>
+fn fill_body<L: Link>(
+    link: &mut L,
+    body: &mut [u8],
+    stored: usize,
+    head: usize,
+) -> Result<(), WireFault>
     requires stored { stored ≤ length body.old }
     requires fits { head + length body.old < 2 ^ 64 }
     ensures filled { BodyFilled body.old (L.left link.old) stored head result body.new (L.left link.new) }

@@ -5,11 +5,10 @@ ghost use Rattle.http_wire.specs.Head.{head_limit};
 ghost use Rattle.http_wire.specs.Held.{CountsRead};
 ghost use Rattle.http_wire.specs.Reads.{IsFilled};
 
-use std::alloc::{AllocError, Global};
-use std::marker::Model;
-
 use crate::message::WireFault;
 use outside::Link;
+use std::alloc::{AllocError, Global};
+use std::marker::Model;
 
 /// The most bytes that a head has, and so the most that are held.
 pub const HEAD_LIMIT: usize = 16384;

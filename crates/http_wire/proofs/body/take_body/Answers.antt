@@ -28,10 +28,10 @@ returns-clause-taken g c =
     let s2 = c.as_slice-2.result.now in
     let kept : take (length (slice_range s2 head (length s2))) c.in_ok-body-2.body.items ≡ slice_range s2 head (length s2) = c.in_ok-body-2.ensures.front in
     let part : slice_range s2 head (length s2) ≡ drop head held =
-        between_to_end s2 head (length s2) (omega arith) ∙ ap (λ x. drop head x) c.as_slice-2.ensures.value in
+    between_to_end s2 head (length s2) (omega arith) ∙ ap (λ x. drop head x) c.as_slice-2.ensures.value in
     let count : length (slice_range s2 head (length s2)) ≡ stored = ap length part ∙ length-drop head held ∙ sym is in
     let front : take stored c.as_mut_slice.result.now ≡ drop head held =
-        ap (λ x. take stored x) c.as_mut_slice.ensures.value ∙ ap (λ n. take n c.in_ok-body-2.body.items) (sym count) ∙ kept ∙ part in
+    ap (λ x. take stored x) c.as_mut_slice.ensures.value ∙ ap (λ n. take n c.in_ok-body-2.body.items) (sym count) ∙ kept ∙ part in
     let start = ap length c.as_mut_slice.ensures.value in
     let len : length c.fill_body.new.body ≡ c.args.len = omega (arith, c.in_ok-body-2.ensures.len, start) in
     taken_read held c.advance-2.new.self c.as_mut_slice.result.now c.fill_body.new.body (g.L.Link.left c.args.link.now) (g.L.Link.left c.fill_body.new.link)

@@ -26,7 +26,9 @@ returns-in_err-count-clause-nothing g c =
     let once : (with_items room r1).items ≡ r1 = with_items_is room r1 (omega arith) in
     let twice : (with_items (with_items room r1) r2).items ≡ r2 = with_items_is (with_items room r1) r2 (omega arith) in
     let err = c.in_err-count.ensures in
-    on_err c.from_residual.result _
-    (moved_part room.items c.as_mut_slice.result.now r1 c.as_mut_slice-2.result.now r2 (with_items (with_items room r1) r2).items c.args.self.now
-    c.self.inside.from c.self.inside.to c.with_room_behind-from.result.0 c.with_room_behind-from.result.1
-    c.self.view_is c.as_mut_slice.ensures.value c.with_room_behind-from.ensures.same (c.as_mut_slice-2.ensures.value ∙ once) err.kept twice, err.nothing)
+    on_err c.from_residual.result _ (
+      moved_part room.items c.as_mut_slice.result.now r1 c.as_mut_slice-2.result.now r2 (with_items (with_items room r1) r2).items c.args.self.now
+          c.self.inside.from c.self.inside.to c.with_room_behind-from.result.0 c.with_room_behind-from.result.1
+          c.self.view_is c.as_mut_slice.ensures.value c.with_room_behind-from.ensures.same (c.as_mut_slice-2.ensures.value ∙ once) err.kept twice,
+      err.nothing,
+    )
