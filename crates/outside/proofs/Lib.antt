@@ -1,3 +1,4 @@
 pub mod CountLaws
 pub mod Taken
 pub mod Progress
+pub mod FirstPiece

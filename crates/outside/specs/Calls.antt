@@ -1,5 +1,6 @@
 -- The calls on an end in memory, and how each of them is to end.
-use Rattle.std.specs.Prelude.{ℕ, zero, suc, ◌+◌, ◌-◌, ◌^◌, ◌==◌, min, List, count_by}
+use Rattle.std.specs.Prelude.{ℕ, zero, suc, ◌==◌, List, count_by}
+use Rattle.outside.specs.Causes.{counted}
 use Rattle.outside.specs.declared.memory.schedule.Outcome.{Outcome}
 use Rattle.outside.specs.declared.memory.schedule.Outcome.TheVariants.{Works, Fails, Stalls}
 
@@ -8,9 +9,9 @@ pub record Calls : Type 0 where
   pub fails : List ℕ
   pub made : ℕ
 
--- One more, but the greatest u64 stays.
-abbrev pub counted : ℕ → ℕ
-counted n = min (n + 1) (2 ^ 64 - 1)
+-- No call was made yet.
+abbrev pub no_call_yet : List ℕ → Calls
+no_call_yet fails = record { fails = fails; made = 0 }
 
 abbrev pub one_call_more : Calls → Calls
 one_call_more calls = record calls { made = counted calls.made }

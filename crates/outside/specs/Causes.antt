@@ -1,9 +1,13 @@
 -- Counts of what failed, and the answers that they license.
 use Rattle.std.specs.Prelude.{◌≡◌, ℕ, zero, suc, ◌+◌, ◌-◌, ◌^◌, ◌≤◌, min, List, [], ◌∷◌, Result, Ok, Err, OnErr}
 
--- The count rose by one at least, or stands at the greatest u64, where a count stays.
+-- One more, but the greatest u64 stays.
+abbrev pub counted : ℕ → ℕ
+counted n = min (n + 1) (2 ^ 64 - 1)
+
+-- The count rose by one at least, or stands at the greatest u64.
 abbrev pub Rose : ℕ → ℕ → Type 0
-Rose before now = min (before + 1) (2 ^ 64 - 1) ≤ now
+Rose before now = counted before ≤ now
 
 -- The count never falls, and a failed call raised it.
 pub record HasCause {T E : Type 0} (before now : ℕ) (result : Result T E) : Type 0 where

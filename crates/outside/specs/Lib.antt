@@ -2,3 +2,9 @@ pub mod Causes
 pub mod Bytes
 pub mod Whole
 pub mod Calls
+pub mod Incoming
+pub mod Outgoing
+pub mod Memory
+pub mod Moments
+pub mod StreamCounts
+pub mod Streams

@@ -1,6 +1,12 @@
 // What time it is.
 ghost use Rattle.std.specs.Prelude.{ℤ, ◌≡◌, List, ◌∷◌};
 
+mod list;
+mod wall;
+
+pub use list::ListClock;
+pub use wall::WallClock;
+
 /// A clock, in microseconds since 1970-01-01T00:00:00Z.
 ///
 /// `tells` says of a state and a list of numbers that the next answers from there begin with this list.

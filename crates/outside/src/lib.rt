@@ -10,16 +10,24 @@ mod memory;
 mod pair;
 mod sink;
 mod source;
+mod standard;
+mod stream;
 mod whole;
 
-pub use clock::Clock;
+pub use clock::{Clock, ListClock, WallClock};
 pub use counts::counts_add_up;
 pub use link::Link;
+pub use memory::{MemoryLink, MemorySink, MemorySource};
 pub use pair::PairLink;
 pub use sink::Sink;
 pub use source::Source;
+pub use standard::{Standard, StdErr, StdIn, StdOut};
+pub use stream::{StreamSink, StreamSource};
 pub use whole::{WriteEnd, put_whole, write_whole};
 
 /// A call on the outside failed. The object that answers it counts it in its `faults`.
 #[derive(Clone, Copy, Debug)]
 pub struct Failed;
+
+#[cfg(test)]
+mod tests;

@@ -1,3 +1,12 @@
 //! Ends in memory, for tests.
 
-pub(crate) mod schedule;
+mod incoming;
+mod link;
+mod outgoing;
+mod schedule;
+mod sink;
+mod source;
+
+pub use link::MemoryLink;
+pub use sink::MemorySink;
+pub use source::MemorySource;

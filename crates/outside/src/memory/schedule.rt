@@ -1,6 +1,6 @@
 // Which calls on an end in memory are to fail.
 ghost use Rattle.std.specs.Prelude.{◌≡◌};
-ghost use Rattle.outside.specs.Calls.{Calls, one_call_more, times_listed, outcome_of};
+ghost use Rattle.outside.specs.Calls.{no_call_yet, one_call_more, times_listed, outcome_of};
 
 use std::marker::Model;
 
@@ -30,7 +30,7 @@ impl Model for Schedule {
 
 impl Schedule {
     pub fn new(fails: Vec<u64>) -> Schedule
-        ensures { result ≡ record { fails = fails.items; made = 0 } }
+        ensures { result ≡ no_call_yet fails.items }
     {
         Schedule { fails, calls: 0 }
     }

@@ -1,0 +1,53 @@
+-- What contracts see of the ends in memory.
+use Rattle.std.specs.Prelude.{◌≡◌, ℕ, List, min, length, drop, Result, Ok, Err, IfOk}
+use Rattle.outside.specs.Causes.{counted}
+use Rattle.outside.specs.Calls.{Calls, one_call_more}
+use Rattle.outside.specs.Incoming.{pieces_after}
+use Rattle.outside.specs.Outgoing.{Output, output_after}
+use Rattle.outside.specs.declared.Failed.{Failed}
+use Rattle.outside.specs.declared.memory.schedule.Outcome.{Outcome}
+use Rattle.outside.specs.declared.memory.schedule.Outcome.TheVariants.{Works, Fails, Stalls}
+
+-- A source: its calls, the bytes that are left, and how many reads failed.
+pub record SourceState : Type 0 where
+  pub calls : Calls
+  pub left : List ℕ
+  pub faults : ℕ
+
+-- A sink: its calls, and what it took.
+pub record SinkState : Type 0 where
+  pub calls : Calls
+  pub output : Output
+
+-- A link: its calls, the pieces that are left, none of them empty, how many reads failed, and what it took.
+pub record LinkState : Type 0 where
+  pub calls : Calls
+  pub pieces : List (List ℕ)
+  pub read_faults : ℕ
+  pub output : Output
+
+-- A read that works gives as many of the bytes at hand as fit into the room. Every other read fails.
+abbrev pub EndsRead : Outcome → List ℕ → List ℕ → Result ℕ Failed → Type 0
+EndsRead Works at_hand room result = result ≡ Ok (min (length at_hand) (length room))
+EndsRead Fails at_hand room result = IfOk result (λ count. ⊥)
+EndsRead Stalls at_hand room result = IfOk result (λ count. ⊥)
+
+abbrev pub source_after : SourceState → Result ℕ Failed → SourceState
+source_after source (Ok count) =
+    record source { calls = one_call_more source.calls; left = drop count source.left }
+source_after source (Err e) =
+    record source { calls = one_call_more source.calls; faults = counted source.faults }
+
+abbrev pub sink_after : SinkState → List ℕ → Result ℕ Failed → SinkState
+sink_after sink piece result =
+    record { calls = one_call_more sink.calls; output = output_after sink.output piece result }
+
+abbrev pub link_after_read : LinkState → Result ℕ Failed → LinkState
+link_after_read link (Ok count) =
+    record link { calls = one_call_more link.calls; pieces = pieces_after count link.pieces }
+link_after_read link (Err e) =
+    record link { calls = one_call_more link.calls; read_faults = counted link.read_faults }
+
+abbrev pub link_after_write : LinkState → List ℕ → Result ℕ Failed → LinkState
+link_after_write link piece result =
+    record link { calls = one_call_more link.calls; output = output_after link.output piece result }

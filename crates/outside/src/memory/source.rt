@@ -1,0 +1,74 @@
+// A source in memory.
+ghost use Rattle.std.specs.Prelude.{◌≡◌, ℕ, List, Option, Some, IfOk};
+ghost use Rattle.std.specs.Io.{ReadsAtMost};
+ghost use Rattle.outside.specs.Causes.{HasCause};
+ghost use Rattle.outside.specs.Bytes.{Reads};
+ghost use Rattle.outside.specs.Calls.{no_call_yet, outcome_of, times_listed};
+ghost use Rattle.outside.specs.Memory.{EndsRead, source_after};
+
+use super::incoming::Unread;
+use super::schedule::{Outcome, Schedule};
+use crate::counts::Count;
+use crate::{Failed, Source};
+use std::alloc::{AllocError, Global};
+use std::marker::Model;
+
+/// A source of bytes in memory, some of whose calls fail.
+#[derive(Drop)]
+pub struct MemorySource {
+    schedule: Schedule,
+    unread: Unread,
+    faults: Count,
+}
+
+impl Model for MemorySource {
+    ghost use Rattle.outside.specs.Memory.{SourceState};
+
+    ghost Value = { SourceState };
+
+    ghost view = { λ s. record { calls = s.schedule; left = s.unread; faults = s.faults } };
+}
+
+impl MemorySource {
+    /// A source that gives `bytes`. The calls whose numbers, counted from 1, stand in `fails` fail.
+    pub fn new(_alloc: Global, bytes: Vec<u8>, fails: Vec<u64>) -> Result<MemorySource, AllocError>
+        ensures calls { IfOk result (λ s. s.calls ≡ no_call_yet fails.items) }
+        ensures left { IfOk result (λ s. s.left ≡ bytes.items) }
+        ensures faults { IfOk result (λ s. s.faults ≡ 0) }
+    {
+        Ok(MemorySource {
+            schedule: Schedule::new(fails),
+            unread: Unread::new(bytes),
+            faults: Count::new(),
+        })
+    }
+
+    /// How many reads failed.
+    pub fn faults(&self) -> u64
+        ensures { result ≡ self.now.faults }
+    {
+        self.faults.value()
+    }
+}
+
+impl Source for MemorySource {
+    ghost use Rattle.std.specs.Prelude.{Some};
+
+    ghost faults = { λ s. s.faults };
+
+    ghost left = { λ s. Some s.left };
+
+    /// Gives as many bytes as fit, or fails where the call is listed.
+    fn read(&mut self, room: &mut [u8]) -> Result<usize, Failed>
+        ensures bound { ReadsAtMost result room.new }
+        ensures cause { HasCause self.old.faults self.new.faults result }
+        ensures gives { Reads (Some self.old.left) room.new result (Some self.new.left) }
+        ensures ends { EndsRead (outcome_of (times_listed self.old.calls)) self.old.left room.new result }
+        ensures after { self.new ≡ source_after self.old result }
+    {
+        match self.schedule.next_outcome() {
+            Outcome::Works => Ok(self.unread.give(room)),
+            Outcome::Fails | Outcome::Stalls => self.faults.failed(),
+        }
+    }
+}

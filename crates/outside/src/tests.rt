@@ -1,0 +1,202 @@
+// What the ends give and take, call by call.
+ghost use Rattle.std.specs.Prelude.{◌≡◌, [], length, IfOk};
+ghost use Rattle.outside.specs.Whole.{CountsFault};
+
+use crate::*;
+use std::process::Abort;
+use std::test::Fail;
+
+/// A call, and the answer that is expected: `None` where the call is to fail.
+enum Step<'a> {
+    /// A read into room of this size, and the bytes that it gives.
+    Read(usize, Option<&'a [u8]>),
+    /// A write of this piece, and how many bytes it takes.
+    Write(&'a [u8], Option<usize>),
+}
+
+fn check_read(
+    rt: &impl Abort,
+    answer: Result<usize, Failed>,
+    room: &[u8],
+    expected: Option<&[u8]>,
+) {
+    match expected {
+        None => assert!(rt; answer.is_err()),
+        Some(bytes) => {
+            assert_eq!(rt; answer.ok(), Some(bytes.len()));
+            let end = bytes.len().min(room.len());
+            assert_eq!(rt; &room[..end], bytes);
+        }
+    }
+}
+
+fn check_steps<L: Link>(rt: &impl Abort, link: &mut L, steps: &[Step<'_>]) {
+    for step in steps {
+        match step {
+            Step::Read(size, expected) => {
+                let mut room = [0u8; 8];
+                let size = (*size).min(8);
+                let answer = link.read(&mut room[..size]);
+                check_read(rt, answer, &room, *expected);
+            }
+            Step::Write(piece, expected) => {
+                let answer = link.write(piece);
+                assert_eq!(rt; answer.ok(), *expected);
+            }
+        }
+    }
+}
+
+const LINK_STEPS: [Step<'static>; 11] = [
+    Step::Read(8, Some(b"ab")),
+    Step::Read(2, Some(b"cd")),
+    Step::Read(8, None),
+    Step::Write(b"xy", Some(2)),
+    Step::Write(b"z", Some(0)),
+    Step::Write(b"z", Some(1)),
+    Step::Read(8, None),
+    Step::Read(8, Some(b"e")),
+    Step::Read(8, Some(b"")),
+    Step::Write(b"!", None),
+    Step::Write(b"", None),
+];
+
+#[test]
+fn link_in_memory_keeps_cuts_and_counts(rt: HostRuntime) -> Result<(), Fail> {
+    let pieces = vec![in rt.alloc();
+        b"ab".to_vec(rt.alloc())?,
+        Vec::new(rt.alloc()),
+        b"cde".to_vec(rt.alloc())?,
+    ]?;
+    let fails = vec![in rt.alloc(); 3, 5, 5, 7, 7, 10, 11, 11]?;
+    let mut link = MemoryLink::new(rt.alloc(), pieces, fails)?;
+    check_steps(&rt, &mut link, &LINK_STEPS);
+    assert_eq!(rt; link.written(), b"xyz".as_slice());
+    assert_eq!(rt; link.read_faults(), 2);
+    assert_eq!(rt; link.write_faults(), 2);
+    assert_eq!(rt; link.stalls(), 1);
+    Ok(())
+}
+
+const PAIR_STEPS: [Step<'static>; 7] = [
+    Step::Read(4, Some(b"abcd")),
+    Step::Read(4, None),
+    Step::Write(b"uv", Some(2)),
+    Step::Read(4, Some(b"ef")),
+    Step::Write(b"w", None),
+    Step::Write(b"w", Some(0)),
+    Step::Read(4, Some(b"")),
+];
+
+#[test]
+fn pair_reads_its_source_and_writes_its_sink(rt: HostRuntime) -> Result<(), Fail> {
+    let bytes = b"abcdef".to_vec(rt.alloc())?;
+    let mut source = MemorySource::new(rt.alloc(), bytes, vec![in rt.alloc(); 2]?)?;
+    let mut sink = MemorySink::new(rt.alloc(), vec![in rt.alloc(); 2, 3, 3]?)?;
+    check_steps(&rt, &mut PairLink::new(&mut source, &mut sink), &PAIR_STEPS);
+    assert_eq!(rt; sink.written(), b"uv".as_slice());
+    assert_eq!(rt; (source.faults(), sink.faults(), sink.stalls()), (1, 1, 1));
+    Ok(())
+}
+
+/// Whoever writes through a pair learns that the source stays as it was, and which count of the sink rose.
+fn write_beside<I: Source, O: Sink>(
+    source: &mut I,
+    sink: &mut O,
+    bytes: &[u8],
+) -> Result<(), WriteEnd>
+    ensures source_faults { I.faults source.new ≡ I.faults source.old }
+    ensures source_left { I.left source.new ≡ I.left source.old }
+    ensures sink_faults { CountsFault (O.faults sink.old) result (O.faults sink.new) }
+{
+    write_whole(&mut PairLink::new(source, sink), bytes)
+}
+
+/// A sink with no call that is to fail takes the whole piece, unless there is no memory for it.
+fn take_piece(sink: &mut MemorySink, piece: &[u8]) -> Result<usize, Failed>
+    requires { sink.old.calls.fails ≡ [] }
+    ensures { IfOk result (λ count. count ≡ length piece.now) }
+{
+    sink.write(piece)
+}
+
+#[test]
+fn callers_learn_of_their_ends(rt: HostRuntime) -> Result<(), Fail> {
+    let mut source = MemorySource::new(rt.alloc(), Vec::new(rt.alloc()), Vec::new(rt.alloc()))?;
+    let mut sink = MemorySink::new(rt.alloc(), Vec::new(rt.alloc()))?;
+    assert!(rt; take_piece(&mut sink, b"ab").is_ok());
+    assert_eq!(rt; write_beside(&mut source, &mut sink, b"cd"), Ok(()));
+    assert_eq!(rt; sink.written(), b"abcd".as_slice());
+    Ok(())
+}
+
+/// A sink that takes one byte a call.
+#[derive(Drop)]
+struct OneByOne {
+    taken: u64,
+}
+
+impl Sink for OneByOne {
+    ghost use Rattle.std.specs.Prelude.{None};
+
+    ghost faults = { λ _. 0 };
+
+    ghost stalls = { λ _. 0 };
+
+    ghost written = { λ _. None };
+
+    fn write(&mut self, piece: &[u8]) -> Result<usize, Failed> {
+        let count = piece.len().min(1);
+        self.taken = self.taken.saturating_add(count as u64);
+        Ok(count)
+    }
+}
+
+#[test]
+fn whole_writes_go_on_and_tell_their_end(rt: HostRuntime) -> Result<(), Fail> {
+    let mut one_by_one = OneByOne { taken: 0 };
+    assert_eq!(rt; put_whole(&mut one_by_one, b"abc"), Ok(()));
+    assert_eq!(rt; one_by_one.taken, 3);
+    let mut sink = MemorySink::new(rt.alloc(), vec![in rt.alloc(); 2, 3, 3]?)?;
+    assert_eq!(rt; put_whole(&mut sink, b"abc"), Ok(()));
+    assert_eq!(rt; put_whole(&mut sink, b"d"), Err(WriteEnd::WriteFault));
+    let mut link = MemoryLink::new(rt.alloc(), Vec::new(rt.alloc()), vec![in rt.alloc(); 2, 2]?)?;
+    assert_eq!(rt; write_whole(&mut link, b"abc"), Ok(()));
+    assert_eq!(rt;
+        write_whole(&mut link, b"d"),
+        Err(WriteEnd::SinkTakesNothing)
+    );
+    assert_eq!(rt;
+        (sink.written(), link.written()),
+        (b"abc".as_slice(), b"abc".as_slice())
+    );
+    counts_add_up();
+    Ok(())
+}
+
+#[test]
+fn clocks_answer(rt: HostRuntime) -> Result<(), Fail> {
+    let mut listed = ListClock::new(rt.alloc(), vec![in rt.alloc(); 5, -7]?)?;
+    for moment in [5, -7, -7, -7] {
+        assert_eq!(rt; listed.now(), moment);
+    }
+    let start_of_2020 = 1_577_836_800_000_000;
+    assert!(rt; WallClock::new(&rt).now() > start_of_2020);
+    Ok(())
+}
+
+#[test]
+fn standard_streams_take_and_give_nothing(rt: HostRuntime) {
+    let mut input = StdIn::new(rt.stdin());
+    assert!(rt; input.read(&mut []).is_ok());
+    assert_eq!(rt; input.faults(), 0);
+    for mut stream in [
+        Standard::Out(StdOut::new(rt.stdout())),
+        Standard::Err(StdErr::new(rt.stderr())),
+    ] {
+        assert!(rt; stream.write(b"").is_ok());
+    }
+    let mut output = StdOut::new(rt.stdout());
+    assert!(rt; output.write(b"").is_ok());
+    assert_eq!(rt; (output.faults(), output.stalls()), (0, 0));
+}
