@@ -8,3 +8,4 @@ pub mod BufferLaws
 pub mod HeadSearchLaws
 pub mod BodyLaws
 pub mod NextLaws
+pub mod PlainLaws

@@ -38,6 +38,9 @@ front_at bytes n k e =
       ends = subst (λ z. head_end z ≡ Some (length z, k)) (sym same) (ap head_end (sym (append-nil x.0)) ∙ end_of_head x.0 [] k x.4);
     }
 
+pub front_short : (bytes : List ℕ) (n k : ℕ) → Front bytes n k → length bytes ≤ head_limit → n ≤ head_limit
+front_short bytes n k f small = let fits = f.fits in omega (arith, fits, small)
+
 -- an answer to what was read so far
 pub answered : (held bytes now : List ℕ) (had left : Option (List ℕ)) (r : Result (Option Message) WireFault) → IsRead held had bytes left
     → IsAnswer bytes r left now → Answered held had r left now
@@ -65,27 +68,27 @@ answered_head_fault held bytes now had left e r read a is =
 
 -- ---- a head of another form
 
-pub other_head : (bytes : List ℕ) (n k : ℕ) → Front bytes n k → length bytes ≤ head_limit → NotAnnounced (take n bytes) → IsUnread bytes
+pub other_head : (bytes : List ℕ) (n k : ℕ) → Front bytes n k → n ≤ head_limit → NotAnnounced (take n bytes) → IsUnread bytes
 other_head bytes n k f small other = inl (record {
   text = take n bytes;
   rest = drop n bytes;
   count = k;
   parts = sym (take-append-drop n bytes);
   head = f.head;
-  short = let many = f.many in let fits = f.fits in omega (arith, many, fits, small);
+  short = let many = f.many in omega (arith, many, small);
   other = λ h len a e. other len (record { h = h; head = a.head; form = a.form; printed = e });
 })
 
 -- ---- a head of the form
 
-announces : (bytes : List ℕ) (n k len : ℕ) → Front bytes n k → length bytes ≤ head_limit → (a : Announced (take n bytes) len) → Announces a.h len
+pub announces : (bytes : List ℕ) (n k len : ℕ) → Front bytes n k → n ≤ head_limit → (a : Announced (take n bytes) len) → Announces a.h len
 announces bytes n k len f small a = record {
   head = a.head;
   form = a.form;
-  short = let printed = ap length a.printed in let many = f.many in let fits = f.fits in omega (arith, printed, many, fits, small);
+  short = let printed = ap length a.printed in let many = f.many in omega (arith, printed, many, small);
 }
 
-lacks : (bytes more : List ℕ) (n k len : ℕ) → Front bytes n k → length bytes ≤ head_limit → Announced (take n bytes) len → length (bytes ++ more) < n + len → LacksBody (bytes ++ more)
+pub lacks : (bytes more : List ℕ) (n k len : ℕ) → Front bytes n k → n ≤ head_limit → Announced (take n bytes) len → length (bytes ++ more) < n + len → LacksBody (bytes ++ more)
 lacks bytes more n k len f small a less = record {
   h = a.h;
   len = len;
@@ -99,7 +102,7 @@ lacks bytes more n k len f small a less = record {
       omega (arith, rest, fits, both, less);
 }
 
-some_bytes : (bytes more : List ℕ) (n k : ℕ) → Front bytes n k → (bytes ++ more) ≢ []
+pub some_bytes : (bytes more : List ℕ) (n k : ℕ) → Front bytes n k → (bytes ++ more) ≢ []
 some_bytes bytes more n k f nothing =
     let both : length bytes + length more ≡ 0 = sym (length-append bytes more) ∙ ap length nothing in
     let fits = f.fits in
@@ -107,7 +110,7 @@ some_bytes bytes more n k f nothing =
     let empty : take n bytes ≡ [] = nil_from_length (take n bytes) (omega (arith, both, fits, many)) in
     no_empty_head k (subst (λ z. IsHeadText z k) empty f.head)
 
-body_fault : (bytes more now : List ℕ) (left : Option (List ℕ)) (n k len : ℕ) (e : WireFault) → Front bytes n k → length bytes ≤ head_limit → Announced (take n bytes) len
+body_fault : (bytes more now : List ℕ) (left : Option (List ℕ)) (n k len : ℕ) (e : WireFault) → Front bytes n k → n ≤ head_limit → Announced (take n bytes) len
     → IsBodyAnswer (bytes ++ more) n len now left (Err e) → IsAnswer (bytes ++ more) (Err e) left now
 body_fault bytes more now left n k len (CutShort have) f small a b =
     (record { some = some_bytes bytes more n k f; count = b.0; inside = inr (lacks bytes more n k len f small a b.1) }, b.2)
@@ -116,7 +119,7 @@ body_fault bytes more now left n k len ReadFault f small a b = no_message_where_
 body_fault bytes more now left n k len Memory f small a b = tt
 
 pub answered_body_fault : (held bytes now : List ℕ) (had between left : Option (List ℕ)) (n k len : ℕ) (e : WireFault) (r : Result (Option Message) WireFault)
-    → IsRead held had bytes between → Front bytes n k → length bytes ≤ head_limit → Announced (take n bytes) len
+    → IsRead held had bytes between → Front bytes n k → n ≤ head_limit → Announced (take n bytes) len
     → BodyTaken bytes between n len (Err e) now left → r ≡ Err e → Answered held had r left now
 answered_body_fault held bytes now had between left n k len e r read f small a t is =
     subst (λ z. Answered held had z left now) (sym is)
@@ -128,7 +131,7 @@ answered_memory held bytes now had between left n len v r read t is =
     subst (λ z. Answered held had z left now) (sym is) (answered_more held bytes t.got now had between left (Err Memory) read t.gave tt)
 
 pub answered_message : (held bytes now : List ℕ) (had between left : Option (List ℕ)) (n k len : ℕ) (v : Vec ℕ) (m : Message)
-    → IsRead held had bytes between → Front bytes n k → length bytes ≤ head_limit → Announced (take n bytes) len
+    → IsRead held had bytes between → Front bytes n k → n ≤ head_limit → Announced (take n bytes) len
     → BodyTaken bytes between n len (Ok v) now left → m ≡ message_of v.items → Answered held had (Ok (Some m)) left now
 answered_message held bytes now had between left n k len v m read f small a t means =
     let stream = bytes ++ t.got in

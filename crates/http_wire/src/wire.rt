@@ -101,7 +101,7 @@ fn next_message<L: Link>(
 }
 
 /// The message with a body.
-fn message(alloc: Global, body: Vec<u8>) -> Result<Message, AllocError>
+pub fn message(alloc: Global, body: Vec<u8>) -> Result<Message, AllocError>
     ensures { IfOk result (λ m. m ≡ message_of body.items) }
 {
     let service = Vec::from_slice(alloc, b"luci.resultdb.v1.Recorder")?;
