@@ -39,10 +39,11 @@ IsRoute head r = (span_bytes head r.method ≡ codes "POST") × (span_bytes head
 pub announced_route : (head : List ℕ) (headers : List HeaderSpan) (r : RequestSpans) (h : RequestHead) (len : ℕ) → IsRequestAt head headers r h
     → ReadsRequest head h [] → Announced head len → IsRoute head r
 announced_route head headers r h len at x a =
-    let same = same_head head h len x a in
-    (at.method ∙ ap (λ g. g.method) (sym same) ∙ a.form.method,
-    at.path ∙ ap (λ g. g.target) (sym same) ∙ a.form.target,
-    at.version ∙ ap (λ g. g.minor) (sym same) ∙ a.form.version)
+    let same = same_head head h len x a in (
+      at.method ∙ ap (λ g. g.method) (sym same) ∙ a.form.method,
+      at.path ∙ ap (λ g. g.target) (sym same) ∙ a.form.target,
+      at.version ∙ ap (λ g. g.minor) (sym same) ∙ a.form.version,
+    )
 
 pub not_route : (head : List ℕ) (headers : List HeaderSpan) (r : RequestSpans) (h : RequestHead) (len : ℕ) (b : Bool) → IsRequestAt head headers r h
     → ReadsRequest head h [] → (IsTrue b ↔ IsRoute head r) → b ≡ false → ¬ (Announced head len)

@@ -22,7 +22,7 @@ digit_step bs i number all few h is =
     let low : 48 ≤ b = range.0 in
     let digit : b - 48 ≡ digit_value b = omega (arith, value) in
     let next : number * 10 + (b - 48) ≡ digits_value 10 (take (i + 1) bs) =
-        ap (λ d. number * 10 + d) digit ∙ ap (λ n. n * 10 + digit_value b) is ∙ sym (digits_value_more 10 bs i h) in
+    ap (λ d. number * 10 + d) digit ∙ ap (λ n. n * 10 + digit_value b) is ∙ sym (digits_value_more 10 bs i h) in
     let whole = digits_value-take-le 10 bs (i + 1) (omega arith) in
     let small = digits_value-lt 10 bs all in
     let some : 0 < 10 = omega arith in

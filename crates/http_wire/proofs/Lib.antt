@@ -4,3 +4,8 @@ pub mod RequestLaws
 pub mod StreamLaws
 pub mod DigitLaws
 pub mod AnnouncedLaws
+pub mod BufferLaws
+pub mod HeadSearchLaws
+pub mod BodyLaws
+pub mod NextLaws
+pub mod PlainLaws

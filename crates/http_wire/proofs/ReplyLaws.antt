@@ -99,4 +99,4 @@ head_by_lines status code token close len h0 h1 h2 h3 h4 h5 h6 h7 e0 e1 e2 e3 e4
     (e3 ∙ ap (λ h. h ++ line (codes "X-Prpc-Grpc-Code: " ++ decimal code)) (e2 ∙ ap (λ h. h ++ line (codes "Content-Type: " ++ content_type status))
     (e1 ∙ ap (λ h. h ++ line (codes "HTTP/1.1 " ++ (decimal status ++ (codes " " ++ unwrap_or (reason_phrase status) [])))) e0))))))
     ∙ regroup (line (codes "HTTP/1.1 " ++ (decimal status ++ (codes " " ++ unwrap_or (reason_phrase status) [])))) (line (codes "Content-Type: " ++ content_type status))
-        (line (codes "X-Prpc-Grpc-Code: " ++ decimal code)) (token_line token) (close_line close) (line (codes "Content-Length: " ++ decimal len)) line_end
+    (line (codes "X-Prpc-Grpc-Code: " ++ decimal code)) (token_line token) (close_line close) (line (codes "Content-Length: " ++ decimal len)) line_end

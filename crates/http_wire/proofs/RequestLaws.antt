@@ -107,20 +107,32 @@ first_text h = h.method ++ 32 ∷ (h.target ++ 32 ∷ (print_version h.minor ++ 
 version_no_feed : (minor : ℕ) → NoFeed (print_version minor)
 version_no_feed minor = (
   (λ (e : 72 ≡ 10). omega arith),
-  ((λ (e : 84 ≡ 10). omega arith),
-  ((λ (e : 84 ≡ 10). omega arith),
-  ((λ (e : 80 ≡ 10). omega arith),
-  ((λ (e : 47 ≡ 10). omega arith),
-  ((λ (e : 49 ≡ 10). omega arith),
-  ((λ (e : 46 ≡ 10). omega arith),
-  ((λ (e : 48 + minor ≡ 10). omega arith), tt))))))),
+  (
+    (λ (e : 84 ≡ 10). omega arith),
+    (
+      (λ (e : 84 ≡ 10). omega arith),
+      (
+        (λ (e : 80 ≡ 10). omega arith),
+        (
+          (λ (e : 47 ≡ 10). omega arith),
+          (
+            (λ (e : 49 ≡ 10). omega arith),
+            (
+              (λ (e : 46 ≡ 10). omega arith),
+              ((λ (e : 48 + minor ≡ 10). omega arith), tt),
+            ),
+          ),
+        ),
+      ),
+    ),
+  ),
 )
 
 first_filled : (h : RequestHead) → IsRequestHead h → IsFilledText (first_text h)
 first_filled h is =
     let version = no_feed-append (print_version h.minor) (end_text h.line_end) (version_no_feed h.minor) (end_no_feed h.line_end) in
     let target = no_feed-append h.target (32 ∷ (print_version h.minor ++ end_text h.line_end))
-        (no_feed_from is_uri_byte refl h.target is.target.1) ((λ (e : 32 ≡ 10). omega arith), version) in
+    (no_feed_from is_uri_byte refl h.target is.target.1) ((λ (e : 32 ≡ 10). omega arith), version) in
     starts_filled h.method (32 ∷ (h.target ++ 32 ∷ (print_version h.minor ++ end_text h.line_end))) is.method ((λ (e : 32 ≡ 10). omega arith), target)
 
 first_regroup : (m t v e r : List ℕ) → ((m ++ 32 ∷ (t ++ 32 ∷ (v ++ e))) ++ 10 ∷ []) ++ r ≡ m ++ 32 ∷ (t ++ 32 ∷ (v ++ (e ++ 10 ∷ r)))
@@ -139,8 +151,8 @@ request_bytes : (h : RequestHead) → print_request h
 request_bytes h =
     sym (append-nil (print_request h)) ∙ print_request-append h []
     ∙ ap (λ x. print_blank h.blank ++ (h.method ++ 32 ∷ (h.target ++ 32 ∷ (print_version h.minor ++ (print_end h.line_end ++ x)))))
-        (append-nil (print_section h.fields h.last)
-        ∙ ap (λ x. x ++ print_end h.last) (sym (fields_bytes h.fields)) ∙ ap (λ x. lines_bytes (map field_text h.fields) ++ x) (sym (end_line h.last)))
+    (append-nil (print_section h.fields h.last)
+    ∙ ap (λ x. x ++ print_end h.last) (sym (fields_bytes h.fields)) ∙ ap (λ x. lines_bytes (map field_text h.fields) ++ x) (sym (end_line h.last)))
     ∙ ap (λ x. print_blank h.blank ++ x) (sym (first_bytes h (lines_bytes (map field_text h.fields) ++ line_bytes (end_text h.last))))
     ∙ ap (λ x. x ++ (line_bytes (first_text h) ++ (lines_bytes (map field_text h.fields) ++ line_bytes (end_text h.last)))) (sym (blank_bytes h.blank))
 

@@ -189,7 +189,7 @@ at_before b bs n k m j false true t c ih e =
 at_before b bs n k m j false false t c ih e =
     more Before FirstLine b bs n k m j (ih FirstLine (n + 1) k m j e)
     (λ front count h. subst (λ x. IsHeadText (b ∷ x) count) (sym h.parts)
-        (first_line (b ∷ h.text) h.tail count (filled_one b h.text (not_at b 10 t) (not_at b 13 c) h.one_line) h.section))
+    (first_line (b ∷ h.text) h.tail count (filled_one b h.text (not_at b 10 t) (not_at b 13 c) h.one_line) h.section))
 
 at_before_cr : (b : ℕ) (bs : List ℕ) (n k m j : ℕ) (ten : Bool) → nat_eq b 10 ≡ ten → Hypothesis bs
     → after_step (cond ten (To Before) (To FirstLine)) n k (λ q m' j'. scan q m' j' bs) ≡ Some (m, j)
@@ -200,7 +200,7 @@ at_before_cr b bs n k m j true t ih e =
 at_before_cr b bs n k m j false t ih e =
     more BeforeCr FirstLine b bs n k m j (ih FirstLine (n + 1) k m j e)
     (λ front count h. subst (λ x. IsHeadText (13 ∷ b ∷ x) count) (sym h.parts)
-        (first_line (13 ∷ b ∷ h.text) h.tail count (filled_two b h.text (not_at b 10 t) h.one_line) h.section))
+    (first_line (13 ∷ b ∷ h.text) h.tail count (filled_two b h.text (not_at b 10 t) h.one_line) h.section))
 
 at_first : (b : ℕ) (bs : List ℕ) (n k m j : ℕ) (ten : Bool) → nat_eq b 10 ≡ ten → Hypothesis bs
     → after_step (cond ten (To LineStart) (To FirstLine)) n k (λ q m' j'. scan q m' j' bs) ≡ Some (m, j)
@@ -223,8 +223,8 @@ at_start b bs n k m j false true t c ih e =
 at_start b bs n k m j false false t c ih e =
     more LineStart HeaderLine b bs n k m j (ih HeaderLine (n + 1) k m j e)
     (λ front count h. let l = h.line in
-        subst (λ x. IsSection (b ∷ x) count) (sym l.parts) (subst (λ x. IsSection (b ∷ (l.text ++ 10 ∷ l.tail)) x) (sym h.one_more)
-        (header_line (b ∷ l.text) l.tail h.less (filled_one b l.text (not_at b 10 t) (not_at b 13 c) l.one_line) l.section)))
+    subst (λ x. IsSection (b ∷ x) count) (sym l.parts) (subst (λ x. IsSection (b ∷ (l.text ++ 10 ∷ l.tail)) x) (sym h.one_more)
+    (header_line (b ∷ l.text) l.tail h.less (filled_one b l.text (not_at b 10 t) (not_at b 13 c) l.one_line) l.section)))
 
 at_cr : (b : ℕ) (bs : List ℕ) (n k m j : ℕ) (ten : Bool) → nat_eq b 10 ≡ ten → Hypothesis bs
     → after_step (cond ten EndsHead (To HeaderLine)) n k (λ q m' j'. scan q m' j' bs) ≡ Some (m, j)
@@ -234,8 +234,8 @@ at_cr b bs n k m j true t ih e =
 at_cr b bs n k m j false t ih e =
     more LineCr HeaderLine b bs n k m j (ih HeaderLine (n + 1) k m j e)
     (λ front count h. let l = h.line in
-        subst (λ x. IsSection (13 ∷ b ∷ x) count) (sym l.parts) (subst (λ x. IsSection (13 ∷ b ∷ (l.text ++ 10 ∷ l.tail)) x) (sym h.one_more)
-        (header_line (13 ∷ b ∷ l.text) l.tail h.less (filled_two b l.text (not_at b 10 t) l.one_line) l.section)))
+    subst (λ x. IsSection (13 ∷ b ∷ x) count) (sym l.parts) (subst (λ x. IsSection (13 ∷ b ∷ (l.text ++ 10 ∷ l.tail)) x) (sym h.one_more)
+    (header_line (13 ∷ b ∷ l.text) l.tail h.less (filled_two b l.text (not_at b 10 t) l.one_line) l.section)))
 
 at_header : (b : ℕ) (bs : List ℕ) (n k m j : ℕ) (ten : Bool) → nat_eq b 10 ≡ ten → Hypothesis bs
     → after_step (cond ten EndsLine (To HeaderLine)) n k (λ q m' j'. scan q m' j' bs) ≡ Some (m, j)
@@ -243,16 +243,16 @@ at_header : (b : ℕ) (bs : List ℕ) (n k m j : ℕ) (ten : Bool) → nat_eq b 
 at_header b bs n k m j true t ih e =
     more_line b bs n k m j (ih LineStart (n + 1) (k + 1) m j e)
     (λ front count h. record {
-        less = count;
-        one_more = refl;
-        line = record { text = []; tail = front; parts = ap (λ x. x ∷ front) (is_at b 10 t); one_line = tt; section = h };
+      less = count;
+      one_more = refl;
+      line = record { text = []; tail = front; parts = ap (λ x. x ∷ front) (is_at b 10 t); one_line = tt; section = h };
     })
 at_header b bs n k m j false t ih e =
     more HeaderLine HeaderLine b bs n k m j (ih HeaderLine (n + 1) k m j e)
     (λ front count h. let l = h.line in record {
-        less = h.less;
-        one_more = h.one_more;
-        line = record { text = b ∷ l.text; tail = l.tail; parts = ap (λ x. b ∷ x) l.parts; one_line = (not_at b 10 t, l.one_line); section = l.section };
+      less = h.less;
+      one_more = h.one_more;
+      line = record { text = b ∷ l.text; tail = l.tail; parts = ap (λ x. b ∷ x) l.parts; one_line = (not_at b 10 t, l.one_line); section = l.section };
     })
 
 ends : (bs : List ℕ) → Hypothesis bs
@@ -367,7 +367,7 @@ passes_before (text ∷ texts) tail n k all =
     ∙ at_blank text (lines_bytes texts ++ tail) n k all.0
     ∙ passes_before texts tail (n + length (line_bytes text)) k all.1
     ∙ ap (λ m. scan Before m k tail)
-        (let e : n + length (line_bytes text) + length (lines_bytes texts) ≡ n + length (line_bytes text ++ lines_bytes texts) = omega (arith, length-append (line_bytes text) (lines_bytes texts)) in e)
+    (let e : n + length (line_bytes text) + length (lines_bytes texts) ≡ n + length (line_bytes text ++ lines_bytes texts) = omega (arith, length-append (line_bytes text) (lines_bytes texts)) in e)
 
 passes_headers : (texts : List (List ℕ)) (tail : List ℕ) (n k : ℕ) → AllByRecursion IsFilledText texts
     → scan LineStart n k (lines_bytes texts ++ tail) ≡ scan LineStart (n + length (lines_bytes texts)) (k + length texts) tail
@@ -378,9 +378,9 @@ passes_headers (text ∷ texts) tail n k all =
     ∙ passes_header text (lines_bytes texts ++ tail) n k all.0
     ∙ passes_headers texts tail (n + length (line_bytes text)) (k + 1) all.1
     ∙ ap (λ (x : ℕ × ℕ). scan LineStart x.0 x.1 tail)
-        (let a : n + length (line_bytes text) + length (lines_bytes texts) ≡ n + length (line_bytes text ++ lines_bytes texts) = omega (arith, length-append (line_bytes text) (lines_bytes texts)) in
-         let b : k + 1 + length texts ≡ k + suc (length texts) = omega arith in
-         λ i. (a i, b i))
+    (let a : n + length (line_bytes text) + length (lines_bytes texts) ≡ n + length (line_bytes text ++ lines_bytes texts) = omega (arith, length-append (line_bytes text) (lines_bytes texts)) in
+    let b : k + 1 + length texts ≡ k + suc (length texts) = omega arith in
+    λ i. (a i, b i))
 
 -- A head's text ends a search, whatever follows it.
 pub end_of_head : (text rest : List ℕ) (count : ℕ) → IsHeadText text count → head_end (text ++ rest) ≡ Some (length text, count)
@@ -391,16 +391,16 @@ end_of_head text rest count h =
     let n2 = n1 + length (line_bytes h.first) in
     let n3 = n2 + length (lines_bytes h.headers) in
     ap (λ x. scan Before 0 0 x)
-        (ap (λ x. x ++ rest) h.lines
-        ∙ append_assoc (lines_bytes h.before) (line_bytes h.first ++ (lines_bytes h.headers ++ line_bytes h.last)) rest
-        ∙ ap (λ x. lines_bytes h.before ++ x) (append_assoc (line_bytes h.first) (lines_bytes h.headers ++ line_bytes h.last) rest
-            ∙ ap (λ x. line_bytes h.first ++ x) (append_assoc (lines_bytes h.headers) (line_bytes h.last) rest)))
+    (ap (λ x. x ++ rest) h.lines
+    ∙ append_assoc (lines_bytes h.before) (line_bytes h.first ++ (lines_bytes h.headers ++ line_bytes h.last)) rest
+    ∙ ap (λ x. lines_bytes h.before ++ x) (append_assoc (line_bytes h.first) (lines_bytes h.headers ++ line_bytes h.last) rest
+    ∙ ap (λ x. line_bytes h.first ++ x) (append_assoc (lines_bytes h.headers) (line_bytes h.last) rest)))
     ∙ passes_before h.before (line_bytes h.first ++ after_first) 0 0 h.before_empty
     ∙ passes_first h.first after_first n1 0 h.first_filled
     ∙ passes_headers h.headers tail n2 0 h.headers_filled
     ∙ at_last h.last rest n3 (0 + length h.headers) h.last_empty
     ∙ (let whole : length text ≡ length (lines_bytes h.before) + (length (line_bytes h.first) + (length (lines_bytes h.headers) + length (line_bytes h.last))) =
-           ap length h.lines ∙ simp length-append in
-       let a : n3 + length (line_bytes h.last) ≡ length text = omega (arith, whole) in
-       let b : 0 + length h.headers ≡ count = omega (arith, h.counted) in
-       λ i. Some (a i, b i))
+    ap length h.lines ∙ simp length-append in
+    let a : n3 + length (line_bytes h.last) ≡ length text = omega (arith, whole) in
+    let b : 0 + length h.headers ≡ count = omega (arith, h.counted) in
+    λ i. Some (a i, b i))

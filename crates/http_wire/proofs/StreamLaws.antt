@@ -16,9 +16,10 @@ use Rattle.http_wire.proofs.RequestLaws.{request_is_head}
 
 -- fronts of one length of the same bytes
 pub same_fronts : (a r b q : List ℕ) → a ++ r ≡ b ++ q → length a ≡ length b → (a ≡ b) × (r ≡ q)
-same_fronts a r b q e len =
-    (sym (take_at a r (length a) refl) ∙ ap (λ x. take (length a) x) e ∙ ap (λ n. take n (b ++ q)) len ∙ take_at b q (length b) refl,
-    sym (drop_at a r (length a) refl) ∙ ap (λ x. drop (length a) x) e ∙ ap (λ n. drop n (b ++ q)) len ∙ drop_at b q (length b) refl)
+same_fronts a r b q e len = (
+  sym (take_at a r (length a) refl) ∙ ap (λ x. take (length a) x) e ∙ ap (λ n. take n (b ++ q)) len ∙ take_at b q (length b) refl,
+  sym (drop_at a r (length a) refl) ∙ ap (λ x. drop (length a) x) e ∙ ap (λ n. drop n (b ++ q)) len ∙ drop_at b q (length b) refl,
+)
 
 -- two heads at the front of the same bytes are one
 pub same_heads : (a r b q : List ℕ) (k c : ℕ) → a ++ r ≡ b ++ q → IsHeadText a k → IsHeadText b c → (a ≡ b) × (r ≡ q)
@@ -27,7 +28,7 @@ same_heads a r b q k c e x y =
     let pair : ◌≡◌ {A = ℕ × ℕ} (length a, k) (length b, c) = cc in
     same_fronts a r b q e (ap (λ (p : ℕ × ℕ). p.0) pair)
 
-no_empty_head : (count : ℕ) → ¬ (IsHeadText [] count)
+pub no_empty_head : (count : ℕ) → ¬ (IsHeadText [] count)
 unfolding scan
 no_empty_head count h =
     let end : ◌≡◌ {A = Option (ℕ × ℕ)} None (Some (0, count)) = end_of_head [] [] count h in
@@ -54,7 +55,7 @@ same_announced h g m n r q e x y =
 pub same_messages : (a r b q : List ℕ) (m n : Message) → a ++ r ≡ b ++ q → IsMessage a m → IsMessage b n → (m ≡ n) × (a ≡ b) × (r ≡ q)
 same_messages a r b q m n e x y =
     let bytes : print_request x.h ++ (x.body ++ r) ≡ print_request y.h ++ (y.body ++ q) =
-        sym (append_assoc (print_request x.h) x.body r) ∙ ap (λ z. z ++ r) (sym x.parts) ∙ e ∙ ap (λ z. z ++ q) y.parts ∙ append_assoc (print_request y.h) y.body q in
+    sym (append_assoc (print_request x.h) x.body r) ∙ ap (λ z. z ++ r) (sym x.parts) ∙ e ∙ ap (λ z. z ++ q) y.parts ∙ append_assoc (print_request y.h) y.body q in
     let same = same_announced x.h y.h (length x.body) (length y.body) (x.body ++ r) (y.body ++ q) bytes x.announced y.announced in
     let bodies = same_fronts x.body r y.body q same.2 same.1 in
     let whole : a ≡ b = x.parts ∙ ap (λ z. print_request z ++ x.body) same.0 ∙ ap (λ z. print_request y.h ++ z) bodies.0 ∙ sym y.parts in
@@ -84,7 +85,7 @@ no_message_where_less bytes l front rest m e x =
 no_message_where_other : (bytes : List ℕ) → IsOtherHead bytes → HasNoMessage bytes
 no_message_where_other bytes o front rest m e x =
     let same = same_heads o.text o.rest (print_request x.h) (x.body ++ rest) o.count (length x.h.fields) (sym o.parts ∙ e ∙ message_bytes front rest m x)
-        o.head (announced_head x.h (length x.body) x.announced) in
+    o.head (announced_head x.h (length x.body) x.announced) in
     o.other x.h (length x.body) x.announced same.0
 
 no_message_where_endless : (bytes : List ℕ) → IsEndless bytes → HasNoMessage bytes
@@ -103,9 +104,9 @@ no_message_inside bytes (inr x) = no_message_where_less bytes x
 no_message_in_nothing : (bytes : List ℕ) → bytes ≡ [] → HasNoMessage bytes
 no_message_in_nothing bytes nothing =
     no_message_where_no_head bytes (λ text rest count e head.
-        let len : length text + length rest ≡ 0 = sym (length-append text rest) ∙ sym (ap length e) ∙ ap length nothing in
-        let empty = nil_from_length text (omega (arith, len)) in
-        no_empty_head count (subst (λ x. IsHeadText x count) empty head))
+    let len : length text + length rest ≡ 0 = sym (length-append text rest) ∙ sym (ap length e) ∙ ap length nothing in
+    let empty = nil_from_length text (omega (arith, len)) in
+    no_empty_head count (subst (λ x. IsHeadText x count) empty head))
 
 -- An end is no message.
 pub no_message_at_end : (bytes : List ℕ) (end : End) → Ends bytes end → HasNoMessage bytes

@@ -4,14 +4,21 @@
 //! read: a POST to one route with a Content-Length.
 #![tactic(auto)]
 
+mod body;
+mod buffer;
 mod fields;
 mod head_scan;
+mod head_search;
+mod laws;
 mod message;
 mod out;
+mod plain;
 mod reply_head;
 mod request;
 mod wire;
 
+pub use laws::{front_of_reading, one_reading};
 pub use message::{End, Message, WireFault};
 pub use out::{write_farewell, write_response, write_standin};
+pub use plain::read_stream;
 pub use wire::Wire;

@@ -91,7 +91,11 @@ fn put_code_line(head: &mut Head, code: u8)
     ensures items { head.new.items ≡ head.old.items ++ line (codes "X-Prpc-Grpc-Code: " ++ decimal code) }
     ensures len { length head.new.items ≤ length head.old.items + 23 }
 {
-    put_line(head, b"X-Prpc-Grpc-Code: ", Buffer::new().format(code).as_bytes());
+    put_line(
+        head,
+        b"X-Prpc-Grpc-Code: ",
+        Buffer::new().format(code).as_bytes(),
+    );
 }
 
 fn put_token_line(head: &mut Head, token: &Option<[u8; 64]>)
@@ -126,5 +130,9 @@ fn put_length_line(head: &mut Head, len: usize)
     ensures items { head.new.items ≡ head.old.items ++ line (codes "Content-Length: " ++ decimal len) }
     ensures len { length head.new.items ≤ length head.old.items + 38 }
 {
-    put_line(head, b"Content-Length: ", Buffer::new().format(len).as_bytes());
+    put_line(
+        head,
+        b"Content-Length: ",
+        Buffer::new().format(len).as_bytes(),
+    );
 }

@@ -31,7 +31,8 @@ fn is_to_route(head: &[u8], spans: &RequestSpans) -> bool
     ensures { IsTrue result ↔ ((span_bytes head.now spans.now.method ≡ codes "POST") × (span_bytes head.now spans.now.path ≡ route_text) × (spans.now.version ≡ 1)) }
 {
     let method = spans.method.of(head) == b"POST".as_slice();
-    let path = spans.path.of(head) == b"/prpc/luci.resultdb.v1.Recorder/CreateInvocation".as_slice();
+    let path = spans.path.of(head)
+        == b"/prpc/luci.resultdb.v1.Recorder/CreateInvocation".as_slice();
     method && path && spans.version == 1
 }
 

@@ -18,8 +18,8 @@ returns-in-EndsHead c =
 pub loop-i-preserved : goal.loop-i-preserved
 loop-i-preserved c =
     let on = λ (rest : List ℕ).
-        scan_next c.loop-i.place c.loop-i.i c.loop-i.lines c.args.bytes.now c.loop-i.i rest c.loop-i-test.true c.loop-i.invariant.goes
-        ∙ ap (λ s. after_step s c.loop-i.i c.loop-i.lines (λ q m j. scan q m j rest)) (sym c.next_step.ensures) in
+    scan_next c.loop-i.place c.loop-i.i c.loop-i.lines c.args.bytes.now c.loop-i.i rest c.loop-i-test.true c.loop-i.invariant.goes
+    ∙ ap (λ s. after_step s c.loop-i.i c.loop-i.lines (λ q m j. scan q m j rest)) (sym c.next_step.ensures) in
     let few = c.loop-i.invariant.few in
     elim c.match-next_step.branch [
       | in-To w ↦ record { few = omega arith; goes = λ rest. rw (w.place-is, w.lines-is) (on rest ∙ rw w.in-To.is) }

@@ -1,0 +1,18 @@
+// Laws of streams.
+ghost use Rattle.std.specs.Prelude.{◌≡◌, ℕ, List, ◌++◌};
+ghost use Rattle.http_wire.specs.Stream.{Framed, Spells};
+ghost use Rattle.http_wire.specs.declared.message.Message.{Message};
+ghost use Rattle.http_wire.specs.declared.message.End.{End};
+
+/// Bytes are read in one way: they have one list of messages, and one end.
+pub fn one_reading()
+    ensures messages { (bytes : List ℕ) (ms ns : List Message) (e f : End) → Framed bytes ms e → Framed bytes ns f → ms ≡ ns }
+    ensures end { (bytes : List ℕ) (ms ns : List Message) (e f : End) → Framed bytes ms e → Framed bytes ns f → e ≡ f }
+{}
+
+/// Messages that stand in front of a stream stand in front of its messages, and the other ones are those of the rest.
+pub fn front_of_reading()
+    ensures front { (text rest : List ℕ) (ms ns : List Message) (e : End) → Spells ms text → Framed (text ++ rest) ns e
+        → (others : List Message) × (ns ≡ ms ++ others) × Framed rest others e }
+    ensures whole { (text rest : List ℕ) (ms ns : List Message) (e : End) → Spells ms text → Framed rest ns e → Framed (text ++ rest) (ms ++ ns) e }
+{}
