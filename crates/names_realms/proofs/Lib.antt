@@ -1,3 +1,5 @@
+pub mod TextLemmas
+pub mod KeyLemmas
 pub mod PartLemmas
 pub mod CutLemmas
 pub mod RealmLemmas

@@ -1,3 +1,4 @@
+pub mod Alphabets
 pub mod Parts
 pub mod Names
 pub mod Realms
