@@ -4,3 +4,4 @@ pub mod PartLemmas
 pub mod CutLemmas
 pub mod RealmLemmas
 pub mod CivilLemmas
+pub mod SequenceLemmas

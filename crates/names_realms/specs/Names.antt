@@ -1,9 +1,10 @@
 -- The grammar of ids, and what is wrong with a text that is none.
-use Rattle.std.specs.Prelude.{ℕ, List, Option}
+use Rattle.std.specs.Prelude.{◌≡◌, ℕ, List, ◌++◌, codes, Option}
 use Rattle.names_realms.specs.declared.faults.NameFault.{NameFault}
 use Rattle.names_realms.specs.declared.alphabets.Alphabet.TheVariants as alphabet
 use Rattle.names_realms.specs.declared.parts.PartForm.TheVariants.{Letters, TestId}
 use Rattle.names_realms.specs.Parts.{IsPart, part_fault}
+use Rattle.names_realms.specs.Sequences.{behind, unless_empty}
 
 -- a lower-case letter, then up to 99 lower-case letters, digits and `_ - : .`
 abbrev pub IsInvocationId : List ℕ → Type 0
@@ -32,3 +33,13 @@ IsArtifactId text = IsPart (Letters alphabet.Artifact) text
 
 abbrev pub artifact_id_fault : List ℕ → Option NameFault
 artifact_id_fault text = part_fault (Letters alphabet.Artifact) text
+
+-- `invocations/` and the id
+abbrev pub invocation_name : List ℕ → List ℕ
+invocation_name id = codes "invocations/" ++ id
+
+abbrev pub IsInvocationName : List ℕ → List ℕ → Type 0
+IsInvocationName id text = (text ≡ invocation_name id) × IsInvocationId id
+
+abbrev pub invocation_name_fault : List ℕ → Option NameFault
+invocation_name_fault text = unless_empty (behind (codes "invocations/") invocation_id_fault) text

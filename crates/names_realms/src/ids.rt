@@ -1,10 +1,11 @@
 //! Ids of invocations, tests, results and artifacts.
-ghost use Rattle.std.specs.Prelude.{◌≡◌, ◌≢◌, ◌++◌, ◌↔◌, IfOk, IfErr, OnOk, OnErr, IsTrue, Some};
-ghost use Rattle.names_realms.specs.Names.{IsArtifactId, IsInvocationId, IsResultId, IsTestId, artifact_id_fault, invocation_id_fault, result_id_fault, test_id_fault};
+ghost use Rattle.std.specs.Prelude.{◌≡◌, ◌≢◌, ◌++◌, ◌↔◌, IfOk, IfErr, OnOk, OnErr, IsTrue, Some, ℕ, List};
+ghost use Rattle.names_realms.specs.Names.{IsArtifactId, IsInvocationId, IsInvocationName, IsResultId, IsTestId, artifact_id_fault, invocation_id_fault, invocation_name_fault, result_id_fault, test_id_fault};
 
 use crate::NameFault;
 use crate::alphabets::Alphabet;
 use crate::parts::{PartForm, read_part};
+use crate::sequences::read_name;
 use crate::texts::{append, same};
 use std::alloc::{AllocError, Global};
 use std::marker::Model;
@@ -35,6 +36,18 @@ impl InvocationId {
     {
         let text = read_part(alloc, PartForm::Letters(Alphabet::Invocation), text)?;
         Ok(InvocationId { text })
+    }
+
+    /// Reads `invocations/` and an id, all of the text. `Memory` where there is none for the id.
+    pub fn parse_name(alloc: Global, text: &[u8]) -> Result<InvocationId, NameFault>
+        ensures ok { IfOk result (λ id. IsInvocationName id text.now) }
+        ensures refused { IfErr result (λ f. f ≢ NameFault.Memory → (id : List ℕ) → ¬ IsInvocationName id text.now) }
+        ensures fault { IfErr result (λ f. f ≢ NameFault.Memory → invocation_name_fault text.now ≡ Some f) }
+    {
+        match read_name(alloc, b"invocations/", PartForm::Letters(Alphabet::Invocation), text) {
+            Ok(text) => Ok(InvocationId { text }),
+            Err(fault) => Err(fault),
+        }
     }
 
     /// The bytes of the id.

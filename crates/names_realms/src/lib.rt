@@ -12,6 +12,7 @@ mod lists;
 mod moments;
 mod parts;
 mod realms;
+mod sequences;
 mod spans;
 mod states;
 mod texts;

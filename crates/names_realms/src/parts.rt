@@ -85,15 +85,26 @@ pub(crate) fn limited(most: usize, len: usize, bad: Option<usize>) -> Option<Nam
     }
 }
 
+/// The fault of a text that stands behind so many bytes.
+pub(crate) fn moved(behind: usize, fault: NameFault) -> NameFault
+    requires { place_of fault + behind < 2 ^ 64 }
+    ensures { result ≡ shifted behind fault }
+{
+    match fault {
+        NameFault::BadByte { at } => NameFault::BadByte { at: behind + at },
+        NameFault::NotCanonical { at } => NameFault::NotCanonical { at: behind + at },
+        other => other,
+    }
+}
+
 /// The fault, if there is one, of a text that stands behind so many bytes.
 pub(crate) fn shifted_fault(behind: usize, fault: Option<NameFault>) -> Option<NameFault>
     requires { IfSome fault (λ f. place_of f + behind < 2 ^ 64) }
     ensures { result ≡ option_map (shifted behind) fault }
 {
     match fault {
-        Some(NameFault::BadByte { at }) => Some(NameFault::BadByte { at: behind + at }),
-        Some(NameFault::NotCanonical { at }) => Some(NameFault::NotCanonical { at: behind + at }),
-        other => other,
+        Some(fault) => Some(moved(behind, fault)),
+        None => None,
     }
 }
 
@@ -121,6 +132,7 @@ pub(crate) fn read_part(alloc: Global, form: PartForm, text: &[u8]) -> Result<St
     ensures ok { IfOk result (λ t. (string_bytes t ≡ text.now) × IsPart form text.now) }
     ensures refused { IfErr result (λ f. f ≢ NameFault.Memory → ¬ IsPart form text.now) }
     ensures fault { IfErr result (λ f. f ≢ NameFault.Memory → part_fault form text.now ≡ Some f) }
+    ensures within { IfErr result (λ f. place_of f ≤ length text.now) }
 {
     if let Some(fault) = fault_of_part(form, text) {
         return Err(fault);

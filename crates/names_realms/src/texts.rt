@@ -54,7 +54,7 @@ pub(crate) fn len_before(text: &[u8], byte: u8) -> usize
 }
 
 /// How many bytes two texts have in common from the front on.
-fn common_len(text: &[u8], literal: &[u8]) -> usize
+pub(crate) fn common_len(text: &[u8], literal: &[u8]) -> usize
     ensures value { result ≡ common_prefix_len nat_eq text.now literal.now }
     ensures within { result ≤ length text.now }
 {
