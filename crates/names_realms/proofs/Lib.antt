@@ -5,3 +5,4 @@ pub mod CutLemmas
 pub mod RealmLemmas
 pub mod CivilLemmas
 pub mod SequenceLemmas
+pub mod FractionLemmas

@@ -5,3 +5,4 @@ pub mod Names
 pub mod Realms
 pub mod Civil
 pub mod Moments
+pub mod MomentReading

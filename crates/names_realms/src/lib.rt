@@ -9,6 +9,7 @@ mod civil;
 mod faults;
 mod ids;
 mod lists;
+mod moment_reading;
 mod moments;
 mod parts;
 mod realms;
