@@ -16,6 +16,8 @@ mod realms;
 mod sequences;
 mod spans;
 mod states;
+#[cfg(test)]
+mod tests;
 mod texts;
 
 pub use faults::NameFault;
