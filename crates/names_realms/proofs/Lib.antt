@@ -6,3 +6,4 @@ pub mod RealmLemmas
 pub mod CivilLemmas
 pub mod SequenceLemmas
 pub mod FractionLemmas
+pub mod PairLemmas

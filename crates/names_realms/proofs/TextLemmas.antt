@@ -5,7 +5,7 @@ use Rattle.std.specs.Str.Lossy.{utf8_valid_len, valid_len_up_to}
 use Rattle.std.proofs.lemmas.Bool.{and_parts, and_from, eqb-true, eq-eqb}
 use Rattle.std.proofs.lemmas.Bool.Decides.{nat_tests}
 use Rattle.std.proofs.lemmas.List.{take_all}
-use Rattle.std.proofs.lemmas.Str.{IsUtf8-from_is_utf8, utf8_valid_len_le, utf8_valid_len-IsUtf8}
+use Rattle.std.proofs.lemmas.Str.{IsUtf8-nil, IsUtf8-from_is_utf8, utf8_valid_len_le, utf8_valid_len-IsUtf8}
 use Rattle.names_realms.specs.Parts.{begins_control, control_place, is_plain_text, text_place}
 
 valid_len_le : (bs : List ℕ) (n : ℕ) → valid_len_up_to bs n ≤ n
@@ -28,6 +28,10 @@ unfolding utf8_valid_len
 utf8_to_the_end b bs e =
     let all : take (suc (length bs)) (b ∷ bs) ≡ b ∷ bs = take_all (suc (length bs)) (b ∷ bs) (omega arith) in
     ap is_utf8 (sym all) ∙ front_is_utf8 (b ∷ bs) (length bs) e
+
+pub utf8_all : (text : List ℕ) → utf8_valid_len text ≡ length text → IsUtf8 text
+utf8_all [] e = IsUtf8-nil
+utf8_all (b ∷ bs) e = IsUtf8-from_is_utf8 (b ∷ bs) (utf8_to_the_end b bs e)
 
 -- one step on, where no control character begins
 pub control_place-step : (text : List ℕ) (i : ℕ) → i < length text → begins_control (drop i text) ≡ false → control_place (drop i text) ≡ 1 + control_place (drop (i + 1) text)

@@ -3,6 +3,7 @@ pub mod Parts
 pub mod Sequences
 pub mod Names
 pub mod Realms
+pub mod Pairs
 pub mod Civil
 pub mod Moments
 pub mod MomentReading

@@ -100,7 +100,7 @@ fn len_before_control(text: &[u8]) -> usize
 }
 
 /// How many bytes stand before the first that is no UTF-8.
-fn utf8_len(text: &[u8]) -> usize
+pub(crate) fn utf8_len(text: &[u8]) -> usize
     ensures value { result ≡ utf8_valid_len text.now }
     ensures within { result ≤ length text.now }
 {
