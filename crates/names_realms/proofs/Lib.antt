@@ -1,4 +1,9 @@
+pub mod TextLemmas
+pub mod KeyLemmas
 pub mod PartLemmas
 pub mod CutLemmas
 pub mod RealmLemmas
 pub mod CivilLemmas
+pub mod SequenceLemmas
+pub mod FractionLemmas
+pub mod PairLemmas

@@ -1,5 +1,9 @@
+pub mod Alphabets
 pub mod Parts
+pub mod Sequences
 pub mod Names
 pub mod Realms
+pub mod Pairs
 pub mod Civil
 pub mod Moments
+pub mod MomentReading

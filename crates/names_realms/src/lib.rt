@@ -4,19 +4,28 @@
 //! wrong with it and where. `write_to` appends the one spelling.
 #![tactic(auto)]
 
+mod alphabets;
 mod civil;
 mod faults;
 mod ids;
 mod lists;
+mod moment_reading;
 mod moments;
+mod pairs;
 mod parts;
 mod realms;
+mod sequences;
+mod spans;
 mod states;
+#[cfg(test)]
+mod tests;
 mod texts;
 
 pub use faults::NameFault;
-pub use ids::InvocationId;
+pub use ids::{ArtifactId, InvocationId, ResultId, TestId};
 pub use lists::{Bytes, Numbers};
 pub use moments::Moment;
+pub use pairs::{Pair, PairFault};
 pub use realms::Realm;
-pub use states::State;
+pub use spans::Span;
+pub use states::{Case, State, Status};

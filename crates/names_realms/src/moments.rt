@@ -1,10 +1,13 @@
 //! Moments, and their one text.
-ghost use Rattle.std.specs.Prelude.{◌≡◌, ◌++◌, ◌≤◌, ◌<◌, ◌+◌, OnOk, OnErr, pos, neg_ℤ, unsigned_abs};
+ghost use Rattle.std.specs.Prelude.{◌≡◌, ◌++◌, ◌≤◌, ◌<◌, ◌+◌, IfOk, IfErr, OnOk, OnErr, Ok, Err, IsTrue, pos, neg_ℤ, unsigned_abs};
 ghost use Rattle.std.specs.Int.{IsInRange, int_div_euclid, int_rem_euclid};
 ghost use Rattle.jiff.specs.Words.{IsBetween};
+ghost use Rattle.names_realms.specs.MomentReading.{is_in_years, moment_judged, moment_of};
 ghost use Rattle.names_realms.specs.Moments.{IsInYears, clock_text, date_text, decimals, four_digits, moment_text, text_of_day_and_clock, three_digits, two_digits};
 
+use crate::NameFault;
 use crate::civil::{CivilDate, date_of};
+use crate::moment_reading::moment;
 use crate::texts::append;
 use std::alloc::{AllocError, Global};
 
@@ -128,7 +131,49 @@ fn push_moment(out: &mut Vec<u8>, micros: i64) -> Result<(), AllocError>
     push_day_and_clock(out, day, clock)
 }
 
+/// Whether the moment is of a year from 1 to 9999.
+fn is_of_years(micros: i64) -> bool
+    ensures value { result ≡ is_in_years micros }
+    ensures range { IsTrue result → IsInYears micros }
+{
+    micros >= -62_135_596_800_000_000 && micros <= 253_402_300_799_999_999
+}
+
+/// What is read of a text of this length, where the reader gives this.
+#[tactic(auto, unfolding(crate::specs::MomentReading::moment_judged))]
+fn judged(len: usize, read: Result<i64, usize>) -> Result<Moment, NameFault>
+    ensures ok { IfOk result (λ m. moment_judged len read ≡ Ok m.micros) }
+    ensures range { IfOk result (λ m. IsInYears m.micros) }
+    ensures fault { IfErr result (λ f. moment_judged len read ≡ Err f) }
+{
+    match read {
+        Ok(micros) => {
+            if is_of_years(micros) {
+                Ok(Moment { micros })
+            } else {
+                Err(NameFault::OutOfRange)
+            }
+        }
+        Err(left) => Err(NameFault::BadByte { at: len.saturating_sub(left) }),
+    }
+}
+
 impl Moment {
+    /// Reads a moment of RFC 3339, all of the text: `YYYY-MM-DDTHH:MM:SS`, where there are decimals a point and one to nine digits,
+    /// and `Z` or an offset as `+HH:MM`. What decimals say below a microsecond is dropped. `OutOfRange` where the moment is before the
+    /// year 1 or after the year 9999 in UTC. Takes no memory, and so never answers `Memory`.
+    pub fn parse(alloc: Global, text: &[u8]) -> Result<Moment, NameFault>
+        ensures ok { IfOk result (λ m. moment_of text.now ≡ Ok m.micros) }
+        ensures range { IfOk result (λ m. IsInYears m.micros) }
+        ensures fault { IfErr result (λ f. moment_of text.now ≡ Err f) }
+    {
+        let _ = alloc;
+        if text.is_empty() {
+            return Err(NameFault::Empty);
+        }
+        judged(text.len(), moment(text))
+    }
+
     /// Appends the moment as RFC 3339 has it, in UTC with `Z` and the fewest of 0, 3 or 6 decimals that are exact: all of it or
     /// nothing. The moment must be of a year from 1 to 9999.
     pub fn write_to(&self, alloc: Global, out: &mut Vec<u8>) -> Result<(), AllocError>
