@@ -1,6 +1,5 @@
 pub mod LineLaws
-pub mod ByteLaws
-pub mod HistoryLaws
+pub mod MessageLaws
 pub mod Serving
 pub mod FramingLaws
 pub mod RunLaws

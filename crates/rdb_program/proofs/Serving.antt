@@ -25,8 +25,10 @@ use Rattle.rdb_program.specs.Turn.{Turn, entry_of}
 use Rattle.rdb_program.specs.Closing.{Closes}
 use Rattle.rdb_program.specs.declared.ending.Cause.{Cause}
 use Rattle.rdb_program.specs.declared.ending.Cause.TheVariants as causes
-use Rattle.rdb_program.proofs.ByteLaws.{gave_nothing, gave_more, took_nothing, took_more, spells_more, replies_more}
-use Rattle.rdb_program.proofs.HistoryLaws.{timed_more}
+use Rattle.outside.proofs.CountLaws.{more_then_rose}
+use Rattle.outside.proofs.Taken.{gave_nothing, gave_both, took_nothing, took_both}
+use Rattle.rdb_program.proofs.MessageLaws.{spells_more, replies_more}
+use Rattle.service_core.proofs.HistoryLaws.{timed_goes_on}
 
 -- So many messages were answered, and their replies were written whole.
 pub record Serving (first : World) (before : Ends) (tells_before : List ℤ → Type 0) (wire : WireState) (now : Ends) (tells_now : List ℤ → Type 0) (world : World) : Type 0 where
@@ -68,7 +70,7 @@ begins first before tells wire empty is_open = record {
 read_on : (a b c : Option (List ℕ)) (text here got : List ℕ) → Gave a (text ++ here) b → Gave b got c → Gave a (text ++ (here ++ got)) c
 read_on a b c text here got first then =
     let P : List ℕ → Type 0 = λ t. Gave a t c in
-    subst P (append_assoc text here got) (gave_more a b c (text ++ here) got first then)
+    subst P (append_assoc text here got) (gave_both a (text ++ here) got b c first then)
 
 -- a list that isn't empty has a last item
 split_last : (x : ℤ) (xs : List ℤ) → (front : List ℤ) × (last : ℤ) × (x ∷ xs ≡ front ++ last ∷ []) × (length front ≡ length xs)
@@ -108,9 +110,6 @@ answered_more first mid last ms text h answers m bytes e now before is timed sea
   timed = timed;
 }
 
-rose_before : (a b c : ℕ) → a ≤ b → Rose b c → Rose a c
-rose_before a b c later rose = omega (arith, later, rose)
-
 nil_front : (x y : List ℕ) → [] ≡ x ++ y → x ≡ []
 nil_front [] y e = refl
 nil_front (a ∷ x) y e = absurd (cc)
@@ -118,8 +117,8 @@ nil_front (a ∷ x) y e = absurd (cc)
 -- why not all was written, over a longer time
 cut_before : (rest : List ℕ) (f g h i j k : ℕ) → f ≤ g → i ≤ j → (rest ≡ []) ⊎ (Rose g h ⊎ Rose j k) → (rest ≡ []) ⊎ (Rose f h ⊎ Rose i k)
 cut_before rest f g h i j k fg ij (inl whole) = inl whole
-cut_before rest f g h i j k fg ij (inr (inl rose)) = inr (inl (rose_before f g h fg rose))
-cut_before rest f g h i j k fg ij (inr (inr rose)) = inr (inr (rose_before i j k ij rose))
+cut_before rest f g h i j k fg ij (inr (inl rose)) = inr (inl (more_then_rose f g h fg rose))
+cut_before rest f g h i j k fg ij (inr (inr rose)) = inr (inr (more_then_rose i j k ij rose))
 
 -- The wire answered a fault, or no more is asked of it, and the connection is closed.
 pub closed : (first world : World) (before now after : Ends) (tb tn : List ℤ → Type 0) (wire wire' : WireState) (fault : WireFault) (cause : Cause) (got : List ℕ)
@@ -145,7 +144,7 @@ closed first world before now after tb tn wire wire' (faults.CutShort have) caus
       read = read_on before.left now.left after.left s.text wire.held got s.read gave;
       answered = s.answered;
       clocked = s.clocked;
-      wrote = took_more before.written now.written after.written replies closes.front s.wrote closes.took;
+      wrote = took_both before.written replies closes.front now.written after.written s.wrote closes.took;
       sent_is = ap (λ f. replies ++ f) (nil_front closes.front closes.rest closes.parts) ∙ append-nil replies;
       rest_is = (answer.1, answer.2);
       read_faults = omega (arith, s.read_faults, counts);
@@ -169,7 +168,7 @@ closed first world before now after tb tn wire wire' faults.Unread cause got s g
       read = read_on before.left now.left after.left s.text wire.held got s.read gave;
       answered = s.answered;
       clocked = s.clocked;
-      wrote = took_more before.written now.written after.written replies closes.front s.wrote closes.took;
+      wrote = took_both before.written replies closes.front now.written after.written s.wrote closes.took;
       sent_is = record {
         front = closes.front;
         rest = closes.rest;
@@ -198,10 +197,10 @@ closed first world before now after tb tn wire wire' faults.ReadFault cause got 
       read = read_on before.left now.left after.left s.text wire.held got s.read gave;
       answered = s.answered;
       clocked = s.clocked;
-      wrote = took_more before.written now.written after.written replies closes.front s.wrote closes.took;
+      wrote = took_both before.written replies closes.front now.written after.written s.wrote closes.took;
       sent_is = ap (λ f. replies ++ f) (nil_front closes.front closes.rest closes.parts) ∙ append-nil replies;
       rest_is = answer.1;
-      read_faults = (omega (arith, s.read_faults, counts.0), rose_before before.read_faults now.read_faults after.read_faults s.read_faults counts.1);
+      read_faults = (omega (arith, s.read_faults, counts.0), more_then_rose before.read_faults now.read_faults after.read_faults s.read_faults counts.1);
       write_faults = omega (arith, s.write_faults, closes.write_faults);
       stalls = stalls ∙ s.stalls;
     })
@@ -229,7 +228,7 @@ closed first world before now after tb tn wire wire' faults.Memory cause got s g
         read = read_on before.left now.left after.left s.text wire.held got s.read gave;
         answered = s.answered;
         clocked = s.clocked;
-        wrote = took_more before.written now.written after.written replies closes.front s.wrote closes.took;
+        wrote = took_both before.written replies closes.front now.written after.written s.wrote closes.took;
         sent_is = behind;
         rest_is = tt;
         read_faults = omega (arith, s.read_faults, counts);
@@ -247,13 +246,13 @@ closed first world before now after tb tn wire wire' faults.Memory cause got s g
         read = read_on before.left now.left after.left s.text wire.held got s.read gave;
         answered = s.answered;
         clocked = s.clocked;
-        wrote = took_more before.written now.written after.written replies closes.front s.wrote closes.took;
+        wrote = took_both before.written replies closes.front now.written after.written s.wrote closes.took;
         sent_is = inr behind;
         rest_is = tt;
         read_faults = omega (arith, s.read_faults, counts);
         write_faults = omega (arith, s.write_faults, closes.write_faults);
         stalls = let stalled = subst S nothing closes.stalls in
-            (omega (arith, s.stalls, stalled.0), rose_before before.stalls now.stalls after.stalls same stalled.1);
+            (omega (arith, s.stalls, stalled.0), more_then_rose before.stalls now.stalls after.stalls same stalled.1);
       })
     ]
 
@@ -318,7 +317,7 @@ goes_on first world world' before now then tb tn tn' wire wire' m done mid_writt
     let turn = turn_before world world' tn tn' m mid_written now.written then.written (Ok done) same_written mid_turn in
     let e = entry_of world turn.now m.asked turn.told in
     let bytes = reading.answer.1 in
-    let timed = timed_more first world world' s.history s.answers e turn.now s.answered.timed turn.serves refl in
+    let timed = timed_goes_on first s.history s.answers world e turn.now world' s.answered.timed turn.serves refl in
     let replies : reply_bytes (s.messages ++ m ∷ []) (tolds_of (s.history ++ e ∷ [])) ≡ reply_bytes s.messages (tolds_of s.history) ++ told_bytes turn.told m.close =
     ap (reply_bytes (s.messages ++ m ∷ [])) (map-append (λ x. x.told) s.history (e ∷ []))
     ∙ replies_more s.messages m (tolds_of s.history) turn.told (same_length s.history s.messages s.answered.requests) in
@@ -332,7 +331,7 @@ goes_on first world world' before now then tb tn tn' wire wire' m done mid_writt
       read = read_message before.left now.left then.left s.text wire.held reading.got bytes wire'.held s.read reading.gave reading.answer.3;
       answered = answered_more first world world' s.messages s.text s.history s.answers m bytes e turn.now s.answered reading.answer.2 timed refl refl;
       clocked = clocked_more tb tn tn' s.answers turn.now s.clocked turn.clocked;
-      wrote = subst W (sym replies) (took_more before.written now.written then.written (reply_bytes s.messages (tolds_of s.history)) (told_bytes turn.told m.close) s.wrote turn.written);
+      wrote = subst W (sym replies) (took_both before.written (reply_bytes s.messages (tolds_of s.history)) (told_bytes turn.told m.close) now.written then.written s.wrote turn.written);
       read_faults = omega (arith, s.read_faults, counts);
       write_faults = omega (arith, s.write_faults, same_faults, write_faults);
       stalls = stalls ∙ same_stalls ∙ s.stalls;
@@ -354,7 +353,7 @@ breaks_off {T} first world world' before now then tb tn tn' wire wire' m write_e
     let stalled = stalls_before {T = T} mid_stalls now.stalls then.stalls (Err write_ends.WriteFault) same_stalls mid_stalled in
     let e = entry_of world turn.now m.asked turn.told in
     let bytes = reading.answer.1 in
-    let timed = timed_more first world world' s.history s.answers e turn.now s.answered.timed turn.serves refl in
+    let timed = timed_goes_on first s.history s.answers world e turn.now world' s.answered.timed turn.serves refl in
     let replies = reply_bytes s.messages (tolds_of s.history) in
     record {
       messages = s.messages ++ m ∷ [];
@@ -367,7 +366,7 @@ breaks_off {T} first world world' before now then tb tn tn' wire wire' m write_e
       read = read_message before.left now.left then.left s.text wire.held reading.got bytes wire'.held s.read reading.gave reading.answer.3;
       answered = answered_more first world world' s.messages s.text s.history s.answers m bytes e turn.now s.answered reading.answer.2 timed refl refl;
       clocked = clocked_more tb tn tn' s.answers turn.now s.clocked turn.clocked;
-      wrote = took_more before.written now.written then.written replies turn.written.front s.wrote turn.written.took;
+      wrote = took_both before.written replies turn.written.front now.written then.written s.wrote turn.written.took;
       sent_is = record {
         messages_before = s.messages;
         tolds_before = tolds_of s.history;
@@ -382,7 +381,7 @@ breaks_off {T} first world world' before now then tb tn tn' wire wire' m write_e
       };
       rest_is = tt;
       read_faults = omega (arith, s.read_faults, counts);
-      write_faults = (omega (arith, s.write_faults, faulted.0), rose_before before.write_faults now.write_faults then.write_faults s.write_faults faulted.1);
+      write_faults = (omega (arith, s.write_faults, faulted.0), more_then_rose before.write_faults now.write_faults then.write_faults s.write_faults faulted.1);
       stalls = stalled ∙ s.stalls;
     }
 breaks_off {T} first world world' before now then tb tn tn' wire wire' m write_ends.SinkTakesNothing mid_written mid_faults mid_stalls same_written same_faults same_stalls s reading counts mid_turn mid_faulted mid_stalled =
@@ -391,7 +390,7 @@ breaks_off {T} first world world' before now then tb tn tn' wire wire' m write_e
     let stalled = stalls_before {T = T} mid_stalls now.stalls then.stalls (Err write_ends.SinkTakesNothing) same_stalls mid_stalled in
     let e = entry_of world turn.now m.asked turn.told in
     let bytes = reading.answer.1 in
-    let timed = timed_more first world world' s.history s.answers e turn.now s.answered.timed turn.serves refl in
+    let timed = timed_goes_on first s.history s.answers world e turn.now world' s.answered.timed turn.serves refl in
     let replies = reply_bytes s.messages (tolds_of s.history) in
     let same : before.stalls ≤ now.stalls = omega (arith, s.stalls) in
     record {
@@ -405,7 +404,7 @@ breaks_off {T} first world world' before now then tb tn tn' wire wire' m write_e
       read = read_message before.left now.left then.left s.text wire.held reading.got bytes wire'.held s.read reading.gave reading.answer.3;
       answered = answered_more first world world' s.messages s.text s.history s.answers m bytes e turn.now s.answered reading.answer.2 timed refl refl;
       clocked = clocked_more tb tn tn' s.answers turn.now s.clocked turn.clocked;
-      wrote = took_more before.written now.written then.written replies turn.written.front s.wrote turn.written.took;
+      wrote = took_both before.written replies turn.written.front now.written then.written s.wrote turn.written.took;
       sent_is = inl (record {
         messages_before = s.messages;
         tolds_before = tolds_of s.history;
@@ -421,5 +420,5 @@ breaks_off {T} first world world' before now then tb tn tn' wire wire' m write_e
       rest_is = tt;
       read_faults = omega (arith, s.read_faults, counts);
       write_faults = omega (arith, s.write_faults, faulted);
-      stalls = (omega (arith, s.stalls, stalled.0), rose_before before.stalls now.stalls then.stalls same stalled.1);
+      stalls = (omega (arith, s.stalls, stalled.0), more_then_rose before.stalls now.stalls then.stalls same stalled.1);
     }

@@ -1,6 +1,6 @@
 use Rattle.std.proofs.Common.{[], false, refl, ◌∙◌, arith}
 use Rattle.http_wire.specs.declared.message.WireFault.TheVariants as faults
-use Rattle.rdb_program.proofs.ByteLaws.{gave_nothing}
+use Rattle.outside.proofs.Taken.{gave_nothing}
 use Rattle.rdb_program.proofs.Serving.{begins, closed, goes_on, breaks_off}
 use Rattle.rdb_program.proofs.connection.serve_connection.Goals as goal
 

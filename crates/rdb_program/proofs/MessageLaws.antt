@@ -1,32 +1,10 @@
--- Bytes that were given and taken, a piece after the other.
+-- One message more, and one reply more.
 use Rattle.std.proofs.Common.{◌≡◌, ℕ, List, [], ◌∷◌, ◌++◌, length, Option, Some, None, refl, sym, ap, ◌∙◌, subst, append_assoc, append-nil, arith}
-use Rattle.outside.specs.Bytes.{Gave, Took}
 use Rattle.service_core.specs.ReplyBytes.{told_bytes}
 use Rattle.service_core.specs.declared.forms.Told.{Told}
 use Rattle.http_wire.specs.Stream.{IsMessage, Spells}
 use Rattle.http_wire.specs.Out.{reply_bytes}
 use Rattle.http_wire.specs.declared.message.Message.{Message}
-
-pub gave_nothing : (a : Option (List ℕ)) → Gave a [] a
-gave_nothing None = refl
-gave_nothing (Some left) = (left, refl, refl)
-
-pub gave_more : (a b c : Option (List ℕ)) (x y : List ℕ) → Gave a x b → Gave b y c → Gave a (x ++ y) c
-gave_more None b c x y first then = let P : Option (List ℕ) → Type 0 = λ o. Gave o y c in subst P first then
-gave_more (Some all) b c x y first then =
-    let P : Option (List ℕ) → Type 0 = λ o. Gave o y c in
-    let later = subst P first.1 then in
-    (later.0, later.1, first.2 ∙ ap (λ t. x ++ t) later.2 ∙ sym (append_assoc x y later.0))
-
-pub took_nothing : (a : Option (List ℕ)) → Took a [] a
-took_nothing None = refl
-took_nothing (Some before) = ap Some (sym (append-nil before))
-
-pub took_more : (a b c : Option (List ℕ)) (x y : List ℕ) → Took a x b → Took b y c → Took a (x ++ y) c
-took_more None b c x y first then = let P : Option (List ℕ) → Type 0 = λ o. Took o y c in subst P first then
-took_more (Some before) b c x y first then =
-    let P : Option (List ℕ) → Type 0 = λ o. Took o y c in
-    subst P first then ∙ ap Some (append_assoc before x y)
 
 pub spells_more : (ms : List Message) (m : Message) (text bytes : List ℕ) → Spells ms text → IsMessage bytes m → Spells (ms ++ m ∷ []) (text ++ bytes)
 spells_more [] m text bytes spells is = (bytes, [], is, ap (λ t. t ++ bytes) spells ∙ sym (append-nil bytes), refl)
