@@ -1,12 +1,12 @@
 -- From what httparse reads in a head to what the head announces.
-use Rattle.std.proofs.Common.{◌≡◌, ℕ, ◌<◌, ◌≤◌, List, [], ◌++◌, length, take, map, codes, Option, Some, None, Bool, true, false, refl, sym, ap, ◌∙◌, subst, arith, append-nil}
+use Rattle.std.proofs.Common.{◌≡◌, ℕ, ◌≤◌, List, [], length, take, map, codes, Option, Some, None, Bool, true, false, sym, ap, ◌∙◌, subst, arith, append-nil}
 use Rattle.std.specs.Prelude.{MatchOption, ◌↔◌, IsTrue}
 use Rattle.httparse.specs.declared.spans.HeaderSpan.{HeaderSpan}
 use Rattle.httparse.specs.declared.spans.RequestSpans.{RequestSpans}
-use Rattle.httparse.specs.Grammar.{RequestHead, IsRequestHead, print_request, ReadsRequest}
+use Rattle.httparse.specs.Grammar.{RequestHead, print_request, ReadsRequest}
 use Rattle.httparse.specs.Spans.{IsRequestAt, header_bytes, name_and_value, span_bytes}
 use Rattle.httparse.proofs.GrammarLemmas.{request_unique}
-use Rattle.http_wire.specs.Form.{IsForm, AnnounceLength, route_text}
+use Rattle.http_wire.specs.Form.{AnnounceLength, route_text}
 use Rattle.http_wire.specs.Announced.{Announced, NotAnnounced}
 use Rattle.http_wire.specs.Scan.{head_end}
 use Rattle.http_wire.proofs.RequestLaws.{request_ends}

@@ -1,13 +1,11 @@
 -- A body that is filled read by read.
-use Rattle.std.proofs.Common.{◌≡◌, ◌≢◌, ℕ, ◌+◌, ◌-◌, ◌<◌, ◌≤◌, List, [], ◌∷◌, ◌++◌, length, take, drop, Option, Result, Ok, Err, refl, sym, ap, ◌∙◌, subst, arith, append-nil, append_assoc, length-append, length-take, length-drop}
-use Rattle.std.proofs.lemmas.List.{take_all, nil_from_length, take-append-drop, take-take, drop-take, drop-drop, drop_all, take-append-le}
+use Rattle.std.proofs.Common.{◌≡◌, ℕ, ◌+◌, ◌-◌, ◌≤◌, List, [], ◌++◌, length, take, drop, Option, Ok, sym, ap, ◌∙◌, arith, append-nil, append_assoc, length-append, length-take, length-drop}
+use Rattle.std.proofs.lemmas.List.{take-append-drop, take-take, drop-take, drop-drop, drop_all, take-append-le}
 use Rattle.std.specs.Prelude.{slice_range}
 use Rattle.std.specs.Global.{Vec}
-use Rattle.outside.specs.Bytes.{Gave, IsEnd}
+use Rattle.outside.specs.Bytes.{Gave}
 use Rattle.outside.proofs.Taken.{gave_both, gave_nothing}
-use Rattle.http_wire.specs.Reads.{IsFillAnswer, BodyFilled, BodyTaken, IsBodyAnswer}
-use Rattle.http_wire.specs.declared.message.WireFault.{WireFault}
-use Rattle.http_wire.specs.declared.message.WireFault.TheVariants.{CutShort, Unread, ReadFault, Memory}
+use Rattle.http_wire.specs.Reads.{BodyFilled, BodyTaken}
 
 -- so many bytes of the body are there
 pub record Filling (start : List ℕ) (had : Option (List ℕ)) (stored at : ℕ) (body : List ℕ) (left : Option (List ℕ)) : Type 0 where
@@ -15,14 +13,6 @@ pub record Filling (start : List ℕ) (had : Option (List ℕ)) (stored at : ℕ
   pub gave : Gave had got left
   pub front : take at body ≡ take stored start ++ got
   pub there : at ≡ stored + length got
-
-pub filling_begins : (body : List ℕ) (left : Option (List ℕ)) (stored : ℕ) → Filling body left stored stored body left
-filling_begins body left stored = record {
-  got = [];
-  gave = gave_nothing left;
-  front = sym (append-nil (take stored body));
-  there = omega arith;
-}
 
 take_both : (t n : ℕ) (xs : List ℕ) → take (t + n) xs ≡ take t xs ++ take n (drop t xs)
 take_both t n xs =
@@ -42,37 +32,6 @@ filling_more start body now had between left stored at count f kept fits gave =
       front = take_both at count now ∙ ap (λ x. x ++ more) (kept ∙ f.front) ∙ append_assoc (take stored start) f.got more;
       there = let len : length (f.got ++ more) ≡ length f.got + length more = length-append f.got more in omega (arith, there, len, many);
     }
-
--- a read that gave nothing leaves all as it was
-pub filling_still : (start body now : List ℕ) (had between left : Option (List ℕ)) (stored at count : ℕ) → Filling start had stored at body between
-    → take at now ≡ take at body → at + count ≤ length now → Gave between (take count (drop at now)) left → count ≡ 0 → Filling start had stored at now left
-filling_still start body now had between left stored at count f kept fits gave none =
-    let same : at + count ≡ at = omega arith in
-    subst (λ x. Filling start had stored x now left) same (filling_more start body now had between left stored at count f kept fits gave)
-
-pub filled_whole : {T : Type 0} (start body : List ℕ) (had left : Option (List ℕ)) (stored at head : ℕ) (done : T) → Filling start had stored at body left → length body ≤ at
-    → BodyFilled {T = T} start had stored head (Ok done) body left
-filled_whole start body had left stored at head done f whole = record {
-  got = f.got;
-  gave = f.gave;
-  answer = sym (take_all at body whole) ∙ f.front;
-}
-
-pub filled_cut : {T : Type 0} (start body : List ℕ) (had left : Option (List ℕ)) (stored at head have : ℕ) → Filling start had stored at body left → have ≡ head + at
-    → at < length start → IsEnd left → BodyFilled {T = T} start had stored head (Err (CutShort have)) body left
-filled_cut start body had left stored at head have f is less end =
-    let there = f.there in
-    record { got = f.got; gave = f.gave; answer = (omega (arith, there, is), omega (arith, there, less), end) }
-
-pub filled_fault : {T : Type 0} (start body now : List ℕ) (had between left : Option (List ℕ)) (stored at head : ℕ) (r : Result T WireFault) → Filling start had stored at body between
-    → r ≡ Err ReadFault → left ≡ between → at < length start → BodyFilled start had stored head r now left
-filled_fault start body now had between left stored at head r f is same less =
-    let there = f.there in
-    subst (λ x. BodyFilled start had stored head x now left) (sym is) (record {
-      got = f.got;
-      gave = subst (λ x. Gave had f.got x) (sym same) f.gave;
-      answer = omega (arith, there, less);
-    })
 
 -- ---- a body taken from a stream
 
@@ -124,19 +83,3 @@ taken_read held now start body had left head stored len done v low is front coun
             ∙ ap (λ x. x ++ (v.items ++ now)) (sym (take-append-le head held f.got low)),
       );
     }
-
--- the rest of the body didn't come
-pub taken_err : {T : Type 0} (held now start body : List ℕ) (had left : Option (List ℕ)) (head stored len : ℕ) (e : WireFault)
-    → head ≤ length held → stored ≡ length held - head → length start ≡ len
-    → BodyFilled {T = T} start had stored head (Err e) body left → BodyTaken held had head len (Err e) now left
-taken_err held now start body had left head stored len (CutShort have) low is count f =
-    let both = length-append held f.got in
-    let have_is = f.answer.0 in
-    let less = f.answer.1 in
-    record { got = f.got; gave = f.gave; answer = (omega (arith, both, have_is), omega (arith, both, less), f.answer.2) }
-taken_err held now start body had left head stored len Unread low is count f = absurd f.answer
-taken_err held now start body had left head stored len ReadFault low is count f =
-    let both = length-append held f.got in
-    let less = f.answer in
-    record { got = f.got; gave = f.gave; answer = omega (arith, both, less) }
-taken_err held now start body had left head stored len Memory low is count f = absurd f.answer

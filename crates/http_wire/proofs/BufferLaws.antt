@@ -1,10 +1,10 @@
 -- Bytes in a part of a room.
-use Rattle.std.proofs.Common.{◌≡◌, ℕ, ◌+◌, ◌-◌, ◌≤◌, List, [], ◌++◌, length, take, drop, refl, sym, ap, ◌∙◌, subst, arith, length-append, length-take, length-drop}
+use Rattle.std.proofs.Common.{◌≡◌, ℕ, ◌+◌, ◌≤◌, List, ◌++◌, length, take, drop, sym, ap, ◌∙◌, arith, length-append, length-take, length-drop}
 use Rattle.std.specs.Prelude.{slice_range}
-use Rattle.std.proofs.lemmas.List.{take-append-drop, take-take, drop-take, drop-append-le, drop-drop, length-take-le}
+use Rattle.std.proofs.lemmas.List.{take-append-drop, take-take, drop-take, drop-append-le, drop-drop}
 use Rattle.std.proofs.lemmas.Slice.{between_is}
 use Rattle.outside.specs.Bytes.{IsEnd, Gave}
-use Rattle.http_wire.specs.Reads.{IsRead, IsFilled}
+use Rattle.http_wire.specs.Reads.{IsFilled}
 use Rattle.std.specs.Prelude.{Option, Result, Ok, Err, OnErr}
 
 -- the first t and the n behind them

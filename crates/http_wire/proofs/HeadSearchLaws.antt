@@ -1,13 +1,12 @@
 -- What a search that hasn't found the end says of the bytes that it passed.
-use Rattle.std.proofs.Common.{◌≡◌, ◌≢◌, ◌⊎◌, inl, inr, ℕ, ◌+◌, ◌<◌, ◌≤◌, List, [], ◌∷◌, ◌++◌, length, take, nat_eq, cond, Bool, true, false, Option, Some, None, Result, Ok, Err, refl, sym, ap, ◌∙◌, subst, arith, append-nil, length-append}
-use Rattle.std.proofs.lemmas.List.{take_all, nil_from_length, take_at}
+use Rattle.std.proofs.Common.{◌≡◌, ◌≢◌, inl, inr, ℕ, ◌+◌, ◌≤◌, List, [], ◌++◌, length, nat_eq, cond, Bool, true, false, Option, Some, None, Result, Ok, Err, refl, sym, ap, ◌∙◌, subst, arith, append-nil, length-append}
+use Rattle.std.proofs.lemmas.List.{nil_from_length}
 use Rattle.std.proofs.lemmas.Bool.{eqb-true, eqb-false}
-use Rattle.outside.specs.Bytes.{Gave, IsEnd}
-use Rattle.outside.proofs.Taken.{gave_both}
-use Rattle.http_wire.specs.Head.{IsHeadText, HasNoHead, head_limit}
-use Rattle.http_wire.specs.Scan.{head_end, scan, Passed}
-use Rattle.http_wire.specs.Stream.{IsUnread, IsCutShort, HasNoMessage}
-use Rattle.http_wire.specs.Reads.{IsRead, IsFilled, IsHeadAnswer}
+use Rattle.outside.specs.Bytes.{IsEnd}
+use Rattle.http_wire.specs.Head.{HasNoHead, head_limit}
+use Rattle.http_wire.specs.Scan.{head_end, Passed}
+use Rattle.http_wire.specs.Stream.{IsUnread, HasNoMessage}
+use Rattle.http_wire.specs.Reads.{IsFilled, IsHeadAnswer}
 use Rattle.http_wire.specs.declared.head_scan.Progress.{Progress}
 use Rattle.http_wire.specs.declared.head_scan.HeadEnd.{HeadEnd}
 use Rattle.http_wire.specs.declared.message.WireFault.{WireFault}

@@ -1,22 +1,21 @@
 -- From the steps of reading a message to the answer.
-use Rattle.std.proofs.Common.{◌≡◌, ◌≢◌, ◌⊎◌, inl, inr, ℕ, ◌+◌, ◌-◌, ◌<◌, ◌≤◌, List, [], ◌∷◌, ◌++◌, length, take, drop, Option, Some, None, Result, Ok, Err, refl, sym, ap, ◌∙◌, subst, arith, append-nil, append_assoc, length-append, length-drop}
+use Rattle.std.proofs.Common.{◌≡◌, ◌≢◌, inl, inr, ℕ, ◌+◌, ◌<◌, ◌≤◌, List, [], ◌++◌, length, take, drop, Option, Some, Result, Ok, Err, refl, sym, ap, ◌∙◌, subst, arith, append-nil, append_assoc, length-append, length-drop}
 use Rattle.std.proofs.lemmas.List.{take_at, take-append-drop, take-append-le, nil_from_length}
 use Rattle.std.specs.Global.{Vec}
-use Rattle.outside.specs.Bytes.{Gave, IsEnd}
+use Rattle.outside.specs.Bytes.{Gave}
 use Rattle.outside.proofs.Taken.{gave_both}
-use Rattle.httparse.specs.Grammar.{RequestHead, print_request}
-use Rattle.http_wire.specs.Head.{IsHeadText, HasNoHead, head_limit}
+use Rattle.httparse.specs.Grammar.{print_request}
+use Rattle.http_wire.specs.Head.{IsHeadText, head_limit}
 use Rattle.http_wire.specs.Scan.{head_end}
 use Rattle.http_wire.specs.Announced.{Announced, NotAnnounced}
-use Rattle.http_wire.specs.Stream.{message_of, Announces, IsMessage, LacksBody, IsCutShort, IsOtherHead, IsUnread, HasNoMessage}
+use Rattle.http_wire.specs.Stream.{message_of, Announces, LacksBody, IsUnread}
 use Rattle.http_wire.specs.Reads.{IsRead, IsHeadAnswer, IsBodyAnswer, BodyTaken}
 use Rattle.http_wire.specs.Held.{IsAnswer, Answered}
 use Rattle.http_wire.specs.declared.message.Message.{Message}
 use Rattle.http_wire.specs.declared.message.WireFault.{WireFault}
 use Rattle.http_wire.specs.declared.message.WireFault.TheVariants.{CutShort, Unread, ReadFault, Memory}
-use Rattle.http_wire.specs.declared.head_scan.HeadEnd.{HeadEnd}
 use Rattle.http_wire.proofs.ScanLaws.{head_at_end, end_of_head}
-use Rattle.http_wire.proofs.StreamLaws.{no_message_where_less, no_empty_head, announced_head}
+use Rattle.http_wire.proofs.StreamLaws.{no_message_where_less, no_empty_head}
 
 -- the head in front of the bytes
 pub record Front (bytes : List ℕ) (n k : ℕ) : Type 0 where

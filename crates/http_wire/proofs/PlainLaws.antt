@@ -1,11 +1,11 @@
 -- What stands first in a stream of which a front was searched.
-use Rattle.std.proofs.Common.{◌≡◌, ◌≢◌, ◌⊎◌, inl, inr, ℕ, zero, suc, ◌+◌, ◌-◌, ◌<◌, ◌≤◌, min, List, [], ◌∷◌, ◌++◌, length, take, drop, Option, Some, None, refl, sym, ap, ◌∙◌, subst, arith, append-nil, append_assoc, length-append, length-take, length-drop, Bool, false, nat_eq}
+use Rattle.std.proofs.Common.{◌≡◌, ◌≢◌, inl, inr, ℕ, zero, suc, ◌+◌, ◌-◌, ◌<◌, ◌≤◌, min, List, [], ◌∷◌, ◌++◌, length, take, drop, Some, refl, sym, ap, ◌∙◌, subst, arith, append-nil, append_assoc, length-append, length-take, length-drop, Bool, false, nat_eq}
 use Rattle.std.proofs.lemmas.Bool.{eqb-false}
-use Rattle.std.proofs.lemmas.List.{take_at, drop_at, take-append-drop, take_all, take-take, drop-take, take-append-le}
+use Rattle.std.proofs.lemmas.List.{take_at, drop_at, take-append-drop, take_all, take-take, drop-take}
 use Rattle.httparse.specs.Grammar.{print_request}
-use Rattle.http_wire.specs.Head.{IsHeadText, HasNoHead, head_limit}
+use Rattle.http_wire.specs.Head.{head_limit}
 use Rattle.http_wire.specs.Scan.{head_end, Passed}
-use Rattle.http_wire.specs.Announced.{Announced, NotAnnounced}
+use Rattle.http_wire.specs.Announced.{Announced}
 use Rattle.http_wire.specs.Stream.{message_of, Announces, IsMessage, LacksBody, IsCutShort, IsUnread, Framed, Spells, Ends}
 use Rattle.http_wire.specs.declared.head_scan.Progress.{Progress}
 use Rattle.http_wire.specs.declared.message.Message.{Message}
@@ -13,7 +13,7 @@ use Rattle.http_wire.specs.declared.message.End.{End}
 use Rattle.http_wire.proofs.ScanLaws.{head_at_end, end_of_head}
 use Rattle.http_wire.proofs.HeadSearchLaws.{no_head_passed}
 use Rattle.http_wire.proofs.NextLaws.{Front, front_at, announces, lacks, some_bytes}
-use Rattle.http_wire.proofs.StreamLaws.{spells_then_framed, no_empty_head}
+use Rattle.http_wire.proofs.StreamLaws.{spells_then_framed, no_empty_head, spells_more}
 
 -- the head that ends in a front ends in the whole
 pub ends_in_whole : (stream : List ℕ) (m n k : ℕ) → head_end (take m stream) ≡ Some (n, k) → (head_end stream ≡ Some (n, k)) × (n ≤ m)
@@ -77,11 +77,6 @@ first_message stream body n k len m e small a fits is means =
           ∙ ap (λ z. print_request a.h ++ z) (drop-take n len stream ∙ sym is);
       means = means;
     }
-
--- one message more
-pub spells_more : (ms : List Message) (text bytes : List ℕ) (m : Message) → Spells ms text → IsMessage bytes m → Spells (ms ++ m ∷ []) (text ++ bytes)
-spells_more [] text bytes m x y = (bytes, [], y, ap (λ z. z ++ bytes) x ∙ sym (append-nil bytes), refl)
-spells_more (n ∷ ms) text bytes m x y = (x.0, x.1 ++ bytes, x.2, ap (λ z. z ++ bytes) x.3 ∙ append_assoc x.0 x.1 bytes, spells_more ms x.1 bytes m x.4 y)
 
 -- the messages so far stand in front of the rest
 pub record SoFar (stream : List ℕ) (ms : List Message) (rest : List ℕ) : Type 0 where

@@ -1,15 +1,15 @@
 -- Phrases of statuses, the constant replies, and writes of two pieces.
-use Rattle.std.proofs.Common.{◌≡◌, ◌≢◌, ℕ, zero, suc, ◌+◌, ◌<◌, ◌≤◌, ◌⊎◌, inl, inr, Bool, true, false, ◌&&◌, nat_le, nat_eq, List, [], length, codes, IfSome, Option, Some, None, Bor, option_map, refl, sym, ap, subst, ◌∙◌, arith, append_assoc}
+use Rattle.std.proofs.Common.{◌≡◌, ℕ, zero, suc, ◌<◌, ◌≤◌, ◌⊎◌, inl, inr, Bool, true, false, ◌&&◌, nat_le, nat_eq, List, [], length, codes, Option, None, refl, ap, ◌∙◌, arith, append_assoc}
 use Rattle.std.proofs.lemmas.Bool.{ne_eqb, leb-true, cases_lt}
 use Rattle.std.proofs.Math.Dec.{lit<, lit≤}
-use Rattle.std.specs.Prelude.{IsTrue, unwrap_or, decimal, ◌++◌, Result, Ok, Err, IsErr}
+use Rattle.std.specs.Prelude.{unwrap_or, decimal, ◌++◌, Result, Ok, Err, IsErr}
 use Rattle.outside.specs.Bytes.{Took}
 use Rattle.outside.specs.Whole.{TookFront, IsWritten}
 use Rattle.outside.proofs.Taken.{took_both, front_of_second}
 use Rattle.std.proofs.lemmas.Bool.Decides.{Decides-below_and}
 use Rattle.std.specs.Fmt.{digits}
 use Rattle.http.specs.StatusCode.{reason_phrase, IsStatusCode}
-use Rattle.service_core.specs.ReplyBytes.{head_text, plain_reply, line, line_end, content_type, token_line, close_line}
+use Rattle.service_core.specs.ReplyBytes.{head_text, line, line_end, content_type, token_line, close_line}
 use Rattle.http_wire.specs.Out.{farewell_bytes}
 use Rattle.http_wire.specs.declared.message.WireFault.TheVariants.{CutShort, Unread, ReadFault, Memory}
 

@@ -1,13 +1,12 @@
 -- The search finds the ends of heads: it ends where a head's text does, and nowhere else.
-use Rattle.std.proofs.Common.{◌≡◌, ◌≢◌, ℕ, suc, ◌+◌, ◌<◌, ◌≤◌, ◌⊎◌, inl, inr, Bool, true, false, cond, List, [], ◌∷◌, ◌++◌, length, take, drop, get_or, Option, Some, None, refl, sym, ap, ◌∙◌, subst, arith, append_assoc, append-nil, length-append, add_assoc, nat_eq}
+use Rattle.std.proofs.Common.{◌≡◌, ◌≢◌, ℕ, suc, ◌+◌, ◌<◌, inl, inr, Bool, true, false, cond, List, [], ◌∷◌, ◌++◌, length, take, get_or, Option, Some, None, refl, sym, ap, ◌∙◌, subst, arith, append_assoc, length-append, nat_eq}
 use Rattle.std.proofs.lemmas.List.{take_more}
 use Rattle.std.proofs.lemmas.Bool.{ne_eqb, eqb-true, eqb-false}
-use Rattle.std.specs.List.{flat_map, AllByRecursion}
+use Rattle.std.specs.List.{AllByRecursion}
 use Rattle.http_wire.specs.Head.{line_bytes, lines_bytes, IsEmptyText, IsFilledText, IsHeadText}
 use Rattle.http_wire.specs.Scan.{step_of, after_step, scan, head_end}
 use Rattle.http_wire.specs.declared.head_scan.Place.{Place}
 use Rattle.http_wire.specs.declared.head_scan.Place.TheVariants.{Before, BeforeCr, FirstLine, LineStart, LineCr, HeaderLine}
-use Rattle.http_wire.specs.declared.head_scan.Step.{Step}
 use Rattle.http_wire.specs.declared.head_scan.Step.TheVariants.{To, EndsLine, EndsHead}
 
 -- one byte more in front of the rest

@@ -1,13 +1,13 @@
 -- A stream is read in one way.
-use Rattle.std.proofs.Common.{◌≡◌, ◌≢◌, ◌⊎◌, inl, inr, ℕ, suc, ◌+◌, ◌<◌, ◌≤◌, List, [], ◌∷◌, ◌++◌, length, take, drop, Option, Some, None, refl, sym, ap, ◌∙◌, subst, arith, append_assoc, append-nil, length-append}
+use Rattle.std.proofs.Common.{append-nil, ◌≡◌, ◌⊎◌, inl, inr, ℕ, ◌+◌, ◌<◌, List, [], ◌∷◌, ◌++◌, length, take, drop, Option, Some, None, refl, sym, ap, ◌∙◌, subst, arith, append_assoc, length-append}
 use Rattle.std.proofs.lemmas.List.{take_at, drop_at, nil_from_length}
 use Rattle.std.specs.Str.Parse.{digits_value}
-use Rattle.httparse.specs.Grammar.{RequestHead, print_request, IsRequestHead, ReadsRequest}
+use Rattle.httparse.specs.Grammar.{RequestHead, print_request, IsRequestHead}
 use Rattle.httparse.proofs.GrammarLemmas.{request_unique}
 use Rattle.http_wire.specs.Head.{IsHeadText, HasNoHead, head_limit}
 use Rattle.http_wire.specs.Form.{IsForm}
 use Rattle.http_wire.specs.Scan.{head_end, scan}
-use Rattle.http_wire.specs.Stream.{message_of, Announces, IsMessage, LacksBody, IsCutShort, IsOtherHead, IsEndless, IsUnread, HasNoMessage, Ends, Framed, Spells}
+use Rattle.http_wire.specs.Stream.{message_of, Announces, IsMessage, LacksBody, IsOtherHead, IsEndless, IsUnread, HasNoMessage, Ends, Framed, Spells}
 use Rattle.http_wire.specs.declared.message.Message.{Message}
 use Rattle.http_wire.specs.declared.message.End.{End}
 use Rattle.http_wire.specs.declared.message.End.TheVariants.{Finished, CutShort, Unread}
@@ -170,3 +170,8 @@ reading_of_rest (m ∷ ms) (n ∷ ns) text rest e x y =
     let same = same_messages x.0 (x.1 ++ rest) y.0 y.1 m n (sym (append_assoc x.0 x.1 rest) ∙ ap (λ z. z ++ rest) (sym x.3) ∙ y.3) x.2 y.2 in
     let next = reading_of_rest ms ns x.1 rest e x.4 (subst (λ z. Framed z ns e) (sym same.2) y.4) in
     (next.0, ap (λ z. z ∷ ns) (sym same.0) ∙ ap (λ z. m ∷ z) next.1, next.2)
+
+-- One message more behind the others.
+pub spells_more : (ms : List Message) (text bytes : List ℕ) (m : Message) → Spells ms text → IsMessage bytes m → Spells (ms ++ m ∷ []) (text ++ bytes)
+spells_more [] text bytes m x y = (bytes, [], y, ap (λ z. z ++ bytes) x ∙ sym (append-nil bytes), refl)
+spells_more (n ∷ ms) text bytes m x y = (x.0, x.1 ++ bytes, x.2, ap (λ z. z ++ bytes) x.3 ∙ append_assoc x.0 x.1 bytes, spells_more ms x.1 bytes m x.4 y)

@@ -3,7 +3,6 @@ use Rattle.std.specs.Prelude.{◌≡◌, ◌≢◌, ℕ, ◌<◌, ◌≤◌, ◌
 use Rattle.httparse.specs.Grammar.{RequestHead, IsRequestHead, print_request}
 use Rattle.http_wire.specs.Head.{IsHeadText, HasNoHead, head_limit}
 use Rattle.http_wire.specs.Form.{IsForm, route_text}
-use Rattle.service_core.specs.declared.asked.Asked.{Asked}
 use Rattle.http_wire.specs.declared.message.Message.{Message}
 use Rattle.http_wire.specs.declared.message.End.{End}
 use Rattle.http_wire.specs.declared.message.End.TheVariants.{Finished, CutShort, Unread}

@@ -22,3 +22,6 @@ pub use message::{End, Message, WireFault};
 pub use out::{write_farewell, write_response, write_standin};
 pub use plain::read_stream;
 pub use wire::Wire;
+
+#[cfg(test)]
+mod tests;

@@ -1,4 +1,4 @@
-use Rattle.std.proofs.Common.{◌≡◌, ◌<◌, ◌≤◌, ◌+◌, ◌∙◌, ap, arith, sym, subst, length, take, drop, inl, Some}
+use Rattle.std.proofs.Common.{◌≡◌, ◌∙◌, ap, arith, sym, subst, length, take, Some}
 use Rattle.http_wire.specs.Scan.{head_end}
 use Rattle.http_wire.specs.Announced.{Announced, NotAnnounced}
 use Rattle.http_wire.proofs.NextLaws.{front_at, other_head}

@@ -1,4 +1,4 @@
-use Rattle.std.proofs.Common.{◌≡◌, ◌<◌, ◌≤◌, ◌∙◌, ap, arith, sym, length}
+use Rattle.std.proofs.Common.{arith}
 use Rattle.http_wire.proofs.PlainLaws.{ends_in_whole, cut_where_short, unread_where_long, not_empty}
 use Rattle.http_wire.proofs.plain.read_first.Goals as goal
 

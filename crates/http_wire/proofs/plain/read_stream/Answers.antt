@@ -1,4 +1,4 @@
-use Rattle.std.proofs.Common.{◌≡◌, ◌∷◌, [], ◌++◌, subst, sym, ap, ◌∙◌, drop}
+use Rattle.std.proofs.Common.{◌∷◌, [], ◌++◌, subst, sym}
 use Rattle.http_wire.proofs.PlainLaws.{SoFar, so_far_more, so_far_all}
 use Rattle.http_wire.proofs.plain.read_stream.Goals as goal
 

@@ -1,4 +1,4 @@
-use Rattle.std.proofs.Common.{◌≤◌, ◌≡◌, length, arith, sym}
+use Rattle.std.proofs.Common.{◌≤◌, length, arith}
 use Rattle.http_wire.proofs.AnnouncedLaws.{announced_lines, read_lines, not_route, judged}
 use Rattle.http_wire.proofs.request.announced.Goals as goal
 

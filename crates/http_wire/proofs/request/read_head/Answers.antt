@@ -1,4 +1,4 @@
-use Rattle.std.proofs.Common.{◌≡◌, ℕ, ◌≤◌, length, [], Some, IfSome, List, ap, ◌∙◌, sym, append-nil}
+use Rattle.std.proofs.Common.{◌≡◌, ℕ, ◌≤◌, length, [], IfSome, List, ap, ◌∙◌, sym, append-nil}
 use Rattle.http_wire.specs.Scan.{head_end}
 use Rattle.http_wire.proofs.RequestLaws.{request_ends}
 use Rattle.httparse.specs.Grammar.{RequestHead, ReadsRequest, print_request}

@@ -1,9 +1,9 @@
-use Rattle.std.proofs.Common.{◌≡◌, ◌≤◌, ◌∙◌, ◌+◌, ap, arith, sym, subst, length, take, Some, Err}
+use Rattle.std.proofs.Common.{◌≡◌, ◌≤◌, ◌∙◌, ap, arith, sym, subst, length, take, Some, Err}
 use Rattle.std.proofs.lemmas.Result.{err_from_is_err_and}
 use Rattle.http_wire.specs.Head.{head_limit}
 use Rattle.http_wire.specs.Scan.{head_end}
 use Rattle.http_wire.specs.Announced.{Announced, NotAnnounced}
-use Rattle.http_wire.proofs.NextLaws.{Front, front_at, front_short, answered, answered_head_fault, other_head, answered_body_fault, answered_memory, answered_message}
+use Rattle.http_wire.proofs.NextLaws.{front_at, front_short, answered, answered_head_fault, other_head, answered_body_fault, answered_memory, answered_message}
 use Rattle.http_wire.proofs.wire.next_message.Goals as goal
 
 pub returns-in_err-end-clause-answered : goal.returns-in_err-end-clause-answered

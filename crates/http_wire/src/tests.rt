@@ -1,0 +1,246 @@
+// Streams in pieces, and what is written.
+use crate::*;
+use names_realms::Bytes;
+use outside::{Link, MemoryLink, WriteEnd};
+use service_core::forms::{Answer, Standin};
+use std::alloc::{AllocError, Global};
+use std::process::Abort;
+use std::test::Fail;
+
+const FIRST_LINE: &str = "POST /prpc/luci.resultdb.v1.Recorder/CreateInvocation HTTP/1.1\r\n";
+
+const ONE: &str =
+    "POST /prpc/luci.resultdb.v1.Recorder/CreateInvocation HTTP/1.1\r\nHost: h\r\nContent-Length: 2\r\n\r\n{}";
+
+/// A message with its first line, these header lines and this body.
+fn request(alloc: Global, headers: &str, body: &str) -> Result<Vec<u8>, AllocError> {
+    let mut stream = Vec::from_slice(alloc, FIRST_LINE.as_bytes())?;
+    stream.extend_from_slice(headers.as_bytes())?;
+    stream.extend_from_slice(b"\r\n")?;
+    stream.extend_from_slice(body.as_bytes())?;
+    Ok(stream)
+}
+
+/// A message with so many header lines, one of which is its Content-Length.
+fn with_lines(alloc: Global, count: usize) -> Result<Vec<u8>, AllocError> {
+    let mut headers = String::new(alloc);
+    for _ in 1..count {
+        headers.push_str("x: y\r\n")?;
+    }
+    headers.push_str("Content-Length: 0\r\n")?;
+    request(alloc, headers.as_str(), "")
+}
+
+fn joined(alloc: Global, front: &[u8], back: &[u8]) -> Result<Vec<u8>, AllocError> {
+    let mut stream = Vec::from_slice(alloc, front)?;
+    stream.extend_from_slice(back)?;
+    Ok(stream)
+}
+
+/// Three messages, the middle one with bare line feeds and lines before its first one.
+fn three_messages(alloc: Global) -> Result<Vec<u8>, AllocError> {
+    let other = request(alloc, "X: é\r\ncOnTent-lenGTH:\t3 \n", "abc")?;
+    let mut stream = joined(alloc, ONE.as_bytes(), b"\r\n\n")?;
+    stream.extend_from_slice(other.as_slice())?;
+    stream.extend_from_slice(ONE.as_bytes())?;
+    Ok(stream)
+}
+
+fn cut(alloc: Global, stream: &[u8], size: usize) -> Result<Vec<Vec<u8>>, AllocError> {
+    let mut pieces = Vec::new(alloc);
+    for piece in stream.chunks(size.max(1)) {
+        pieces.push(Vec::from_slice(alloc, piece)?)?;
+    }
+    Ok(pieces)
+}
+
+fn check_message(rt: &impl Abort, message: &Message, body: &[u8]) {
+    assert_eq!(rt;
+        message.asked.service.as_slice(),
+        b"luci.resultdb.v1.Recorder".as_slice()
+    );
+    assert_eq!(rt;
+        message.asked.method.as_slice(),
+        b"CreateInvocation".as_slice()
+    );
+    assert_eq!(rt; message.asked.body.as_slice(), body);
+    assert!(rt; !message.close);
+}
+
+fn check_end(rt: &impl Abort, answer: Result<Option<Message>, WireFault>, end: End) {
+    match answer {
+        Ok(None) => assert_eq!(rt; end, End::Finished),
+        Ok(Some(_)) => panic!(rt; "a message too many"),
+        Err(WireFault::CutShort { have }) => assert_eq!(rt; end, End::CutShort { have }),
+        Err(WireFault::Unread) => assert_eq!(rt; end, End::Unread),
+        Err(_) => panic!(rt; "another fault"),
+    }
+}
+
+/// Reads a stream that comes in pieces of a size.
+fn check_wire(
+    rt: &impl Abort,
+    alloc: Global,
+    stream: &[u8],
+    size: usize,
+    bodies: &[&[u8]],
+    end: End,
+) -> Result<(), Fail> {
+    let mut link = MemoryLink::new(alloc, cut(alloc, stream, size)?, Vec::new(alloc))?;
+    let mut wire = Wire::new(alloc)?;
+    for body in bodies {
+        match wire.next(alloc, &mut link) {
+            Ok(Some(message)) => check_message(rt, &message, body),
+            _ => panic!(rt; "a message is missing"),
+        }
+    }
+    check_end(rt, wire.next(alloc, &mut link), end);
+    check_end(rt, wire.next(alloc, &mut link), End::Finished);
+    Ok(())
+}
+
+/// Reads a stream in several cuts, and as a whole.
+fn check_stream(
+    rt: &impl Abort,
+    alloc: Global,
+    stream: &[u8],
+    bodies: &[&[u8]],
+    end: End,
+) -> Result<(), Fail> {
+    for size in [1, 7, 100, 1_000_000] {
+        check_wire(rt, alloc, stream, size, bodies, end)?;
+    }
+    let (messages, found) = read_stream(alloc, stream)?;
+    assert_eq!(rt; found, end);
+    assert_eq!(rt; messages.len(), bodies.len());
+    for (message, body) in messages.iter().zip(bodies.iter()) {
+        check_message(rt, message, body);
+    }
+    Ok(())
+}
+
+#[test]
+fn messages_are_the_same_in_any_cut(rt: HostRuntime) -> Result<(), Fail> {
+    let alloc = rt.alloc();
+    let one = ONE.as_bytes();
+    check_stream(&rt, alloc, b"", &[], End::Finished)?;
+    check_stream(&rt, alloc, one, &[b"{}"], End::Finished)?;
+    let three = three_messages(alloc)?;
+    check_stream(
+        &rt,
+        alloc,
+        three.as_slice(),
+        &[b"{}", b"abc", b"{}"],
+        End::Finished,
+    )?;
+    let behind = joined(alloc, one, b"\r\n")?;
+    check_stream(
+        &rt,
+        alloc,
+        behind.as_slice(),
+        &[b"{}"],
+        End::CutShort { have: 2 },
+    )?;
+    let other = joined(alloc, one, b"GET / HTTP/1.1\r\n\r\n")?;
+    check_stream(&rt, alloc, other.as_slice(), &[b"{}"], End::Unread)?;
+    let full = with_lines(alloc, 64)?;
+    check_stream(&rt, alloc, full.as_slice(), &[b""], End::Finished)?;
+    Ok(())
+}
+
+#[test]
+fn other_forms_are_unread(rt: HostRuntime) -> Result<(), Fail> {
+    let alloc = rt.alloc();
+    for headers in [
+        "",
+        "Content-Length: 2\r\nContent-Length: 2\r\n",
+        "Content-Length: 2\r\nTransfer-Encoding: chunked\r\n",
+        "Content-Length: 2\r\nconnection: x\r\n",
+        "Content-Length:\r\n",
+        "Content-Length: +2\r\n",
+        "Content-Length: 00000000002\r\n",
+        "Content-Length: 4194305\r\n",
+        "Content-Length : 2\r\n",
+    ] {
+        let stream = request(alloc, headers, "{}")?;
+        check_stream(&rt, alloc, stream.as_slice(), &[], End::Unread)?;
+    }
+    for stream in [
+        "GET / HTTP/1.1\r\n\r\n",
+        "POST /prpc/luci.resultdb.v1.Recorder/CreateInvocation HTTP/1.0\r\nContent-Length: 0\r\n\r\n",
+        "POST /prpc/luci.resultdb.v1.Recorder/GetInvocation HTTP/1.1\r\nContent-Length: 0\r\n\r\n",
+    ] {
+        check_stream(&rt, alloc, stream.as_bytes(), &[], End::Unread)?;
+    }
+    let many = with_lines(alloc, 65)?;
+    check_stream(&rt, alloc, many.as_slice(), &[], End::Unread)?;
+    let endless = vec![in alloc; b'a'; 16384]?;
+    check_stream(&rt, alloc, endless.as_slice(), &[], End::Unread)
+}
+
+#[test]
+fn fronts_are_cut_short(rt: HostRuntime) -> Result<(), Fail> {
+    let alloc = rt.alloc();
+    let one = ONE.as_bytes();
+    for have in 1..one.len() {
+        check_stream(&rt, alloc, &one[..have], &[], End::CutShort { have })?;
+    }
+    let large = request(alloc, "Content-Length: 4194304\r\n", "{}")?;
+    check_stream(
+        &rt,
+        alloc,
+        large.as_slice(),
+        &[],
+        End::CutShort { have: 93 },
+    )?;
+    let long = vec![in alloc; b'a'; 16383]?;
+    check_stream(
+        &rt,
+        alloc,
+        long.as_slice(),
+        &[],
+        End::CutShort { have: 16383 },
+    )
+}
+
+#[test]
+fn a_read_fault_closes_a_wire(rt: HostRuntime) -> Result<(), Fail> {
+    let alloc = rt.alloc();
+    let fails = vec![in alloc; 2]?;
+    let mut link = MemoryLink::new(alloc, cut(alloc, ONE.as_bytes(), 40)?, fails)?;
+    let mut wire = Wire::new(alloc)?;
+    let answer = wire.next(alloc, &mut link);
+    assert_eq!(rt; answer.err(), Some(WireFault::ReadFault));
+    check_end(&rt, wire.next(alloc, &mut link), End::Finished);
+    assert_eq!(rt; link.read_faults(), 1);
+    Ok(())
+}
+
+#[test]
+fn replies_are_written_whole(rt: HostRuntime) -> Result<(), Fail> {
+    let alloc = rt.alloc();
+    let mut link = MemoryLink::new(alloc, Vec::new(alloc), vec![in alloc; 5, 6, 6]?)?;
+    let answer = Answer {
+        status: 200,
+        code: 0,
+        token: Some([b'a'; 64]),
+        body: Bytes::new(b"{}".to_vec(alloc)?),
+    };
+    write_response(&mut link, &answer, false)
+        .ok()
+        .expect(&rt, "it is written");
+    write_standin(&mut link, Standin::Spent, true)
+        .ok()
+        .expect(&rt, "it is written");
+    write_farewell(&mut link, &WireFault::Unread)
+        .ok()
+        .expect(&rt, "it is written");
+    let fault = write_farewell(&mut link, &WireFault::Unread);
+    assert_eq!(rt; fault.err(), Some(WriteEnd::WriteFault));
+    let end = write_response(&mut link, &answer, true);
+    assert_eq!(rt; end.err(), Some(WriteEnd::SinkTakesNothing));
+    let expected =
+        "HTTP/1.1 200 OK\r\nContent-Type: application/json\r\nX-Prpc-Grpc-Code: 0\r\nUpdate-Token: aaaaaaaaaaaaaaaaaaaaaaaaaaaaaaaaaaaaaaaaaaaaaaaaaaaaaaaaaaaaaaaa\r\nContent-Length: 2\r\n\r\n{}HTTP/1.1 429 Too Many Requests\r\nContent-Type: text/plain; charset=utf-8\r\nX-Prpc-Grpc-Code: 8\r\nConnection: close\r\nContent-Length: 6\r\n\r\nspent\nHTTP/1.1 400 Bad Request\r\nContent-Type: text/plain; charset=utf-8\r\nX-Prpc-Grpc-Code: 3\r\nConnection: close\r\nContent-Length: 15\r\n\r\nwire 11 Unread\n";
+    assert_eq!(rt; link.written(), expected.as_bytes());
+    Ok(())
+}
