@@ -1,9 +1,9 @@
 -- What was answered, in the stream that was to be read.
-use Rattle.std.proofs.Common.{◌≡◌, ℕ, ℤ, ◌+◌, ◌≤◌, ◌⊎◌, inl, inr, List, [], ◌∷◌, ◌++◌, length, take, drop, Option, Some, None, refl, sym, ap, ◌∙◌, subst, append_assoc, append-nil, arith, length-append}
+use Rattle.std.proofs.Common.{◌≡◌, ℕ, ℤ, ◌≤◌, inl, inr, List, [], ◌++◌, length, take, drop, Option, Some, refl, sym, ap, ◌∙◌, subst, append_assoc, append-nil, arith, length-append}
 use Rattle.std.proofs.lemmas.List.{take-append-le, take-append-drop, take_at}
 use Rattle.outside.specs.Bytes.{Gave, IsEnd}
 use Rattle.service_core.specs.World.{World}
-use Rattle.http_wire.specs.Stream.{IsUnread, IsOtherHead, IsEndless, Ends, Framed, Spells}
+use Rattle.http_wire.specs.Stream.{IsUnread, Ends, Framed, Spells}
 use Rattle.http_wire.specs.declared.message.End.{End}
 use Rattle.http_wire.specs.declared.message.End.TheVariants as stream_ends
 use Rattle.http_wire.specs.declared.message.Message.{Message}

@@ -1,5 +1,5 @@
 -- One message more, and one reply more.
-use Rattle.std.proofs.Common.{◌≡◌, ℕ, List, [], ◌∷◌, ◌++◌, length, Option, Some, None, refl, sym, ap, ◌∙◌, subst, append_assoc, append-nil, arith}
+use Rattle.std.proofs.Common.{◌≡◌, ℕ, List, [], ◌∷◌, ◌++◌, length, refl, sym, ap, ◌∙◌, append_assoc, append-nil, arith}
 use Rattle.service_core.specs.ReplyBytes.{told_bytes}
 use Rattle.service_core.specs.declared.forms.Told.{Told}
 use Rattle.http_wire.specs.Stream.{IsMessage, Spells}

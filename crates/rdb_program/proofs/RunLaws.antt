@@ -1,5 +1,5 @@
 -- What a run's exit status says.
-use Rattle.std.proofs.Common.{◌≡◌, ◌≢◌, ℕ, ℤ, ◌≤◌, ◌⊎◌, inl, inr, List, [], ◌∷◌, Option, Some, refl, sym, ap, ◌∙◌, subst, arith}
+use Rattle.std.proofs.Common.{◌≡◌, ◌≢◌, ℕ, ℤ, ◌⊎◌, inl, inr, List, Option, refl, ap, arith}
 use Rattle.outside.specs.Bytes.{IsEnd}
 use Rattle.outside.specs.Causes.{Rose}
 use Rattle.http_wire.specs.Stream.{Framed}
@@ -8,14 +8,13 @@ use Rattle.http_wire.specs.declared.message.End.TheVariants as stream_ends
 use Rattle.http_wire.specs.declared.message.Message.{Message}
 use Rattle.http_wire.specs.declared.message.WireFault.TheVariants as faults
 use Rattle.http_wire.proofs.StreamLaws.{framed_once}
-use Rattle.service_core.specs.World.{empty_world}
 use Rattle.rdb_program.specs.Words.{IsAnswerWords}
 use Rattle.rdb_program.specs.Ends.{Ends}
 use Rattle.rdb_program.specs.Endings.{status_of, cause_status}
 use Rattle.rdb_program.specs.Connection.{CountsRead, CountsWrite, CountsStalls, IsRest}
-use Rattle.rdb_program.specs.Framing.{Served, AreMessagesOf}
+use Rattle.rdb_program.specs.Framing.{AreMessagesOf}
 use Rattle.rdb_program.specs.Statuses.{IsWhole, IsBroken, HasFault, HasStall, IsComplete}
-use Rattle.rdb_program.specs.Run.{IsRun, ProgramRun}
+use Rattle.rdb_program.specs.Run.{IsRun}
 use Rattle.rdb_program.specs.declared.ending.Cause.{Cause}
 use Rattle.rdb_program.specs.declared.ending.Cause.TheVariants as causes
 use Rattle.rdb_program.specs.declared.ending.Ending.{Ending}

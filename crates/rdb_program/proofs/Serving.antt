@@ -1,10 +1,10 @@
 -- A connection that goes on: what holds between two messages.
-use Rattle.std.proofs.Common.{◌≡◌, ℕ, ℤ, ◌+◌, ◌≤◌, ◌⊎◌, inl, inr, Bool, true, List, [], ◌∷◌, ◌++◌, length, map, Option, Some, None, Result, Ok, Err, refl, sym, ap, ◌∙◌, subst, append_assoc, append-nil, arith, length-append}
+use Rattle.std.proofs.Common.{◌≡◌, ℕ, ℤ, ◌≤◌, ◌⊎◌, inl, inr, true, List, [], ◌∷◌, ◌++◌, length, map, Option, Some, None, Result, Ok, Err, refl, sym, ap, ◌∙◌, subst, append_assoc, append-nil, arith, length-append}
 use Rattle.std.proofs.lemmas.List.{map-append, length-map}
 use Rattle.std.specs.List.{AllByRecursion}
-use Rattle.outside.specs.Bytes.{Gave, Took, IsEnd}
+use Rattle.outside.specs.Bytes.{Gave, Took}
 use Rattle.outside.specs.Causes.{Rose}
-use Rattle.outside.specs.Whole.{IsWritten, CountsFault, CountsEnd}
+use Rattle.outside.specs.Whole.{CountsFault, CountsEnd}
 use Rattle.outside.specs.declared.whole.WriteEnd.{WriteEnd}
 use Rattle.outside.specs.declared.whole.WriteEnd.TheVariants as write_ends
 use Rattle.service_core.specs.World.{World}
@@ -20,7 +20,7 @@ use Rattle.http_wire.specs.declared.message.WireFault.{WireFault}
 use Rattle.http_wire.specs.declared.message.WireFault.TheVariants as faults
 use Rattle.rdb_program.specs.Ends.{Ends}
 use Rattle.rdb_program.specs.Endings.{cause_of}
-use Rattle.rdb_program.specs.Connection.{Answered, Connection, IsClocked, SentBehind, CutInLast, CountsStalls, tolds_of, closing_standin}
+use Rattle.rdb_program.specs.Connection.{Answered, Connection, IsClocked, SentBehind, CountsStalls, tolds_of, closing_standin}
 use Rattle.rdb_program.specs.Turn.{Turn, entry_of}
 use Rattle.rdb_program.specs.Closing.{Closes}
 use Rattle.rdb_program.specs.declared.ending.Cause.{Cause}
@@ -121,14 +121,14 @@ cut_before rest f g h i j k fg ij (inr (inl rose)) = inr (inl (more_then_rose f 
 cut_before rest f g h i j k fg ij (inr (inr rose)) = inr (inr (more_then_rose i j k ij rose))
 
 -- The wire answered a fault, or no more is asked of it, and the connection is closed.
-pub closed : (first world : World) (before now after : Ends) (tb tn : List ℤ → Type 0) (wire wire' : WireState) (fault : WireFault) (cause : Cause) (got : List ℕ)
+pub closed : (first world : World) (before now after : Ends) (tb tn : List ℤ → Type 0) (wire : WireState) (behind : List ℕ) (fault : WireFault) (cause : Cause) (got : List ℕ)
     → Serving first before tb wire now tn world
     → Gave now.left got after.left
-    → held.IsAnswer (wire.held ++ got) (Err fault) after.left wire'
+    → held.IsAnswer (wire.held ++ got) (Err fault) after.left behind
     → held.CountsRead {T = Option Message} now.read_faults (Err fault) after.read_faults
     → Closes fault cause now.written now.write_faults now.stalls after.written after.write_faults after.stalls
     → Connection first before tb cause after tn
-closed first world before now after tb tn wire wire' (faults.CutShort have) cause got s gave answer counts closes =
+closed first world before now after tb tn wire behind (faults.CutShort have) cause got s gave answer counts closes =
     let P : Cause → Type 0 = λ k. Connection first before tb k after tn in
     let S : Cause → Type 0 = λ k. CountsStalls k now.stalls after.stalls in
     let stalls = subst S closes.cause_is closes.stalls in
@@ -146,12 +146,12 @@ closed first world before now after tb tn wire wire' (faults.CutShort have) caus
       clocked = s.clocked;
       wrote = took_both before.written replies closes.front now.written after.written s.wrote closes.took;
       sent_is = ap (λ f. replies ++ f) (nil_front closes.front closes.rest closes.parts) ∙ append-nil replies;
-      rest_is = (answer.1, answer.2);
+      rest_is = answer;
       read_faults = omega (arith, s.read_faults, counts);
       write_faults = omega (arith, s.write_faults, closes.write_faults);
       stalls = omega (arith, s.stalls, stalls);
     })
-closed first world before now after tb tn wire wire' faults.Unread cause got s gave answer counts closes =
+closed first world before now after tb tn wire behind faults.Unread cause got s gave answer counts closes =
     let P : Cause → Type 0 = λ k. Connection first before tb k after tn in
     let S : Cause → Type 0 = λ k. CountsStalls k now.stalls after.stalls in
     let stalls = subst S closes.cause_is closes.stalls in
@@ -176,12 +176,12 @@ closed first world before now after tb tn wire wire' faults.Unread cause got s g
         sent_is = refl;
         cut = cut_before closes.rest before.write_faults now.write_faults after.write_faults before.stalls now.stalls after.stalls s.write_faults same closes.cut;
       };
-      rest_is = answer.1;
+      rest_is = answer;
       read_faults = omega (arith, s.read_faults, counts);
       write_faults = omega (arith, s.write_faults, closes.write_faults);
       stalls = omega (arith, s.stalls, stalls);
     })
-closed first world before now after tb tn wire wire' faults.ReadFault cause got s gave answer counts closes =
+closed first world before now after tb tn wire behind faults.ReadFault cause got s gave answer counts closes =
     let P : Cause → Type 0 = λ k. Connection first before tb k after tn in
     let S : Cause → Type 0 = λ k. CountsStalls k now.stalls after.stalls in
     let stalls = subst S closes.cause_is closes.stalls in
@@ -199,17 +199,17 @@ closed first world before now after tb tn wire wire' faults.ReadFault cause got 
       clocked = s.clocked;
       wrote = took_both before.written replies closes.front now.written after.written s.wrote closes.took;
       sent_is = ap (λ f. replies ++ f) (nil_front closes.front closes.rest closes.parts) ∙ append-nil replies;
-      rest_is = answer.1;
+      rest_is = answer;
       read_faults = (omega (arith, s.read_faults, counts.0), more_then_rose before.read_faults now.read_faults after.read_faults s.read_faults counts.1);
       write_faults = omega (arith, s.write_faults, closes.write_faults);
       stalls = stalls ∙ s.stalls;
     })
-closed first world before now after tb tn wire wire' faults.Memory cause got s gave answer counts closes =
+closed first world before now after tb tn wire behind faults.Memory cause got s gave answer counts closes =
     let P : Cause → Type 0 = λ k. Connection first before tb k after tn in
     let S : Cause → Type 0 = λ k. CountsStalls k now.stalls after.stalls in
     let replies = reply_bytes s.messages (tolds_of s.history) in
     let same : before.stalls ≤ now.stalls = omega (arith, s.stalls) in
-    let behind : SentBehind replies closing_standin (replies ++ closes.front) before after = record {
+    let sent_behind : SentBehind replies closing_standin (replies ++ closes.front) before after = record {
       front = closes.front;
       rest = closes.rest;
       parts = closes.parts;
@@ -229,7 +229,7 @@ closed first world before now after tb tn wire wire' faults.Memory cause got s g
         answered = s.answered;
         clocked = s.clocked;
         wrote = took_both before.written replies closes.front now.written after.written s.wrote closes.took;
-        sent_is = behind;
+        sent_is = sent_behind;
         rest_is = tt;
         read_faults = omega (arith, s.read_faults, counts);
         write_faults = omega (arith, s.write_faults, closes.write_faults);
@@ -247,7 +247,7 @@ closed first world before now after tb tn wire wire' faults.Memory cause got s g
         answered = s.answered;
         clocked = s.clocked;
         wrote = took_both before.written replies closes.front now.written after.written s.wrote closes.took;
-        sent_is = inr behind;
+        sent_is = inr sent_behind;
         rest_is = tt;
         read_faults = omega (arith, s.read_faults, counts);
         write_faults = omega (arith, s.write_faults, closes.write_faults);
@@ -269,17 +269,17 @@ finished first world before now after tb tn wire wire' s reading counts written 
     record {
       messages = s.messages;
       text = s.text;
-      rest = wire.held ++ reading.got;
+      rest = wire.held ++ reading.answered.got;
       history = s.history;
       answers = s.answers;
       last = world;
       sent = replies;
-      read = read_on before.left now.left after.left s.text wire.held reading.got s.read reading.gave;
+      read = read_on before.left now.left after.left s.text wire.held reading.answered.got s.read reading.answered.gave;
       answered = s.answered;
       clocked = s.clocked;
       wrote = subst P (sym written) s.wrote;
       sent_is = refl;
-      rest_is = (reading.answer.1, reading.answer.3);
+      rest_is = (reading.answered.answer.0, reading.answered.answer.2);
       read_faults = omega (arith, s.read_faults, counts);
       write_faults = omega (arith, s.write_faults, write_faults);
       stalls = stalls ∙ s.stalls;
@@ -316,7 +316,7 @@ pub goes_on : {T : Type 0} (first world world' : World) (before now then : Ends)
 goes_on first world world' before now then tb tn tn' wire wire' m done mid_written mid_faults mid_stalls same_written same_faults same_stalls s reading counts mid_turn write_faults stalls =
     let turn = turn_before world world' tn tn' m mid_written now.written then.written (Ok done) same_written mid_turn in
     let e = entry_of world turn.now m.asked turn.told in
-    let bytes = reading.answer.1 in
+    let bytes = reading.answered.answer.0 in
     let timed = timed_goes_on first s.history s.answers world e turn.now world' s.answered.timed turn.serves refl in
     let replies : reply_bytes (s.messages ++ m ∷ []) (tolds_of (s.history ++ e ∷ [])) ≡ reply_bytes s.messages (tolds_of s.history) ++ told_bytes turn.told m.close =
     ap (reply_bytes (s.messages ++ m ∷ [])) (map-append (λ x. x.told) s.history (e ∷ []))
@@ -327,9 +327,9 @@ goes_on first world world' before now then tb tn tn' wire wire' m done mid_writt
       text = s.text ++ bytes;
       history = s.history ++ e ∷ [];
       answers = s.answers ++ turn.now ∷ [];
-      is_open = reading.answer.0;
-      read = read_message before.left now.left then.left s.text wire.held reading.got bytes wire'.held s.read reading.gave reading.answer.3;
-      answered = answered_more first world world' s.messages s.text s.history s.answers m bytes e turn.now s.answered reading.answer.2 timed refl refl;
+      is_open = reading.stays_open;
+      read = read_message before.left now.left then.left s.text wire.held reading.answered.got bytes wire'.held s.read reading.answered.gave reading.answered.answer.2;
+      answered = answered_more first world world' s.messages s.text s.history s.answers m bytes e turn.now s.answered reading.answered.answer.1 timed refl refl;
       clocked = clocked_more tb tn tn' s.answers turn.now s.clocked turn.clocked;
       wrote = subst W (sym replies) (took_both before.written (reply_bytes s.messages (tolds_of s.history)) (told_bytes turn.told m.close) now.written then.written s.wrote turn.written);
       read_faults = omega (arith, s.read_faults, counts);
@@ -352,7 +352,7 @@ breaks_off {T} first world world' before now then tb tn tn' wire wire' m write_e
     let faulted = faults_before {T = T} mid_faults now.write_faults then.write_faults (Err write_ends.WriteFault) same_faults mid_faulted in
     let stalled = stalls_before {T = T} mid_stalls now.stalls then.stalls (Err write_ends.WriteFault) same_stalls mid_stalled in
     let e = entry_of world turn.now m.asked turn.told in
-    let bytes = reading.answer.1 in
+    let bytes = reading.answered.answer.0 in
     let timed = timed_goes_on first s.history s.answers world e turn.now world' s.answered.timed turn.serves refl in
     let replies = reply_bytes s.messages (tolds_of s.history) in
     record {
@@ -363,8 +363,8 @@ breaks_off {T} first world world' before now then tb tn tn' wire wire' m write_e
       answers = s.answers ++ turn.now ∷ [];
       last = world';
       sent = replies ++ turn.written.front;
-      read = read_message before.left now.left then.left s.text wire.held reading.got bytes wire'.held s.read reading.gave reading.answer.3;
-      answered = answered_more first world world' s.messages s.text s.history s.answers m bytes e turn.now s.answered reading.answer.2 timed refl refl;
+      read = read_message before.left now.left then.left s.text wire.held reading.answered.got bytes wire'.held s.read reading.answered.gave reading.answered.answer.2;
+      answered = answered_more first world world' s.messages s.text s.history s.answers m bytes e turn.now s.answered reading.answered.answer.1 timed refl refl;
       clocked = clocked_more tb tn tn' s.answers turn.now s.clocked turn.clocked;
       wrote = took_both before.written replies turn.written.front now.written then.written s.wrote turn.written.took;
       sent_is = record {
@@ -389,7 +389,7 @@ breaks_off {T} first world world' before now then tb tn tn' wire wire' m write_e
     let faulted = faults_before {T = T} mid_faults now.write_faults then.write_faults (Err write_ends.SinkTakesNothing) same_faults mid_faulted in
     let stalled = stalls_before {T = T} mid_stalls now.stalls then.stalls (Err write_ends.SinkTakesNothing) same_stalls mid_stalled in
     let e = entry_of world turn.now m.asked turn.told in
-    let bytes = reading.answer.1 in
+    let bytes = reading.answered.answer.0 in
     let timed = timed_goes_on first s.history s.answers world e turn.now world' s.answered.timed turn.serves refl in
     let replies = reply_bytes s.messages (tolds_of s.history) in
     let same : before.stalls ≤ now.stalls = omega (arith, s.stalls) in
@@ -401,8 +401,8 @@ breaks_off {T} first world world' before now then tb tn tn' wire wire' m write_e
       answers = s.answers ++ turn.now ∷ [];
       last = world';
       sent = replies ++ turn.written.front;
-      read = read_message before.left now.left then.left s.text wire.held reading.got bytes wire'.held s.read reading.gave reading.answer.3;
-      answered = answered_more first world world' s.messages s.text s.history s.answers m bytes e turn.now s.answered reading.answer.2 timed refl refl;
+      read = read_message before.left now.left then.left s.text wire.held reading.answered.got bytes wire'.held s.read reading.answered.gave reading.answered.answer.2;
+      answered = answered_more first world world' s.messages s.text s.history s.answers m bytes e turn.now s.answered reading.answered.answer.1 timed refl refl;
       clocked = clocked_more tb tn tn' s.answers turn.now s.clocked turn.clocked;
       wrote = took_both before.written replies turn.written.front now.written then.written s.wrote turn.written.took;
       sent_is = inl (record {

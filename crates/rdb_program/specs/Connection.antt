@@ -1,5 +1,5 @@
 -- A connection: messages come in, each makes one entry of the history, and its reply goes out.
-use Rattle.std.specs.Prelude.{◌≡◌, ℕ, ℤ, ◌≤◌, ◌⊎◌, List, [], ◌∷◌, ◌++◌, Option, Some, length, map, true}
+use Rattle.std.specs.Prelude.{◌≡◌, ℕ, ℤ, ◌≤◌, ◌⊎◌, List, [], ◌∷◌, ◌++◌, Option, length, map, true}
 use Rattle.std.specs.List.{AllByRecursion}
 use Rattle.outside.specs.Bytes.{Gave, Took, IsEnd}
 use Rattle.outside.specs.Causes.{Rose}

@@ -1,4 +1,4 @@
-use Rattle.std.proofs.Common.{[], false, refl, ◌∙◌, arith}
+use Rattle.std.proofs.Common.{[], refl, ◌∙◌, arith}
 use Rattle.http_wire.specs.declared.message.WireFault.TheVariants as faults
 use Rattle.outside.proofs.Taken.{gave_nothing}
 use Rattle.rdb_program.proofs.Serving.{begins, closed, goes_on, breaks_off}
@@ -21,7 +21,7 @@ returns-in-Err-clause-connection g c =
     let reading = c.in-Err.ensures.reading s.is_open in
     let closes = rw (c.next.ensures.written, c.next.ensures.write_faults, c.next.ensures.stalls) at c.close_after.ensures.closes in
     rw (c.close_after.ensures.left, c.close_after.ensures.read_faults)
-    (closed _ _ _ _ _ _ _ _ _ _ _ reading.got s reading.gave reading.answer c.in-Err.ensures.faults closes)
+    (closed _ _ _ _ _ _ _ _ _ _ _ reading.answered.got s reading.answered.gave reading.answered.answer c.in-Err.ensures.faults closes)
 
 pub messages-preserved : goal.messages-preserved
 messages-preserved g c =
@@ -38,4 +38,4 @@ pub returns-clause-connection : goal.returns-clause-connection
 returns-clause-connection g c =
     let s = c.messages.invariant.serving in
     rw (c.close_for_memory.ensures.left, c.close_for_memory.ensures.read_faults)
-    (closed _ _ _ _ _ _ _ _ (record { held = []; is_open = false }) faults.Memory _ [] s (gave_nothing _) refl (omega arith) c.close_for_memory.ensures.closes)
+    (closed _ _ _ _ _ _ _ _ [] faults.Memory _ [] s (gave_nothing _) tt (omega arith) c.close_for_memory.ensures.closes)

@@ -1,5 +1,4 @@
-use Rattle.std.proofs.Common.{sym, ◌∙◌, subst, ℕ}
-use Rattle.rdb_program.specs.Statuses.{IsComplete}
+use Rattle.std.proofs.Common.{sym, ◌∙◌}
 use Rattle.rdb_program.proofs.RunLaws.{refused, accepted, all_read, stream_broken, has_fault, has_stall, has_no_stall, complete}
 use Rattle.rdb_program.proofs.run.run_program.Goals as goal
 
