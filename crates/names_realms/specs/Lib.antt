@@ -1,4 +1,6 @@
+pub mod Alphabets
 pub mod Parts
+pub mod Sequences
 pub mod Names
 pub mod Realms
 pub mod Civil

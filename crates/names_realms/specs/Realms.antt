@@ -4,25 +4,26 @@ use Rattle.std.specs.List.{position_or_len}
 use Rattle.std.specs.Option.{option_or}
 use Rattle.names_realms.specs.declared.faults.NameFault.{NameFault}
 use Rattle.names_realms.specs.declared.faults.NameFault.TheVariants.{Empty, BadByte}
-use Rattle.names_realms.specs.declared.parts.PartForm.TheVariants as form
+use Rattle.names_realms.specs.declared.alphabets.Alphabet.TheVariants as alphabet
+use Rattle.names_realms.specs.declared.parts.PartForm.TheVariants.{Letters}
 use Rattle.names_realms.specs.Parts.{IsPart, bad_place, limited_fault, unempty_fault, shifted, literal_bad_place}
 
 -- `@root`, or a part
 abbrev pub IsSubrealm : List ℕ → Type 0
-IsSubrealm text = (text ≡ codes "@root") ⊎ IsPart form.Subrealm text
+IsSubrealm text = (text ≡ codes "@root") ⊎ IsPart (Letters alphabet.Subrealm) text
 
 -- a project, a colon, and what is asked for in the project
 pub record IsRealm (text : List ℕ) : Type 0 where
   pub project : List ℕ
   pub subrealm : List ℕ
   pub parts : text ≡ project ++ 58 ∷ subrealm
-  pub is_project : IsPart form.Project project
+  pub is_project : IsPart (Letters alphabet.Project) project
   pub is_subrealm : IsSubrealm subrealm
 
 -- the first bad place behind the colon
 abbrev pub bad_subrealm_place : List ℕ → Option ℕ
 bad_subrealm_place [] = Some 0
-bad_subrealm_place (b ∷ bs) = if b == 64 then literal_bad_place (codes "@root") (b ∷ bs) else bad_place form.Subrealm (b ∷ bs)
+bad_subrealm_place (b ∷ bs) = if b == 64 then literal_bad_place (codes "@root") (b ∷ bs) else bad_place (Letters alphabet.Subrealm) (b ∷ bs)
 
 -- the fault behind a project that ends at this place
 abbrev pub colon_fault : ℕ → List ℕ → Option NameFault
@@ -37,4 +38,4 @@ project_len text = position_or_len (λ b. b == 58) text
 abbrev pub realm_fault : List ℕ → Option NameFault
 realm_fault text =
     if length text == 0 then Some Empty
-    else option_or (unempty_fault form.Project (take (project_len text) text)) (colon_fault (project_len text) (drop (project_len text) text))
+    else option_or (unempty_fault (Letters alphabet.Project) (take (project_len text) text)) (colon_fault (project_len text) (drop (project_len text) text))

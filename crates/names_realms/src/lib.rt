@@ -4,6 +4,7 @@
 //! wrong with it and where. `write_to` appends the one spelling.
 #![tactic(auto)]
 
+mod alphabets;
 mod civil;
 mod faults;
 mod ids;
@@ -11,12 +12,15 @@ mod lists;
 mod moments;
 mod parts;
 mod realms;
+mod sequences;
+mod spans;
 mod states;
 mod texts;
 
 pub use faults::NameFault;
-pub use ids::InvocationId;
+pub use ids::{ArtifactId, InvocationId, ResultId, TestId};
 pub use lists::{Bytes, Numbers};
 pub use moments::Moment;
 pub use realms::Realm;
-pub use states::State;
+pub use spans::Span;
+pub use states::{Case, State, Status};

@@ -3,6 +3,7 @@ ghost use Rattle.std.specs.Prelude.{◌≡◌, ◌≢◌, ◌+◌, ◌^◌, ◌<
 ghost use Rattle.names_realms.specs.Realms.{IsRealm, bad_subrealm_place, colon_fault, realm_fault};
 
 use crate::NameFault;
+use crate::alphabets::Alphabet;
 use crate::parts::{PartForm, fault_unless_empty, first_bad, limited, shifted_fault};
 use crate::texts::{append, bad_in_literal, len_before, owned_text, same};
 use std::alloc::{AllocError, Global};
@@ -32,7 +33,7 @@ fn bad_in_subrealm(text: &[u8]) -> Option<usize>
 {
     match text {
         [b'@', ..] => bad_in_literal(b"@root", text),
-        _ => first_bad(PartForm::Subrealm, text),
+        _ => first_bad(PartForm::Letters(Alphabet::Subrealm), text),
     }
 }
 
@@ -55,7 +56,7 @@ fn fault_of_realm(text: &[u8]) -> Option<NameFault>
         return Some(NameFault::Empty);
     }
     let end = len_before(text, b':');
-    match fault_unless_empty(PartForm::Project, &text[..end]) {
+    match fault_unless_empty(PartForm::Letters(Alphabet::Project), &text[..end]) {
         Some(fault) => Some(fault),
         None => fault_behind_project(end, &text[end..]),
     }

@@ -1,4 +1,7 @@
-//! How far an invocation has come.
+//! How far an invocation has come, and how a test ended.
+
+use crate::lists::Bytes;
+use crate::spans::Span;
 
 /// The state of an invocation. It goes from the first to the last, never back.
 #[derive(Clone, Copy, Debug, PartialEq, Eq)]
@@ -9,4 +12,27 @@ pub enum State {
     Finalizing,
     /// It never changes again.
     Finalized,
+}
+
+/// How a test ended.
+#[derive(Clone, Copy, Debug, PartialEq, Eq)]
+pub enum Status {
+    Pass,
+    Fail,
+    Crash,
+    Abort,
+    Skip,
+}
+
+/// A case of a test report.
+#[derive(Debug, Drop)]
+pub struct Case {
+    pub name: Bytes,
+    pub status: Status,
+    /// Whether it ended as it was to.
+    pub expected: bool,
+    /// How long it took, where the report says so.
+    pub duration: Option<Span>,
+    /// What the report says of it.
+    pub message: Bytes,
 }

@@ -1,0 +1,43 @@
+-- Names of several parts.
+use Rattle.std.proofs.Common.{◌≡◌, ℕ, zero, suc, ◌+◌, ◌≤◌, Bool, true, false, nat_eq, cond, List, [], ◌∷◌, ◌++◌, length, drop, codes, Option, Some, None, option_map, refl, sym, ap, ◌∙◌, arith, one-add}
+use Rattle.std.specs.Prelude.{◌==◌}
+use Rattle.std.specs.List.{common_prefix_len}
+use Rattle.std.proofs.lemmas.Bool.{eqb-true, eq-eqb}
+use Rattle.std.proofs.lemmas.Bool.Decides.{nat_tests}
+use Rattle.std.proofs.lemmas.List.{drop_at}
+use Rattle.names_realms.specs.declared.faults.NameFault.{NameFault}
+use Rattle.names_realms.specs.declared.alphabets.Alphabet.TheVariants as alphabet
+use Rattle.names_realms.specs.declared.parts.PartForm.TheVariants.{Letters}
+use Rattle.names_realms.specs.Parts.{shifted, part_fault}
+use Rattle.names_realms.specs.Sequences.{behind, unless_empty}
+use Rattle.names_realms.specs.Names.{IsInvocationName, invocation_name_fault, invocation_id_fault}
+use Rattle.names_realms.proofs.PartLemmas.{IsPart-part_fault}
+
+-- a text that has all of the literal begins with it
+pub begins_with : (text literal : List ℕ) → common_prefix_len nat_eq text literal ≡ length literal → text ≡ literal ++ drop (length literal) text
+begins_with text [] e = refl
+begins_with [] (y ∷ ys) e = absurd (omega arith)
+begins_with (x ∷ xs) (y ∷ ys) e =
+    elim (nat_eq x y) as (λ t. nat_eq x y ≡ t → cond t (1 + common_prefix_len nat_eq xs ys) 0 ≡ suc (length ys) → (x ∷ xs) ≡ y ∷ (ys ++ drop (length ys) xs)) [
+      | true ↦ λ is f. let same = eqb-true x y is in let rest = begins_with xs ys (omega arith) in cc
+      | false ↦ λ is f. absurd (omega arith)
+    ] refl e
+
+pub common_with : (literal rest : List ℕ) → common_prefix_len nat_eq (literal ++ rest) literal ≡ length literal
+common_with [] [] = refl
+common_with [] (x ∷ xs) = refl
+common_with (x ∷ xs) rest = rw (eq-eqb x x refl, common_with xs rest) (one-add (length xs))
+
+pub behind-None : (literal rest : List ℕ) (fault : List ℕ → Option NameFault) → fault rest ≡ None → behind literal fault (literal ++ rest) ≡ None
+unfolding behind
+behind-None literal rest fault none =
+    rw (common_with literal rest, eq-eqb (length literal) (length literal) refl, drop_at literal rest (length literal) refl, none) refl
+
+pub unless_empty-cons : (fault : List ℕ → Option NameFault) (b : ℕ) (bs : List ℕ) → fault (b ∷ bs) ≡ None → unless_empty fault (b ∷ bs) ≡ None
+unless_empty-cons fault b bs none = grind (arith, nat_tests)
+
+pub IsInvocationName-fault : (id text : List ℕ) → IsInvocationName id text → invocation_name_fault text ≡ None
+IsInvocationName-fault id text is =
+    let named : behind (codes "invocations/") invocation_id_fault (codes "invocations/" ++ id) ≡ None =
+      behind-None (codes "invocations/") id invocation_id_fault (IsPart-part_fault (Letters alphabet.Invocation) id is.1) in
+    ap invocation_name_fault is.0 ∙ unless_empty-cons (behind (codes "invocations/") invocation_id_fault) _ _ named
