@@ -2,6 +2,7 @@
 use Rattle.std.specs.Prelude.{◌≡◌, ℤ, List, [], ◌∷◌, ◌++◌}
 use Rattle.service_core.specs.declared.asked.Asked.{Asked}
 use Rattle.service_core.specs.declared.forms.Answer.{Answer}
+use Rattle.service_core.specs.declared.rows.Invocation.{Invocation}
 use Rattle.service_core.specs.World.{World, IsValid}
 use Rattle.service_core.specs.Step.{Step, moment_of}
 use Rattle.service_core.specs.History.{Entry, Leads, IsLegal, IsTimed}
@@ -14,6 +15,10 @@ StepsAreUnique = (w : World) (moment : ℤ) (asked : Asked) (v : World) (r : Ans
 -- A history from a valid world leads to a valid one. So no two invocations ever have one id.
 abbrev pub LegalKeepsValid : Type 0
 LegalKeepsValid = (w : World) (h : List Entry) (v : World) → IsLegal w h v → IsValid w → IsValid v
+
+-- A history takes no invocation away and alters none: it adds some behind those that were there.
+abbrev pub RowsStay : Type 0
+RowsStay = (w : World) (h : List Entry) (v : World) → IsLegal w h v → (more : List Invocation) × (v.invocations ≡ w.invocations ++ more)
 
 -- A history of calls whose moments a clock made is legal.
 abbrev pub TimedIsLegal : Type 0

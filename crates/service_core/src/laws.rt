@@ -1,5 +1,5 @@
 //! Laws of the definitions that the contracts cite. These functions do nothing: what each of them ensures is the law.
-ghost use Rattle.service_core.specs.Laws.{StepsAreUnique, LegalKeepsValid, TimedIsLegal, TimedGoesOn};
+ghost use Rattle.service_core.specs.Laws.{RowsStay, StepsAreUnique, LegalKeepsValid, TimedIsLegal, TimedGoesOn};
 
 /// A request at a moment leads from a world to one world, with one answer.
 pub fn one_step()
@@ -9,6 +9,11 @@ pub fn one_step()
 /// No two invocations ever have one id: a history from a valid world leads to a valid one.
 pub fn ids_stay_unique()
     ensures { LegalKeepsValid }
+{}
+
+/// What was created stays as it is: a history only adds invocations behind those that were there.
+pub fn rows_stay()
+    ensures { RowsStay }
 {}
 
 /// A history of calls whose moments a clock made is legal.

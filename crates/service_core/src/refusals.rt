@@ -9,10 +9,15 @@ use std::alloc::{AllocError, Global};
 // The rule that a body has a form that is read.
 const BAD_VALUE: u8 = 6;
 
+// The rule that an id is free.
+const TAKEN: u8 = 19;
+
 // The name, the status and the gRPC code of a rule.
 fn kind_of(rule: u8) -> (&'static str, u16, u8)
     requires { IsBuiltRule rule }
-    ensures { (result.0.now ≡ rule_name rule) × (result.1 ≡ rule_status rule) × (result.2 ≡ rule_code rule) }
+    ensures name { result.0.now ≡ rule_name rule }
+    ensures status { result.1 ≡ rule_status rule }
+    ensures code { result.2 ≡ rule_code rule }
 {
     if rule == BAD_VALUE {
         ("BadValue", 400, 3)
@@ -70,5 +75,11 @@ pub(crate) fn taken(alloc: Global, id: &InvocationId) -> Result<Answer, AllocErr
 {
     let id = id.as_str();
     let subject = Bytes::new(format!(in alloc; "invocations/{id}")?.into_bytes());
-    write_refusal(alloc, &Refusal { rule: 19, subject })
+    write_refusal(
+        alloc,
+        &Refusal {
+            rule: TAKEN,
+            subject,
+        },
+    )
 }

@@ -87,7 +87,7 @@ pub fn write_reply(alloc: Global, reply: &Reply) -> Result<Bytes, AllocError>
 }
 
 /// The answer that shows an invocation. `Err` where there is no memory for its text.
-pub fn invocation_answer(alloc: Global, row: &Invocation) -> Result<Answer, AllocError>
+pub(crate) fn invocation_answer(alloc: Global, row: &Invocation) -> Result<Answer, AllocError>
     requires { IsPrintable row.now }
     ensures { IfOk result (λ answer. answer ≡ invocation_answer row.now) }
 {
