@@ -1,5 +1,5 @@
 //! Moments, and their one text.
-ghost use Rattle.std.specs.Prelude.{◌≡◌, ◌++◌, ◌≤◌, ◌<◌, ◌+◌, IfOk, IfErr, OnOk, OnErr, Ok, Err, IsTrue, pos, neg_ℤ, unsigned_abs};
+ghost use Rattle.std.specs.Prelude.{◌≡◌, ◌++◌, ◌≤◌, ◌<◌, ◌+◌, ◌∷◌, [], IfOk, IfErr, OnOk, OnErr, Ok, Err, IsTrue, string_bytes, pos, neg_ℤ, unsigned_abs};
 ghost use Rattle.std.specs.Int.{IsInRange, int_div_euclid, int_rem_euclid};
 ghost use Rattle.jiff.specs.Words.{IsBetween};
 ghost use Rattle.names_realms.specs.MomentReading.{is_in_years, moment_judged, moment_of};
@@ -30,50 +30,50 @@ fn parted(micros: i64) -> (i32, u64)
     (day as i32, clock as u64)
 }
 
-/// The digit of a number below ten.
-fn digit(n: u32) -> u8
+/// Appends the digit of a number below ten.
+fn push_digit(out: &mut String, n: u32) -> Result<(), AllocError>
     requires { n ≤ 9 }
-    ensures { result ≡ 48 + n }
+    ensures { OnOk result (string_bytes out.new ≡ string_bytes out.old ++ (48 + n) ∷ []) }
 {
-    b'0' + n as u8
+    out.push(char::from(b'0' + n as u8))
 }
 
 /// Appends two digits.
-pub(crate) fn push_two(out: &mut Vec<u8>, n: u32) -> Result<(), AllocError>
+pub(crate) fn push_two(out: &mut String, n: u32) -> Result<(), AllocError>
     requires { n ≤ 99 }
-    ensures { OnOk result (out.new.items ≡ out.old.items ++ two_digits n) }
+    ensures { OnOk result (string_bytes out.new ≡ string_bytes out.old ++ two_digits n) }
 {
-    let digits = [digit(n / 10), digit(n % 10)];
-    out.extend_from_slice(digits.as_slice())
+    push_digit(out, n / 10)?;
+    push_digit(out, n % 10)
 }
 
 /// Appends three digits.
-fn push_three(out: &mut Vec<u8>, n: u32) -> Result<(), AllocError>
+fn push_three(out: &mut String, n: u32) -> Result<(), AllocError>
     requires { n ≤ 999 }
-    ensures { OnOk result (out.new.items ≡ out.old.items ++ three_digits n) }
+    ensures { OnOk result (string_bytes out.new ≡ string_bytes out.old ++ three_digits n) }
 {
-    out.push(digit(n / 100))?;
+    push_digit(out, n / 100)?;
     push_two(out, n % 100)
 }
 
 /// Appends four digits.
-fn push_four(out: &mut Vec<u8>, n: u32) -> Result<(), AllocError>
+fn push_four(out: &mut String, n: u32) -> Result<(), AllocError>
     requires { n ≤ 9999 }
-    ensures { OnOk result (out.new.items ≡ out.old.items ++ four_digits n) }
+    ensures { OnOk result (string_bytes out.new ≡ string_bytes out.old ++ four_digits n) }
 {
     push_two(out, n / 100)?;
     push_two(out, n % 100)
 }
 
 /// Appends the decimals of so many microseconds: none, three or six, the fewest that are exact.
-pub(crate) fn push_decimals(out: &mut Vec<u8>, micros: u32) -> Result<(), AllocError>
+pub(crate) fn push_decimals(out: &mut String, micros: u32) -> Result<(), AllocError>
     requires { micros < 1_000_000 }
-    ensures { OnOk result (out.new.items ≡ out.old.items ++ decimals micros) }
+    ensures { OnOk result (string_bytes out.new ≡ string_bytes out.old ++ decimals micros) }
 {
     if micros == 0 {
         return Ok(());
     }
-    out.push(b'.')?;
+    out.push('.')?;
     push_three(out, micros / 1000)?;
     if micros % 1000 == 0 {
         return Ok(());
@@ -82,50 +82,50 @@ pub(crate) fn push_decimals(out: &mut Vec<u8>, micros: u32) -> Result<(), AllocE
 }
 
 /// Appends a date.
-fn push_date(out: &mut Vec<u8>, date: CivilDate) -> Result<(), AllocError>
+fn push_date(out: &mut String, date: CivilDate) -> Result<(), AllocError>
     requires year { date.year ≤ 9999 }
     requires month { date.month ≤ 99 }
     requires day { date.day ≤ 99 }
-    ensures { OnOk result (out.new.items ≡ out.old.items ++ date_text date) }
+    ensures { OnOk result (string_bytes out.new ≡ string_bytes out.old ++ date_text date) }
 {
     push_four(out, date.year as u32)?;
-    out.push(b'-')?;
+    out.push('-')?;
     push_two(out, date.month as u32)?;
-    out.push(b'-')?;
+    out.push('-')?;
     push_two(out, date.day as u32)
 }
 
 /// Appends a time of day, of so many microseconds since midnight.
-fn push_clock(out: &mut Vec<u8>, micros: u64) -> Result<(), AllocError>
+fn push_clock(out: &mut String, micros: u64) -> Result<(), AllocError>
     requires { micros < 86_400_000_000 }
-    ensures { OnOk result (out.new.items ≡ out.old.items ++ clock_text micros) }
+    ensures { OnOk result (string_bytes out.new ≡ string_bytes out.old ++ clock_text micros) }
 {
     push_two(out, (micros / 3_600_000_000) as u32)?;
-    out.push(b':')?;
+    out.push(':')?;
     push_two(out, (micros / 60_000_000 % 60) as u32)?;
-    out.push(b':')?;
+    out.push(':')?;
     push_two(out, (micros / 1_000_000 % 60) as u32)?;
     push_decimals(out, (micros % 1_000_000) as u32)
 }
 
 /// Appends a day and a time of day in UTC.
 #[tactic(auto, unfolding(crate::specs::Moments::text_of_day_and_clock))]
-fn push_day_and_clock(out: &mut Vec<u8>, day: i32, clock: u64) -> Result<(), AllocError>
+fn push_day_and_clock(out: &mut String, day: i32, clock: u64) -> Result<(), AllocError>
     requires day { IsBetween (neg_ℤ (pos 719_162)) (pos 2_932_896) day }
     requires clock { clock < 86_400_000_000 }
-    ensures { OnOk result (out.new.items ≡ out.old.items ++ text_of_day_and_clock day clock) }
+    ensures { OnOk result (string_bytes out.new ≡ string_bytes out.old ++ text_of_day_and_clock day clock) }
 {
     push_date(out, date_of(day))?;
-    out.push(b'T')?;
+    out.push('T')?;
     push_clock(out, clock)?;
-    out.push(b'Z')?;
+    out.push('Z')?;
     Ok(())
 }
 
 /// Appends a moment.
-fn push_moment(out: &mut Vec<u8>, micros: i64) -> Result<(), AllocError>
+fn push_moment(out: &mut String, micros: i64) -> Result<(), AllocError>
     requires { IsInYears micros }
-    ensures { OnOk result (out.new.items ≡ out.old.items ++ moment_text micros) }
+    ensures { OnOk result (string_bytes out.new ≡ string_bytes out.old ++ moment_text micros) }
 {
     let (day, clock) = parted(micros);
     push_day_and_clock(out, day, clock)
@@ -174,6 +174,16 @@ impl Moment {
         judged(text.len(), moment(text))
     }
 
+    /// The text of the moment, as `write_to` appends it. The moment must be of a year from 1 to 9999.
+    pub fn to_text(&self, alloc: Global) -> Result<String, AllocError>
+        requires { IsInYears self.now.micros }
+        ensures { IfOk result (λ text. string_bytes text ≡ moment_text self.now.micros) }
+    {
+        let mut text = String::new(alloc);
+        push_moment(&mut text, self.micros)?;
+        Ok(text)
+    }
+
     /// Appends the moment as RFC 3339 has it, in UTC with `Z` and the fewest of 0, 3 or 6 decimals that are exact: all of it or
     /// nothing. The moment must be of a year from 1 to 9999.
     pub fn write_to(&self, alloc: Global, out: &mut Vec<u8>) -> Result<(), AllocError>
@@ -181,8 +191,7 @@ impl Moment {
         ensures ok { OnOk result (out.new.items ≡ out.old.items ++ moment_text self.now.micros) }
         ensures err { OnErr result (out.new.items ≡ out.old.items) }
     {
-        let mut text = Vec::new(alloc);
-        push_moment(&mut text, self.micros)?;
-        append(out, text.as_slice())
+        let text = self.to_text(alloc)?;
+        append(out, text.as_bytes())
     }
 }

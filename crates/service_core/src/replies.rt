@@ -1,5 +1,5 @@
 // Replies and their texts.
-ghost use Rattle.std.specs.Prelude.{◌≡◌, ◌++◌, codes, IfOk, OnOk, string_bytes};
+ghost use Rattle.std.specs.Prelude.{◌≡◌, ◌++◌, codes, IfOk, OnOk};
 ghost use Rattle.serde_json.specs.Data.{string, put};
 ghost use Rattle.serde_json.specs.View.{view, members_view};
 ghost use Rattle.names_realms.specs.Moments.{moment_text, IsInYears};
@@ -34,19 +34,6 @@ fn put_text(
     serde_json::put(map, alloc, name, Value::try_from_str(alloc, text)?)
 }
 
-// The text of a moment.
-fn moment_string(alloc: Global, moment: Moment) -> Result<String, AllocError>
-    requires { IsInYears moment.micros }
-    ensures { IfOk result (λ text. string_bytes text ≡ moment_text moment.micros) }
-{
-    let mut text = Vec::new(alloc);
-    moment.write_to(alloc, &mut text)?;
-    match String::from_utf8(text) {
-        Ok(text) => Ok(text),
-        Err(_) => Err(AllocError),
-    }
-}
-
 // Puts a moment's text under a name.
 fn put_moment(
     alloc: Global,
@@ -58,7 +45,7 @@ fn put_moment(
     ensures { OnOk result (members_view map.new.entries
         ≡ put name.now (string (moment_text moment.micros)) (members_view map.old.entries)) }
 {
-    let text = moment_string(alloc, moment)?;
+    let text = moment.to_text(alloc)?;
     serde_json::put(map, alloc, name, Value::String(text))
 }
 
