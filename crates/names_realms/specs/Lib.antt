@@ -7,3 +7,4 @@ pub mod Pairs
 pub mod Civil
 pub mod Moments
 pub mod MomentReading
+pub mod Spans

@@ -44,7 +44,12 @@ impl InvocationId {
         ensures refused { IfErr result (λ f. f ≢ NameFault.Memory → (id : List ℕ) → ¬ IsInvocationName id text.now) }
         ensures fault { IfErr result (λ f. f ≢ NameFault.Memory → invocation_name_fault text.now ≡ Some f) }
     {
-        match read_name(alloc, b"invocations/", PartForm::Letters(Alphabet::Invocation), text) {
+        match read_name(
+            alloc,
+            b"invocations/",
+            PartForm::Letters(Alphabet::Invocation),
+            text,
+        ) {
             Ok(text) => Ok(InvocationId { text }),
             Err(fault) => Err(fault),
         }
