@@ -1,10 +1,11 @@
 -- Names of several parts.
-use Rattle.std.proofs.Common.{◌≡◌, ℕ, suc, ◌+◌, true, false, nat_eq, cond, List, [], ◌∷◌, ◌++◌, length, drop, codes, Option, None, refl, ap, ◌∙◌, arith, one-add}
+use Rattle.std.proofs.Common.{◌≡◌, ℕ, suc, ◌+◌, true, false, nat_eq, cond, List, [], ◌∷◌, ◌++◌, length, drop, codes, Option, Some, None, refl, ap, ◌∙◌, arith, one-add}
 use Rattle.std.specs.List.{common_prefix_len}
-use Rattle.std.proofs.lemmas.Bool.{eqb-true, eq-eqb}
+use Rattle.std.proofs.lemmas.Bool.{eqb-true, eq-eqb, ne_eqb}
 use Rattle.std.proofs.lemmas.Bool.Decides.{nat_tests}
 use Rattle.std.proofs.lemmas.List.{drop_at}
 use Rattle.names_realms.specs.declared.faults.NameFault.{NameFault}
+use Rattle.names_realms.specs.declared.faults.NameFault.TheVariants.{BadByte}
 use Rattle.names_realms.specs.declared.alphabets.Alphabet.TheVariants as alphabet
 use Rattle.names_realms.specs.declared.parts.PartForm.TheVariants.{Letters}
 use Rattle.names_realms.specs.Sequences.{behind, unless_empty}
@@ -39,3 +40,8 @@ IsInvocationName-fault id text is =
     let named : behind (codes "invocations/") invocation_id_fault (codes "invocations/" ++ id) ≡ None =
     behind-None (codes "invocations/") id invocation_id_fault (IsPart-part_fault (Letters alphabet.Invocation) id is.1) in
     ap invocation_name_fault is.0 ∙ unless_empty-cons (behind (codes "invocations/") invocation_id_fault) _ _ named
+
+-- a text that doesn't begin with the literal
+pub behind-other : (literal text : List ℕ) (fault : List ℕ → Option NameFault) (f : NameFault) → f ≡ BadByte (common_prefix_len nat_eq text literal) → (common_prefix_len nat_eq text literal ≡ length literal → ⊥) → behind literal fault text ≡ Some f
+unfolding behind
+behind-other literal text fault f is other = rw (is, ne_eqb (common_prefix_len nat_eq text literal) (length literal) other) refl

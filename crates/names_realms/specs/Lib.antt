@@ -1,7 +1,9 @@
 pub mod Alphabets
 pub mod Parts
+pub mod Escapes
 pub mod Sequences
 pub mod Names
+pub mod ResultNames
 pub mod Realms
 pub mod Pairs
 pub mod Civil
