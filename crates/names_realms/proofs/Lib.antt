@@ -7,3 +7,4 @@ pub mod CivilLemmas
 pub mod SequenceLemmas
 pub mod FractionLemmas
 pub mod PairLemmas
+pub mod EscapeLemmas

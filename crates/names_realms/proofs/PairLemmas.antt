@@ -1,8 +1,7 @@
 -- Two texts have no fault just where they make a pair.
-use Rattle.std.proofs.Common.{◌≡◌, ℕ, ◌≤◌, List, length, Option, Some, None, option_map, refl, ◌∙◌, ap, arith}
+use Rattle.std.proofs.Common.{◌≡◌, ℕ, List, length, Option, Some, None, option_map, refl, arith}
 use Rattle.std.specs.Option.{option_or}
 use Rattle.std.specs.Str.{IsUtf8}
-use Rattle.std.specs.Str.Lossy.{utf8_valid_len}
 use Rattle.std.proofs.lemmas.Bool.{eq-eqb}
 use Rattle.std.proofs.lemmas.Bool.Decides.{nat_tests}
 use Rattle.std.proofs.lemmas.Str.{utf8_valid_len-IsUtf8}
@@ -10,7 +9,7 @@ use Rattle.names_realms.specs.declared.faults.NameFault.{NameFault}
 use Rattle.names_realms.specs.declared.parts.PartForm.TheVariants.{PairKey}
 use Rattle.names_realms.specs.declared.pairs.PairFault.{PairFault}
 use Rattle.names_realms.specs.declared.pairs.PairFault.TheVariants.{Key, Value}
-use Rattle.names_realms.specs.Parts.{limited_fault, part_fault}
+use Rattle.names_realms.specs.Parts.{part_fault}
 use Rattle.names_realms.specs.Pairs.{IsPairKey, IsPairValue, utf8_place, pair_value_fault, pair_fault}
 use Rattle.names_realms.proofs.PartLemmas.{part_fault-None, IsPart-part_fault, limited_fault-None, limited_fault-from}
 use Rattle.names_realms.proofs.TextLemmas.{utf8_all}

@@ -1,14 +1,13 @@
 -- Names of several parts.
-use Rattle.std.proofs.Common.{◌≡◌, ℕ, zero, suc, ◌+◌, ◌≤◌, Bool, true, false, nat_eq, cond, List, [], ◌∷◌, ◌++◌, length, drop, codes, Option, Some, None, option_map, refl, sym, ap, ◌∙◌, arith, one-add}
-use Rattle.std.specs.Prelude.{◌==◌}
+use Rattle.std.proofs.Common.{◌≡◌, ℕ, suc, ◌+◌, true, false, nat_eq, cond, List, [], ◌∷◌, ◌++◌, length, drop, codes, Option, Some, None, refl, ap, ◌∙◌, arith, one-add}
 use Rattle.std.specs.List.{common_prefix_len}
-use Rattle.std.proofs.lemmas.Bool.{eqb-true, eq-eqb}
+use Rattle.std.proofs.lemmas.Bool.{eqb-true, eq-eqb, ne_eqb}
 use Rattle.std.proofs.lemmas.Bool.Decides.{nat_tests}
 use Rattle.std.proofs.lemmas.List.{drop_at}
 use Rattle.names_realms.specs.declared.faults.NameFault.{NameFault}
+use Rattle.names_realms.specs.declared.faults.NameFault.TheVariants.{BadByte}
 use Rattle.names_realms.specs.declared.alphabets.Alphabet.TheVariants as alphabet
 use Rattle.names_realms.specs.declared.parts.PartForm.TheVariants.{Letters}
-use Rattle.names_realms.specs.Parts.{shifted, part_fault}
 use Rattle.names_realms.specs.Sequences.{behind, unless_empty}
 use Rattle.names_realms.specs.Names.{IsInvocationName, invocation_name_fault, invocation_id_fault}
 use Rattle.names_realms.proofs.PartLemmas.{IsPart-part_fault}
@@ -39,5 +38,10 @@ unless_empty-cons fault b bs none = grind (arith, nat_tests)
 pub IsInvocationName-fault : (id text : List ℕ) → IsInvocationName id text → invocation_name_fault text ≡ None
 IsInvocationName-fault id text is =
     let named : behind (codes "invocations/") invocation_id_fault (codes "invocations/" ++ id) ≡ None =
-      behind-None (codes "invocations/") id invocation_id_fault (IsPart-part_fault (Letters alphabet.Invocation) id is.1) in
+    behind-None (codes "invocations/") id invocation_id_fault (IsPart-part_fault (Letters alphabet.Invocation) id is.1) in
     ap invocation_name_fault is.0 ∙ unless_empty-cons (behind (codes "invocations/") invocation_id_fault) _ _ named
+
+-- a text that doesn't begin with the literal
+pub behind-other : (literal text : List ℕ) (fault : List ℕ → Option NameFault) (f : NameFault) → f ≡ BadByte (common_prefix_len nat_eq text literal) → (common_prefix_len nat_eq text literal ≡ length literal → ⊥) → behind literal fault text ≡ Some f
+unfolding behind
+behind-other literal text fault f is other = rw (is, ne_eqb (common_prefix_len nat_eq text literal) (length literal) other) refl

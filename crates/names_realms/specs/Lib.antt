@@ -1,9 +1,12 @@
 pub mod Alphabets
 pub mod Parts
+pub mod Escapes
 pub mod Sequences
 pub mod Names
+pub mod ResultNames
 pub mod Realms
 pub mod Pairs
 pub mod Civil
 pub mod Moments
 pub mod MomentReading
+pub mod Spans

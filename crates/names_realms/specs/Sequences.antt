@@ -1,5 +1,5 @@
 -- Names of several parts: what stands behind a literal, and what stands before the next `/` and from there on.
-use Rattle.std.specs.Prelude.{ℕ, ◌+◌, ◌==◌, if◌then◌else◌, nat_eq, List, length, take, drop, Option, Some, None, option_map}
+use Rattle.std.specs.Prelude.{ℕ, ◌==◌, if◌then◌else◌, nat_eq, List, length, take, drop, Option, Some, option_map}
 use Rattle.std.specs.List.{common_prefix_len, position_or_len}
 use Rattle.std.specs.Option.{option_or}
 use Rattle.names_realms.specs.declared.faults.NameFault.{NameFault}

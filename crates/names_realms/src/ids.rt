@@ -13,7 +13,7 @@ use std::marker::Model;
 /// The id of an invocation: `[a-z][a-z0-9_\-:.]{0,99}`.
 #[derive(Debug, Drop)]
 pub struct InvocationId {
-    text: String,
+    pub(crate) text: String,
 }
 
 impl Model for InvocationId {
@@ -44,7 +44,12 @@ impl InvocationId {
         ensures refused { IfErr result (λ f. f ≢ NameFault.Memory → (id : List ℕ) → ¬ IsInvocationName id text.now) }
         ensures fault { IfErr result (λ f. f ≢ NameFault.Memory → invocation_name_fault text.now ≡ Some f) }
     {
-        match read_name(alloc, b"invocations/", PartForm::Letters(Alphabet::Invocation), text) {
+        match read_name(
+            alloc,
+            b"invocations/",
+            PartForm::Letters(Alphabet::Invocation),
+            text,
+        ) {
             Ok(text) => Ok(InvocationId { text }),
             Err(fault) => Err(fault),
         }
@@ -86,7 +91,7 @@ impl InvocationId {
 /// The id of a test: 1 to 512 bytes of UTF-8 without the control characters U+0000 to U+001F and U+007F to U+009F.
 #[derive(Debug, Drop)]
 pub struct TestId {
-    text: String,
+    pub(crate) text: String,
 }
 
 impl Model for TestId {
@@ -147,7 +152,7 @@ impl TestId {
 /// The id of a result: `[a-z0-9\-_.]{1,32}`.
 #[derive(Debug, Drop)]
 pub struct ResultId {
-    text: String,
+    pub(crate) text: String,
 }
 
 impl Model for ResultId {
@@ -208,7 +213,7 @@ impl ResultId {
 /// The id of an artifact: 1 to 256 bytes, each a letter, a digit or one of `- _ . /`, the first not `/`.
 #[derive(Debug, Drop)]
 pub struct ArtifactId {
-    text: String,
+    pub(crate) text: String,
 }
 
 impl Model for ArtifactId {

@@ -6,6 +6,7 @@
 
 mod alphabets;
 mod civil;
+mod escapes;
 mod faults;
 mod ids;
 mod lists;
@@ -14,6 +15,7 @@ mod moments;
 mod pairs;
 mod parts;
 mod realms;
+mod result_names;
 mod sequences;
 mod spans;
 mod states;
@@ -27,5 +29,6 @@ pub use lists::{Bytes, Numbers};
 pub use moments::Moment;
 pub use pairs::{Pair, PairFault};
 pub use realms::Realm;
+pub use result_names::ResultName;
 pub use spans::Span;
 pub use states::{Case, State, Status};

@@ -55,11 +55,15 @@ fn year(text: &[u8]) -> Result<(u32, &[u8]), usize>
 
 /// Reads this byte.
 #[tactic(auto, unfolding(crate::specs::MomentReading::byte_from))]
-fn byte(text: &[u8], wanted: u8) -> Result<&[u8], usize>
+pub(crate) fn byte(text: &[u8], wanted: u8) -> Result<&[u8], usize>
     ensures { seen_rest result ≡ byte_from wanted text.now }
 {
     match text.split_first() {
-        Some((first, rest)) => if *first == wanted { Ok(rest) } else { Err(text.len()) },
+        Some((first, rest)) => if *first == wanted {
+            Ok(rest)
+        } else {
+            Err(text.len())
+        },
         None => Err(0),
     }
 }
@@ -72,7 +76,11 @@ fn month_length(year: u32, month: u32) -> u32
     ensures range { IsInRange 28 31 result }
 {
     match month {
-        2 => if year % 4 == 0 && (year % 100 != 0 || year % 400 == 0) { 29 } else { 28 },
+        2 => if year % 4 == 0 && (year % 100 != 0 || year % 400 == 0) {
+            29
+        } else {
+            28
+        },
         4 | 6 | 9 | 11 => 30,
         _ => 31,
     }
@@ -136,7 +144,11 @@ fn digits(text: &[u8]) -> Result<(u32, &[u8]), usize>
     ensures bound { IfOk result (λ r. r.0 < 1_000_000) }
 {
     match text.split_first() {
-        Some((first, _)) => if first.is_ascii_digit() { Ok(fraction(text)) } else { Err(text.len()) },
+        Some((first, _)) => if first.is_ascii_digit() {
+            Ok(fraction(text))
+        } else {
+            Err(text.len())
+        },
         None => Err(0),
     }
 }
@@ -148,7 +160,11 @@ pub(crate) fn decimals(text: &[u8]) -> Result<(u32, &[u8]), usize>
     ensures bound { IfOk result (λ r. r.0 < 1_000_000) }
 {
     match text.split_first() {
-        Some((first, rest)) => if *first == b'.' { digits(rest) } else { Ok((0, text)) },
+        Some((first, rest)) => if *first == b'.' {
+            digits(rest)
+        } else {
+            Ok((0, text))
+        },
         None => Ok((0, text)),
     }
 }
@@ -175,7 +191,10 @@ fn clock(text: &[u8]) -> Result<(u64, &[u8]), usize>
     let rest = byte(rest, b':')?;
     let (seconds, rest) = two_digits(rest, 0, 59)?;
     let (decimals, rest) = decimals(rest)?;
-    Ok(((minutes as u64 * 60 + seconds as u64) * 1_000_000 + decimals as u64, rest))
+    Ok((
+        (minutes as u64 * 60 + seconds as u64) * 1_000_000 + decimals as u64,
+        rest,
+    ))
 }
 
 /// Reads the hours and minutes of a zone before UTC, or behind it.
@@ -185,7 +204,11 @@ fn offset(text: &[u8], is_behind: bool) -> Result<(i32, &[u8]), usize>
     ensures bound { IfOk result (λ r. IsBetween (neg_ℤ (pos 1439)) (pos 1439) r.0) }
 {
     let (minutes, rest) = minutes(text)?;
-    let offset = if is_behind { -(minutes as i32) } else { minutes as i32 };
+    let offset = if is_behind {
+        -(minutes as i32)
+    } else {
+        minutes as i32
+    };
     Ok((offset, rest))
 }
 

@@ -154,7 +154,9 @@ fn judged(len: usize, read: Result<i64, usize>) -> Result<Moment, NameFault>
                 Err(NameFault::OutOfRange)
             }
         }
-        Err(left) => Err(NameFault::BadByte { at: len.saturating_sub(left) }),
+        Err(left) => Err(NameFault::BadByte {
+            at: len.saturating_sub(left),
+        }),
     }
 }
 

@@ -1,5 +1,5 @@
 //! A part of a name: which bytes it may have, and how many.
-ghost use Rattle.std.specs.Prelude.{◌≡◌, ◌≢◌, ◌+◌, ◌^◌, ◌<◌, ◌≤◌, not, option_map, length, IfOk, IfErr, IfSome, Some, string_bytes};
+ghost use Rattle.std.specs.Prelude.{◌≡◌, ◌≢◌, ◌+◌, ◌^◌, ◌<◌, ◌≤◌, not, option_map, length, IfOk, IfErr, IfSome, None, Some, string_bytes};
 ghost use Rattle.std.specs.List.{position};
 ghost use Rattle.names_realms.specs.Alphabets.{may_begin, may_follow, most_letters};
 ghost use Rattle.names_realms.specs.Parts.{IsPart, alphabet_place, bad_place, limited_fault, most_bytes, part_fault, place_of, shifted, unempty_fault};
@@ -130,6 +130,7 @@ pub(crate) fn fault_of_part(form: PartForm, text: &[u8]) -> Option<NameFault>
 /// Reads a part, all of the text.
 pub(crate) fn read_part(alloc: Global, form: PartForm, text: &[u8]) -> Result<String, NameFault>
     ensures ok { IfOk result (λ t. (string_bytes t ≡ text.now) × IsPart form text.now) }
+    ensures none { IfOk result (λ _. part_fault form text.now ≡ None) }
     ensures refused { IfErr result (λ f. f ≢ NameFault.Memory → ¬ IsPart form text.now) }
     ensures fault { IfErr result (λ f. f ≢ NameFault.Memory → part_fault form text.now ≡ Some f) }
     ensures within { IfErr result (λ f. place_of f ≤ length text.now) }

@@ -26,7 +26,12 @@ pub(crate) fn rest_behind<'t>(literal: &[u8], text: &'t [u8]) -> Result<&'t [u8]
 
 /// Reads a part behind a literal, all of the text.
 #[tactic(auto, unfolding(crate::specs::Sequences::behind))]
-pub(crate) fn read_behind(alloc: Global, literal: &[u8], form: PartForm, text: &[u8]) -> Result<String, NameFault>
+pub(crate) fn read_behind(
+    alloc: Global,
+    literal: &[u8],
+    form: PartForm,
+    text: &[u8],
+) -> Result<String, NameFault>
     ensures ok { IfOk result (λ t. (text.now ≡ literal.now ++ string_bytes t) × IsPart form (string_bytes t)) }
     ensures fault { IfErr result (λ f. f ≢ NameFault.Memory → behind literal.now (part_fault form) text.now ≡ Some f) }
     ensures within { IfErr result (λ f. place_of f ≤ length text.now) }
@@ -42,7 +47,12 @@ pub(crate) fn read_behind(alloc: Global, literal: &[u8], form: PartForm, text: &
 }
 
 /// Reads a literal and a part, all of a name that is not empty.
-pub(crate) fn read_name(alloc: Global, literal: &[u8], form: PartForm, text: &[u8]) -> Result<String, NameFault>
+pub(crate) fn read_name(
+    alloc: Global,
+    literal: &[u8],
+    form: PartForm,
+    text: &[u8],
+) -> Result<String, NameFault>
     ensures ok { IfOk result (λ t. (text.now ≡ literal.now ++ string_bytes t) × IsPart form (string_bytes t)) }
     ensures fault { IfErr result (λ f. f ≢ NameFault.Memory → unless_empty (behind literal.now (part_fault form)) text.now ≡ Some f) }
 {

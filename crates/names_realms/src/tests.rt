@@ -1,8 +1,12 @@
 //! Texts and what they read as, taken from the formats.
-use crate::{InvocationId, Moment, NameFault, Realm, TestId};
+use crate::{
+    ArtifactId, InvocationId, Moment, NameFault, Pair, PairFault, Realm, ResultId, ResultName,
+    Span, TestId,
+};
+use std::alloc::Global;
 use std::test::Fail;
 
-/// What a moment's text reads as, or its fault.
+/// Moments: a text, and its microseconds or its fault.
 const MOMENTS: [(&str, Result<i64, NameFault>); 22] = [
     ("1970-01-01T00:00:00Z", Ok(0)),
     ("2023-11-14T22:13:20Z", Ok(1_700_000_000_000_000)),
@@ -11,7 +15,10 @@ const MOMENTS: [(&str, Result<i64, NameFault>); 22] = [
     ("2023-11-14T23:13:20+01:00", Ok(1_700_000_000_000_000)),
     ("2023-11-14T21:43:20.25-00:30", Ok(1_700_000_000_250_000)),
     ("0001-01-01T00:00:00Z", Ok(-62_135_596_800_000_000)),
-    ("9999-12-31T23:59:59.999999999Z", Ok(253_402_300_799_999_999)),
+    (
+        "9999-12-31T23:59:59.999999999Z",
+        Ok(253_402_300_799_999_999),
+    ),
     ("2000-02-29T00:00:00Z", Ok(951_782_400_000_000)),
     ("", Err(NameFault::Empty)),
     ("0001-01-01T00:00:00+00:01", Err(NameFault::OutOfRange)),
@@ -24,18 +31,186 @@ const MOMENTS: [(&str, Result<i64, NameFault>); 22] = [
     ("2023-11-14T24:00:00Z", Err(NameFault::BadByte { at: 12 })),
     ("2023-11-14T22:60:00Z", Err(NameFault::BadByte { at: 14 })),
     ("2023-11-14T22:13:20.Z", Err(NameFault::BadByte { at: 20 })),
-    ("2023-11-14T22:13:20.1234567890Z", Err(NameFault::BadByte { at: 29 })),
+    (
+        "2023-11-14T22:13:20.1234567890Z",
+        Err(NameFault::BadByte { at: 29 }),
+    ),
     ("2023-11-14T22:13:20", Err(NameFault::BadByte { at: 19 })),
 ];
 
-#[test]
-fn reads_moments(rt: HostRuntime) -> Result<(), Fail> {
-    for (text, read) in MOMENTS {
-        let micros = match Moment::parse(rt.alloc(), text.as_bytes()) {
-            Ok(moment) => Ok(moment.micros),
-            Err(fault) => Err(fault),
-        };
-        assert!(rt; micros == read, "{text}");
+/// Spans: a text, and its microseconds or its fault.
+const SPANS: [(&str, Result<u64, NameFault>); 9] = [
+    ("0s", Ok(0)),
+    ("0.25s", Ok(250_000)),
+    ("007.0000009s", Ok(7_000_000)),
+    ("315576000000s", Ok(315_576_000_000_000_000)),
+    ("315576000000.000001s", Err(NameFault::OutOfRange)),
+    ("1234567890123s", Err(NameFault::BadByte { at: 12 })),
+    ("1.s", Err(NameFault::BadByte { at: 2 })),
+    ("1", Err(NameFault::BadByte { at: 1 })),
+    ("1ss", Err(NameFault::BadByte { at: 2 })),
+];
+
+/// Realms: a text, and its fault where it has one.
+const REALMS: [(&str, Option<NameFault>); 8] = [
+    ("proj:@root", None),
+    ("proj-1:ci/try", None),
+    ("", Some(NameFault::Empty)),
+    (":x", Some(NameFault::BadByte { at: 0 })),
+    ("p", Some(NameFault::BadByte { at: 1 })),
+    ("p:", Some(NameFault::BadByte { at: 2 })),
+    ("p:@roo", Some(NameFault::BadByte { at: 6 })),
+    ("p:@roots", Some(NameFault::BadByte { at: 7 })),
+];
+
+/// Names of results that are no names, and their faults.
+const RESULT_NAMES: [(&str, NameFault); 8] = [
+    ("", NameFault::Empty),
+    ("invocations/a/tests//results/r", NameFault::Empty),
+    (
+        "invocations/a/tests/a%2fb/results/r",
+        NameFault::NotCanonical { at: 21 },
+    ),
+    (
+        "invocations/a/tests/%41/results/r",
+        NameFault::NotCanonical { at: 20 },
+    ),
+    (
+        "invocations/a/tests/a%0a/results/r",
+        NameFault::NotCanonical { at: 21 },
+    ),
+    (
+        "invocations/a/tests/a%0A/results/r",
+        NameFault::BadByte { at: 21 },
+    ),
+    (
+        "invocations/a/tests/a b/results/r",
+        NameFault::BadByte { at: 21 },
+    ),
+    ("invocations/a/x", NameFault::BadByte { at: 14 }),
+];
+
+fn micros_of(read: Result<Moment, NameFault>) -> Result<i64, NameFault> {
+    match read {
+        Ok(moment) => Ok(moment.micros),
+        Err(fault) => Err(fault),
     }
+}
+
+fn span_of(read: Result<Span, NameFault>) -> Result<u64, NameFault> {
+    match read {
+        Ok(span) => Ok(span.micros),
+        Err(fault) => Err(fault),
+    }
+}
+
+fn fault_of<T: Drop>(read: Result<T, NameFault>) -> Option<NameFault> {
+    match read {
+        Ok(_) => None,
+        Err(fault) => Some(fault),
+    }
+}
+
+#[test]
+fn reads_moments_and_spans(rt: HostRuntime) -> Result<(), Fail> {
+    for (text, read) in MOMENTS {
+        assert!(rt;
+            micros_of(Moment::parse(rt.alloc(), text.as_bytes())) == read,
+            "{text}"
+        );
+    }
+    for (text, read) in SPANS {
+        assert!(rt;
+            span_of(Span::parse(rt.alloc(), text.as_bytes())) == read,
+            "{text}"
+        );
+    }
+    Ok(())
+}
+
+#[test]
+fn reads_realms_and_names_of_results(rt: HostRuntime) -> Result<(), Fail> {
+    for (text, fault) in REALMS {
+        assert!(rt;
+            fault_of(Realm::parse(rt.alloc(), text.as_bytes())) == fault,
+            "{text}"
+        );
+    }
+    for (text, fault) in RESULT_NAMES {
+        assert!(rt;
+            fault_of(ResultName::parse(rt.alloc(), text.as_bytes())) == Some(fault),
+            "{text}"
+        );
+    }
+    Ok(())
+}
+
+/// What is written of a name of a result that is read.
+fn again(alloc: Global, text: &[u8]) -> Result<Vec<u8>, NameFault> {
+    let name = ResultName::parse(alloc, text)?;
+    let mut out = Vec::new(alloc);
+    name.write_to(alloc, &mut out)?;
+    Ok(out)
+}
+
+#[test]
+fn reads_and_writes_ids(rt: HostRuntime) -> Result<(), Fail> {
+    let alloc = rt.alloc();
+    let long = Vec::from_array(alloc, [b'a'; 513])?;
+    assert!(rt; fault_of(InvocationId::parse(alloc, &long.as_slice()[..100])) == None);
+    assert!(rt;
+        fault_of(InvocationId::parse(alloc, &long.as_slice()[..101]))
+            == Some(NameFault::TooLong { len: 101 })
+    );
+    assert!(rt;
+        fault_of(InvocationId::parse_name(alloc, b"invocations/a/x"))
+            == Some(NameFault::BadByte { at: 13 })
+    );
+    assert!(rt; fault_of(TestId::parse(alloc, "a/b;c ?%é".as_bytes())) == None);
+    assert!(rt;
+        fault_of(TestId::parse(alloc, long.as_slice())) == Some(NameFault::TooLong { len: 513 })
+    );
+    assert!(rt; fault_of(TestId::parse(alloc, b"a\xC2\x85")) == Some(NameFault::BadByte { at: 1 }));
+    assert!(rt; fault_of(ResultId::parse(alloc, b"r-1_.A")) == Some(NameFault::BadByte { at: 5 }));
+    assert!(rt; fault_of(ArtifactId::parse(alloc, b"/a")) == Some(NameFault::BadByte { at: 0 }));
+    let name = b"invocations/u-1/tests/a%2Fb%3Bc%20%3F%25%C3%A9/results/r1";
+    let Ok(written) = again(alloc, name.as_slice()) else {
+        panic!(rt; "not read");
+    };
+    assert!(rt; written.as_slice() == name.as_slice());
+    Ok(())
+}
+
+#[test]
+fn reads_pairs(rt: HostRuntime) -> Result<(), Fail> {
+    let alloc = rt.alloc();
+    let read = Pair::read(alloc, b"os/arch_1", b"");
+    let Ok(pair) = read else {
+        panic!(rt; "not read");
+    };
+    assert!(rt; pair.key.as_slice() == b"os/arch_1".as_slice() && pair.value.is_empty());
+    let Err(fault) = Pair::read(alloc, b"os/", b"\xFF") else {
+        panic!(rt; "read");
+    };
+    assert!(rt; fault == PairFault::Key(NameFault::BadByte { at: 3 }));
+    Ok(())
+}
+
+#[test]
+fn writes_moments_and_spans(rt: HostRuntime) -> Result<(), Fail> {
+    let alloc = rt.alloc();
+    let mut out = Vec::new(alloc);
+    Moment {
+        micros: 1_700_000_009_999_999,
+    }
+    .write_to(alloc, &mut out)?;
+    Span { micros: 250_000 }.write_to(alloc, &mut out)?;
+    Moment {
+        micros: -62_135_596_800_000_000,
+    }
+    .write_to(alloc, &mut out)?;
+    assert!(rt;
+        out.as_slice() == b"2023-11-14T22:13:29.999999Z0.250s0001-01-01T00:00:00Z".as_slice()
+    );
     Ok(())
 }

@@ -1,4 +1,4 @@
-use Rattle.std.proofs.Common.{◌≡◌, ◌≤◌, ◌+◌, ◌-◌, ◌*◌, ◌/◌, suc, ℕ, List, [], ◌∷◌, length, true, false, refl, sym, ap, ◌∙◌, arith}
+use Rattle.std.proofs.Common.{◌≡◌, ◌≤◌, ◌+◌, ◌-◌, suc, ℕ, List, [], ◌∷◌, true, false, sym, ap, ◌∙◌, arith}
 use Rattle.std.proofs.Math.Nat.{mul-le-mul_left}
 use Rattle.std.specs.Char.{is_ascii_digit}
 use Rattle.names_realms.specs.MomentReading.{fraction_from}
@@ -30,9 +30,9 @@ loop-place-preserved c =
     let left : 9 - at.place ≡ suc (9 - (at.place + 1)) = omega arith in
     record {
       same = sym (fraction-digit (9 - at.place) (9 - (at.place + 1)) at.worth at.micros _ _ left digit)
-        ∙ ap (λ (r : List ℕ). fraction_from (9 - at.place) at.worth at.micros r) (sym split) ∙ at.invariant.same;
+          ∙ ap (λ (r : List ℕ). fraction_from (9 - at.place) at.worth at.micros r) (sym split) ∙ at.invariant.same;
       few = omega (arith, most, at.invariant.few, at.invariant.room);
-      room = omega (arith, most, at.invariant.room)
+      room = omega (arith, most, at.invariant.room);
     }
 
 pub returns-clause-value : goal.returns-clause-value

@@ -1,4 +1,4 @@
-use Rattle.std.proofs.Common.{◌≡◌, ℕ, ◌+◌, ◌-◌, ◌*◌, ◌<◌, ◌≤◌}
+use Rattle.std.proofs.Common.{◌≡◌, ◌+◌, ◌-◌, ◌*◌, ◌<◌, ◌≤◌}
 use Rattle.names_realms.specs.MomentReading.{fraction_from}
 use Rattle.names_realms.proofs.moment_reading.fraction.Given as goal
 
@@ -6,5 +6,5 @@ abbrev pub invariant-loop-place : goal.invariant-loop-place
 invariant-loop-place l = record {
   same : fraction_from (9 - l.place) l.worth l.micros l.rest ≡ fraction_from 9 100_000 0 l.text;
   few : l.micros < 1_000_000;
-  room : l.micros + 10 * l.worth ≤ 1_000_000
+  room : l.micros + 10 * l.worth ≤ 1_000_000;
 }

@@ -1,4 +1,3 @@
-use Rattle.std.proofs.Common.{◌≡◌}
 use Rattle.names_realms.proofs.SequenceLemmas.{IsInvocationName-fault}
 use Rattle.names_realms.proofs.ids.InvocationId.parse_name.Goals as goal
 

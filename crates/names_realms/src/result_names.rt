@@ -1,0 +1,202 @@
+//! Names of results.
+ghost use Rattle.std.specs.Prelude.{◌≡◌, ◌≢◌, ◌≤◌, ◌++◌, ℕ, List, codes, length, IfOk, IfErr, OnOk, OnErr, None, Some};
+ghost use Rattle.names_realms.specs.Parts.{place_of};
+ghost use Rattle.names_realms.specs.Escapes.{escaped, escaped_fault};
+ghost use Rattle.names_realms.specs.Names.{IsInvocationId, IsResultId, IsTestId, invocation_id_fault};
+ghost use Rattle.names_realms.specs.ResultNames.{IsResultName, all_parts_fault, named_fault, result_name, result_name_fault, result_tail, result_tail_fault, test_and_result_fault, test_tail, test_tail_fault};
+
+use crate::NameFault;
+use crate::alphabets::Alphabet;
+use crate::escapes::{append_escaped, read_escaped};
+use crate::ids::{InvocationId, ResultId, TestId};
+use crate::parts::{PartForm, moved, read_part};
+use crate::sequences::{read_behind, rest_behind};
+use crate::texts::{append, len_before};
+use std::alloc::{AllocError, Global};
+
+/// The name of a result: `invocations/{id}/tests/{escaped test id}/results/{result id}`.
+#[derive(Debug, Drop)]
+pub struct ResultName {
+    pub invocation: InvocationId,
+    pub test: TestId,
+    pub result: ResultId,
+}
+
+/// Reads `/results/` and a result's id.
+#[tactic(auto, unfolding(crate::specs::ResultNames::result_tail_fault))]
+fn read_result_tail(alloc: Global, text: &[u8]) -> Result<ResultId, NameFault>
+    ensures ok { IfOk result (λ id. (text.now ≡ result_tail id) × IsResultId id) }
+    ensures fault { IfErr result (λ f. f ≢ NameFault.Memory → result_tail_fault text.now ≡ Some f) }
+    ensures within { IfErr result (λ f. place_of f ≤ length text.now) }
+{
+    match read_behind(
+        alloc,
+        b"/results/",
+        PartForm::Letters(Alphabet::Outcome),
+        text,
+    ) {
+        Ok(text) => Ok(ResultId { text }),
+        Err(fault) => Err(fault),
+    }
+}
+
+/// Reads an escaped test id.
+fn read_test(alloc: Global, text: &[u8]) -> Result<TestId, NameFault>
+    ensures ok { IfOk result (λ id. (text.now ≡ escaped id) × IsTestId id) }
+    ensures none { IfOk result (λ _. escaped_fault PartForm.TestId text.now ≡ None) }
+    ensures fault { IfErr result (λ f. f ≢ NameFault.Memory → escaped_fault PartForm.TestId text.now ≡ Some f) }
+    ensures within { IfErr result (λ f. place_of f ≤ length text.now) }
+{
+    match read_escaped(alloc, PartForm::TestId, text) {
+        Ok(text) => Ok(TestId { text }),
+        Err(fault) => Err(fault),
+    }
+}
+
+/// Reads an escaped test id, `/results/` and a result's id.
+#[tactic(auto, unfolding(crate::specs::ResultNames::test_and_result_fault, crate::specs::Sequences::up_to_slash))]
+fn read_test_and_result(alloc: Global, text: &[u8]) -> Result<(TestId, ResultId), NameFault>
+    ensures ok { IfOk result (λ r. text.now ≡ escaped r.0 ++ result_tail r.1) }
+    ensures grammar { IfOk result (λ r. IsTestId r.0 × IsResultId r.1) }
+    ensures fault { IfErr result (λ f. f ≢ NameFault.Memory → test_and_result_fault text.now ≡ Some f) }
+    ensures within { IfErr result (λ f. place_of f ≤ length text.now) }
+{
+    let end = len_before(text, b'/');
+    let (front, rest) = text.split_at(end);
+    let test = match read_test(alloc, front) {
+        Ok(test) => test,
+        Err(fault) => return Err(fault),
+    };
+    match read_result_tail(alloc, rest) {
+        Ok(result) => Ok((test, result)),
+        Err(fault) => Err(moved(end, fault)),
+    }
+}
+
+/// Reads `/tests/` and what `read_test_and_result` reads.
+#[tactic(auto, unfolding(crate::specs::ResultNames::test_tail_fault, crate::specs::Sequences::behind))]
+fn read_test_tail(alloc: Global, text: &[u8]) -> Result<(TestId, ResultId), NameFault>
+    ensures ok { IfOk result (λ r. text.now ≡ test_tail r.0 r.1) }
+    ensures grammar { IfOk result (λ r. IsTestId r.0 × IsResultId r.1) }
+    ensures fault { IfErr result (λ f. f ≢ NameFault.Memory → test_tail_fault text.now ≡ Some f) }
+    ensures within { IfErr result (λ f. place_of f ≤ length text.now) }
+{
+    let rest = match rest_behind(b"/tests/", text) {
+        Ok(rest) => rest,
+        Err(fault) => return Err(fault),
+    };
+    match read_test_and_result(alloc, rest) {
+        Ok(ids) => Ok(ids),
+        Err(fault) => Err(moved(7, fault)),
+    }
+}
+
+/// Reads an invocation's id.
+fn read_invocation(alloc: Global, text: &[u8]) -> Result<InvocationId, NameFault>
+    ensures ok { IfOk result (λ id. (text.now ≡ id) × IsInvocationId id) }
+    ensures none { IfOk result (λ _. invocation_id_fault text.now ≡ None) }
+    ensures fault { IfErr result (λ f. f ≢ NameFault.Memory → invocation_id_fault text.now ≡ Some f) }
+    ensures within { IfErr result (λ f. place_of f ≤ length text.now) }
+{
+    match read_part(alloc, PartForm::Letters(Alphabet::Invocation), text) {
+        Ok(text) => Ok(InvocationId { text }),
+        Err(fault) => Err(fault),
+    }
+}
+
+/// Reads what stands behind `invocations/` in the name of a result.
+#[tactic(auto, unfolding(crate::specs::ResultNames::all_parts_fault, crate::specs::Sequences::up_to_slash))]
+fn read_all_parts(alloc: Global, text: &[u8]) -> Result<ResultName, NameFault>
+    ensures ok { IfOk result (λ r. text.now ≡ r.invocation ++ test_tail r.test r.result) }
+    ensures invocation { IfOk result (λ r. IsInvocationId r.invocation) }
+    ensures others { IfOk result (λ r. IsTestId r.test × IsResultId r.result) }
+    ensures fault { IfErr result (λ f. f ≢ NameFault.Memory → all_parts_fault text.now ≡ Some f) }
+    ensures within { IfErr result (λ f. place_of f ≤ length text.now) }
+{
+    let end = len_before(text, b'/');
+    let (front, rest) = text.split_at(end);
+    let invocation = match read_invocation(alloc, front) {
+        Ok(invocation) => invocation,
+        Err(fault) => return Err(fault),
+    };
+    match read_test_tail(alloc, rest) {
+        Ok((test, result)) => Ok(ResultName {
+            invocation,
+            test,
+            result,
+        }),
+        Err(fault) => Err(moved(end, fault)),
+    }
+}
+
+/// Reads `invocations/` and what `read_all_parts` reads.
+#[tactic(auto, unfolding(crate::specs::ResultNames::named_fault, crate::specs::ResultNames::result_name, crate::specs::Sequences::behind))]
+fn read_named(alloc: Global, text: &[u8]) -> Result<ResultName, NameFault>
+    ensures ok { IfOk result (λ r. IsResultName r text.now) }
+    ensures fault { IfErr result (λ f. f ≢ NameFault.Memory → named_fault text.now ≡ Some f) }
+    ensures within { IfErr result (λ f. place_of f ≤ length text.now) }
+{
+    let rest = match rest_behind(b"invocations/", text) {
+        Ok(rest) => rest,
+        Err(fault) => return Err(fault),
+    };
+    match read_all_parts(alloc, rest) {
+        Ok(name) => Ok(name),
+        Err(fault) => Err(moved(12, fault)),
+    }
+}
+
+/// Appends `/results/` and a result's id.
+fn push_result_tail(out: &mut Vec<u8>, id: &ResultId) -> Result<(), AllocError>
+    ensures { OnOk result (out.new.items ≡ out.old.items ++ result_tail id.now) }
+{
+    append(out, b"/results/")?;
+    append(out, id.as_slice())
+}
+
+/// Appends what stands behind the invocation's id in the name of a result.
+fn push_test_tail(
+    alloc: Global,
+    out: &mut Vec<u8>,
+    test: &TestId,
+    id: &ResultId,
+) -> Result<(), AllocError>
+    ensures { OnOk result (out.new.items ≡ out.old.items ++ test_tail test.now id.now) }
+{
+    append(out, b"/tests/")?;
+    append_escaped(alloc, out, test.as_slice())?;
+    push_result_tail(out, id)
+}
+
+/// Appends the name of a result.
+#[tactic(auto, unfolding(crate::specs::ResultNames::result_name))]
+fn push_result_name(alloc: Global, out: &mut Vec<u8>, name: &ResultName) -> Result<(), AllocError>
+    ensures { OnOk result (out.new.items ≡ out.old.items ++ result_name name.now) }
+{
+    append(out, b"invocations/")?;
+    append(out, name.invocation.as_slice())?;
+    push_test_tail(alloc, out, &name.test, &name.result)
+}
+
+impl ResultName {
+    /// Reads the name of a result, all of the text. `Memory` where there is none for the name.
+    pub fn parse(alloc: Global, text: &[u8]) -> Result<ResultName, NameFault>
+        ensures ok { IfOk result (λ r. IsResultName r text.now) }
+        ensures fault { IfErr result (λ f. f ≢ NameFault.Memory → result_name_fault text.now ≡ Some f) }
+    {
+        if text.is_empty() {
+            return Err(NameFault::Empty);
+        }
+        read_named(alloc, text)
+    }
+
+    /// Appends the one spelling of the name, all of it or nothing.
+    pub fn write_to(&self, alloc: Global, out: &mut Vec<u8>) -> Result<(), AllocError>
+        ensures ok { OnOk result (out.new.items ≡ out.old.items ++ result_name self.now) }
+        ensures err { OnErr result (out.new.items ≡ out.old.items) }
+    {
+        let mut text = Vec::new(alloc);
+        push_result_name(alloc, &mut text, self)?;
+        append(out, text.as_slice())
+    }
+}
