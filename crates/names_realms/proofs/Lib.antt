@@ -8,3 +8,4 @@ pub mod SequenceLemmas
 pub mod FractionLemmas
 pub mod PairLemmas
 pub mod EscapeLemmas
+pub mod VariantLemmas

@@ -6,6 +6,7 @@ pub mod Names
 pub mod ResultNames
 pub mod Realms
 pub mod Pairs
+pub mod Variants
 pub mod Civil
 pub mod Moments
 pub mod MomentReading

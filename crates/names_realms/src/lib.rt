@@ -22,6 +22,7 @@ mod states;
 #[cfg(test)]
 mod tests;
 mod texts;
+mod variants;
 
 pub use faults::NameFault;
 pub use ids::{ArtifactId, InvocationId, ResultId, TestId};
@@ -32,3 +33,4 @@ pub use realms::Realm;
 pub use result_names::ResultName;
 pub use spans::Span;
 pub use states::{Case, State, Status};
+pub use variants::Variant;

@@ -1,0 +1,45 @@
+-- Variants: pairs in the order of their keys, and their label.
+use Rattle.std.specs.Prelude.{◌≡◌, ℕ, ◌<◌, List, [], ◌∷◌, ◌++◌, length, take, slice_get, Some, IsPermutation}
+use Rattle.std.specs.List.{flat_map}
+use Rattle.std.specs.Ordering.{nat_cmp}
+use Rattle.std.specs.Cmp.Lexicographic.{slice_cmp}
+use Rattle.std.specs.declared.cmp.Ordering.TheVariants.{Less}
+use Rattle.sha2.specs.Sha256.{sha256}
+use Rattle.hex.specs.Hex.{encode_lower}
+use Rattle.names_realms.specs.declared.pairs.Pair.{Pair}
+
+-- the first key comes before the second in the order of bytes
+abbrev pub IsBefore : Pair → Pair → Type 0
+IsBefore p q = slice_cmp nat_cmp p.key q.key ≡ Less
+
+-- each pair's key comes before the next one's
+abbrev pub IsAscending : List Pair → Type 0
+IsAscending [] = Unit {0}
+IsAscending (p ∷ []) = Unit {0}
+IsAscending (p ∷ q ∷ ps) = IsBefore p q × IsAscending (q ∷ ps)
+
+-- the last pair, if there is one, comes before this one
+abbrev pub EndsBefore : List Pair → Pair → Type 0
+EndsBefore [] p = Unit {0}
+EndsBefore (q ∷ []) p = IsBefore q p
+EndsBefore (q ∷ r ∷ ps) p = EndsBefore (r ∷ ps) p
+
+-- this pair comes before the first, if there is one
+abbrev pub BeginsAfter : Pair → List Pair → Type 0
+BeginsAfter p [] = Unit {0}
+BeginsAfter p (q ∷ ps) = IsBefore p q
+
+-- The pairs before this place can be put in order, and one of them has the key of the pair at this place.
+abbrev pub IsFirstRepeat : List Pair → ℕ → Type 0
+IsFirstRepeat pairs at =
+    (before : List Pair) × IsPermutation (take at pairs) before × IsAscending before
+    × (repeated : Pair) × (slice_get pairs at ≡ Some repeated)
+    × (place : ℕ) × (earlier : Pair) × (slice_get before place ≡ Some earlier) × (earlier.key ≡ repeated.key)
+
+-- `key`, `:`, `value` and a newline of a pair
+abbrev pub pair_bytes : Pair → List ℕ
+pair_bytes p = p.key ++ (58 ∷ (p.value ++ 10 ∷ []))
+
+-- the first 16 digits of the digest of the pairs
+unfoldable pub label_of : List Pair → List ℕ
+label_of pairs = take 16 (encode_lower (sha256 (flat_map pair_bytes pairs)))

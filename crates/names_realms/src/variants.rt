@@ -1,0 +1,133 @@
+//! Variants of tests, and their labels.
+ghost use Rattle.std.specs.Prelude.{◌≡◌, ◌≢◌, ◌++◌, ◌≤◌, ◌<◌, ℕ, List, ◌∷◌, [], take, drop, length, slice_get, IsPermutation, IfOk, IfErr, Some};
+ghost use Rattle.std.specs.List.{flat_map};
+ghost use Rattle.std.specs.Ordering.{nat_cmp};
+ghost use Rattle.std.specs.Cmp.Lexicographic.{slice_cmp};
+ghost use Rattle.sha2.specs.Sha256.{sha256};
+ghost use Rattle.sha2.specs.Hashers.{Holds256};
+ghost use Rattle.names_realms.specs.declared.pairs.Pair.{Pair};
+ghost use Rattle.names_realms.specs.Variants.{BeginsAfter, EndsBefore, IsAscending, IsFirstRepeat, label_of, pair_bytes};
+
+use crate::NameFault;
+use crate::pairs::Pair;
+use sha2::{Digest, Sha256};
+use std::alloc::Global;
+use std::cmp::Ordering;
+use std::marker::Model;
+
+/// The pairs of a variant, in the order of their keys as bytes. No key stands twice.
+#[derive(Debug, Drop)]
+pub struct Variant {
+    pairs: Vec<Pair>,
+}
+
+impl Model for Variant {
+    ghost use Rattle.std.specs.Prelude.{List};
+    ghost use Rattle.names_realms.specs.declared.pairs.Pair.{Pair};
+    ghost use Rattle.names_realms.specs.Variants.{IsAscending};
+
+    ghost Value = { List Pair };
+
+    ghost view = { λ v. v.pairs.items };
+
+    ghost invariant = { λ v. IsAscending v.pairs.items };
+}
+
+/// How the keys of two pairs compare.
+fn compared(left: &Pair, right: &Pair) -> Ordering
+    ensures { result ≡ slice_cmp nat_cmp left.now.key right.now.key }
+{
+    left.key.as_slice().cmp(right.key.as_slice())
+}
+
+/// Where a pair stands among pairs in order, or the place of one with its key. The search begins at the end, since pairs that come
+/// in order are the usual case.
+fn place_for(pairs: &[Pair], pair: &Pair) -> Result<usize, usize>
+    ensures free { IfOk result (λ at. (at ≤ length pairs.now) × EndsBefore (take at pairs.now) pair.now × BeginsAfter pair.now (drop at pairs.now)) }
+    ensures taken { IfErr result (λ at. (earlier : Pair) × (slice_get pairs.now at ≡ Some earlier) × (earlier.key ≡ pair.now.key)) }
+{
+    let mut at = pairs.len();
+    while at > 0 {
+        match compared(pair, &pairs[at - 1]) {
+            Ordering::Less => at -= 1,
+            Ordering::Equal => return Err(at - 1),
+            Ordering::Greater => return Ok(at),
+        }
+    }
+    Ok(0)
+}
+
+/// Feeds one pair to a hasher.
+fn feed_pair(hasher: &mut Sha256, pair: &Pair)
+    ensures { (m : List ℕ) → Holds256 hasher.old m → Holds256 hasher.new (m ++ pair_bytes pair.now) }
+{
+    hasher.update(pair.key.as_slice());
+    hasher.update(b":");
+    hasher.update(pair.value.as_slice());
+    hasher.update(b"\n");
+}
+
+/// The digest of the pairs.
+fn pairs_digest(pairs: &[Pair]) -> [u8; 32]
+    ensures { result ≡ sha256 (flat_map pair_bytes pairs.now) }
+{
+    let mut hasher = Sha256::new();
+    for i in 0..pairs.len() {
+        feed_pair(&mut hasher, &pairs[i]);
+    }
+    hasher.finalize()
+}
+
+/// Writes bytes over a slice as long.
+fn fill(room: &mut [u8], bytes: &[u8])
+    requires { length bytes.now ≡ length room.old }
+    ensures { room.new ≡ bytes.now }
+{
+    room.copy_from_slice(bytes);
+}
+
+/// The first 16 digits of the digest of pairs.
+#[tactic(auto, unfolding(crate::specs::Variants::label_of))]
+fn label_text(pairs: &[Pair]) -> [u8; 16]
+    ensures { result ≡ label_of pairs.now }
+{
+    let code = pairs_digest(pairs);
+    let mut text = [0u8; 64];
+    let _ = hex::encode_to_slice(code.as_slice(), &mut text);
+    let mut out = [0u8; 16];
+    fill(&mut out, &text[..16]);
+    out
+}
+
+impl Variant {
+    /// The variant of these pairs, in the order of their keys. `NotCanonical` at the first place, counted from 0, whose key an earlier
+    /// pair has; `Memory` where there is none for the order.
+    pub fn from_pairs(alloc: Global, pairs: Vec<Pair>) -> Result<Variant, NameFault>
+        ensures ok { IfOk result (λ v. IsPermutation pairs.items v × IsAscending v) }
+        ensures fault { IfErr result (λ f. f ≢ NameFault.Memory → (at : ℕ) × (f ≡ NameFault.NotCanonical at) × IsFirstRepeat pairs.items at) }
+    {
+        let mut sorted = Vec::new(alloc);
+        for pair in pairs {
+            match place_for(sorted.as_slice(), &pair) {
+                Ok(at) => sorted.insert(at, pair)?,
+                Err(_) => return Err(NameFault::NotCanonical { at: sorted.len() }),
+            }
+        }
+        Ok(Variant { pairs: sorted })
+    }
+
+    /// The pairs, in the order of their keys.
+    pub fn as_slice(&self) -> &[Pair]
+        ensures pairs { result.now ≡ self.now }
+        ensures ascending { IsAscending self.now }
+    {
+        self.pairs.as_slice()
+    }
+
+    /// The label: the first 16 hexadecimal digits of SHA-256 over `key`, `:`, `value` and a newline of each pair in order.
+    pub fn label(&self) -> [u8; 16]
+        ensures { result ≡ label_of self.now }
+    {
+        label_text(self.pairs.as_slice())
+    }
+}
