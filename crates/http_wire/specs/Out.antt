@@ -3,8 +3,6 @@ use Rattle.std.specs.Prelude.{ℕ, List, [], ◌∷◌, ◌++◌, true, codes, d
 use Rattle.service_core.specs.ReplyBytes.{plain_reply, told_bytes}
 use Rattle.service_core.specs.declared.forms.Told.{Told}
 use Rattle.http_wire.specs.declared.message.Message.{Message}
-use Rattle.http_wire.specs.declared.message.End.{End}
-use Rattle.http_wire.specs.declared.message.End.TheVariants.{Finished, CutShort as EndsShort, Unread as EndsUnread}
 use Rattle.http_wire.specs.declared.message.WireFault.{WireFault}
 use Rattle.http_wire.specs.declared.message.WireFault.TheVariants.{CutShort, Unread, ReadFault, Memory}
 
@@ -26,18 +24,8 @@ fault_name Memory = codes "Memory"
 abbrev pub farewell_bytes : WireFault → List ℕ
 farewell_bytes fault = plain_reply 400 3 true (codes "wire " ++ (decimal (fault_number fault) ++ (codes " " ++ (fault_name fault ++ codes "\n"))))
 
--- the farewell, where one is said at this end
-abbrev pub end_bytes : End → List ℕ
-end_bytes Finished = []
-end_bytes (EndsShort have) = []
-end_bytes EndsUnread = farewell_bytes Unread
-
 -- the replies that were told, each with its message's close flag
 abbrev pub reply_bytes : List Message → List Told → List ℕ
 reply_bytes [] tolds = []
 reply_bytes (m ∷ ms) [] = []
 reply_bytes (m ∷ ms) (told ∷ tolds) = told_bytes told m.close ++ reply_bytes ms tolds
-
--- what is written to a peer that sent these messages and this end
-abbrev pub out_bytes : List Message → List Told → End → List ℕ
-out_bytes ms tolds end = reply_bytes ms tolds ++ end_bytes end

@@ -1,5 +1,5 @@
 //! Spans of time, and their one text.
-ghost use Rattle.std.specs.Prelude.{◌≡◌, ◌≤◌, ◌<◌, ◌++◌, ◌+◌, ℕ, List, length, Ok, Err, IfOk, IfErr, OnOk, OnErr};
+ghost use Rattle.std.specs.Prelude.{string_bytes, ◌≡◌, ◌≤◌, ◌<◌, ◌++◌, ◌+◌, ℕ, List, length, Ok, Err, IfOk, IfErr, OnOk, OnErr};
 ghost use Rattle.names_realms.specs.MomentReading.{seen};
 ghost use Rattle.names_realms.specs.Spans.{most_span, seconds_from, span_from, span_judged, span_of, span_text, whole_from};
 
@@ -88,15 +88,14 @@ fn judged(len: usize, read: Result<u64, usize>) -> Result<Span, NameFault>
 
 /// Appends a span.
 #[tactic(auto, unfolding(crate::specs::Spans::span_text))]
-fn push_span(alloc: Global, out: &mut Vec<u8>, micros: u64) -> Result<(), AllocError>
-    ensures { OnOk result (out.new.items ≡ out.old.items ++ span_text micros) }
+fn push_span(alloc: Global, out: &mut String, micros: u64) -> Result<(), AllocError>
+    ensures { OnOk result (string_bytes out.new ≡ string_bytes out.old ++ span_text micros) }
 {
     let seconds = micros / 1_000_000;
     let text = format!(in alloc; "{seconds}")?;
-    out.extend_from_slice(text.as_bytes())?;
+    out.push_str(text.as_str())?;
     push_decimals(out, (micros % 1_000_000) as u32)?;
-    out.push(b's')?;
-    Ok(())
+    out.push('s')
 }
 
 impl Span {
@@ -115,13 +114,21 @@ impl Span {
         judged(text.len(), span_micros(text))
     }
 
+    /// The text of the span, as `write_to` appends it.
+    pub fn to_text(&self, alloc: Global) -> Result<String, AllocError>
+        ensures { IfOk result (λ text. string_bytes text ≡ span_text self.now.micros) }
+    {
+        let mut text = String::new(alloc);
+        push_span(alloc, &mut text, self.micros)?;
+        Ok(text)
+    }
+
     /// Appends the span in seconds with the fewest of 0, 3 or 6 decimals that are exact, and `s`: all of it or nothing.
     pub fn write_to(&self, alloc: Global, out: &mut Vec<u8>) -> Result<(), AllocError>
         ensures ok { OnOk result (out.new.items ≡ out.old.items ++ span_text self.now.micros) }
         ensures err { OnErr result (out.new.items ≡ out.old.items) }
     {
-        let mut text = Vec::new(alloc);
-        push_span(alloc, &mut text, self.micros)?;
-        append(out, text.as_slice())
+        let text = self.to_text(alloc)?;
+        append(out, text.as_bytes())
     }
 }

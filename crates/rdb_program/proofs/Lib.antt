@@ -1,5 +1,5 @@
 pub mod LineLaws
-pub mod MessageLaws
+pub mod ReplyLaws
 pub mod Serving
 pub mod FramingLaws
 pub mod RunLaws

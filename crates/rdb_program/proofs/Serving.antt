@@ -27,7 +27,8 @@ use Rattle.rdb_program.specs.declared.ending.Cause.{Cause}
 use Rattle.rdb_program.specs.declared.ending.Cause.TheVariants as causes
 use Rattle.outside.proofs.CountLaws.{more_then_rose}
 use Rattle.outside.proofs.Taken.{gave_nothing, gave_both, took_nothing, took_both}
-use Rattle.rdb_program.proofs.MessageLaws.{spells_more, replies_more}
+use Rattle.http_wire.proofs.StreamLaws.{spells_more}
+use Rattle.rdb_program.proofs.ReplyLaws.{replies_more}
 use Rattle.service_core.proofs.HistoryLaws.{timed_goes_on}
 
 -- So many messages were answered, and their replies were written whole.
@@ -103,7 +104,7 @@ answered_more : (first mid last : World) (ms : List Message) (text : List ℕ) (
     → Answered first ms text h answers mid → IsMessage bytes m → IsTimed first (h ++ e ∷ []) (answers ++ now ∷ []) last → e.seat ≡ 0 → e.asked ≡ m.asked
     → Answered first (ms ++ m ∷ []) (text ++ bytes) (h ++ e ∷ []) (answers ++ now ∷ []) last
 answered_more first mid last ms text h answers m bytes e now before is timed seat asked = record {
-  spelled = spells_more ms m text bytes before.spelled is;
+  spelled = spells_more ms text bytes m before.spelled is;
   requests = map-append (λ x. x.asked) h (e ∷ []) ∙ ap (λ t. t ++ e.asked ∷ []) before.requests ∙ ap (λ a. map (λ x. x.asked) ms ++ a ∷ []) asked
       ∙ sym (map-append (λ x. x.asked) ms (m ∷ []));
   seats = seats_more h e before.seats seat;

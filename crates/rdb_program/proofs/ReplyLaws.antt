@@ -1,20 +1,9 @@
--- One message more, and one reply more.
-use Rattle.std.proofs.Common.{◌≡◌, ℕ, List, [], ◌∷◌, ◌++◌, length, refl, sym, ap, ◌∙◌, append_assoc, append-nil, arith}
+-- One reply more.
+use Rattle.std.proofs.Common.{◌≡◌, List, [], ◌∷◌, ◌++◌, length, sym, ap, ◌∙◌, append_assoc, append-nil, arith}
 use Rattle.service_core.specs.ReplyBytes.{told_bytes}
 use Rattle.service_core.specs.declared.forms.Told.{Told}
-use Rattle.http_wire.specs.Stream.{IsMessage, Spells}
 use Rattle.http_wire.specs.Out.{reply_bytes}
 use Rattle.http_wire.specs.declared.message.Message.{Message}
-
-pub spells_more : (ms : List Message) (m : Message) (text bytes : List ℕ) → Spells ms text → IsMessage bytes m → Spells (ms ++ m ∷ []) (text ++ bytes)
-spells_more [] m text bytes spells is = (bytes, [], is, ap (λ t. t ++ bytes) spells ∙ sym (append-nil bytes), refl)
-spells_more (first ∷ ms) m text bytes spells is = (
-  spells.0,
-  spells.1 ++ bytes,
-  spells.2,
-  ap (λ t. t ++ bytes) spells.3 ∙ append_assoc spells.0 spells.1 bytes,
-  spells_more ms m spells.1 bytes spells.4 is,
-)
 
 pub replies_more : (ms : List Message) (m : Message) (ts : List Told) (t : Told) → length ms ≡ length ts
     → reply_bytes (ms ++ m ∷ []) (ts ++ t ∷ []) ≡ reply_bytes ms ts ++ told_bytes t m.close
