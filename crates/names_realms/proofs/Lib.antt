@@ -9,3 +9,5 @@ pub mod FractionLemmas
 pub mod PairLemmas
 pub mod EscapeLemmas
 pub mod VariantLemmas
+pub mod ByteLemmas
+pub mod ResultNameLemmas

@@ -3,6 +3,7 @@ ghost use Rattle.std.specs.Prelude.{◌≡◌, ◌≢◌, ◌≤◌, ◌++◌, �
 ghost use Rattle.names_realms.specs.Parts.{place_of};
 ghost use Rattle.names_realms.specs.Escapes.{escaped, escaped_fault};
 ghost use Rattle.names_realms.specs.Names.{IsInvocationId, IsResultId, IsTestId, invocation_id_fault};
+ghost use Rattle.names_realms.specs.declared.result_names.ResultName.{ResultName};
 ghost use Rattle.names_realms.specs.ResultNames.{IsResultName, all_parts_fault, named_fault, result_name, result_name_fault, result_tail, result_tail_fault, test_and_result_fault, test_tail, test_tail_fault};
 
 use crate::NameFault;
@@ -146,6 +147,17 @@ fn read_named(alloc: Global, text: &[u8]) -> Result<ResultName, NameFault>
     }
 }
 
+/// Reads the name of a result, which is not empty.
+fn read_whole(alloc: Global, text: &[u8]) -> Result<ResultName, NameFault>
+    ensures ok { IfOk result (λ r. IsResultName r text.now) }
+    ensures fault { IfErr result (λ f. f ≢ NameFault.Memory → result_name_fault text.now ≡ Some f) }
+{
+    if text.is_empty() {
+        return Err(NameFault::Empty);
+    }
+    read_named(alloc, text)
+}
+
 /// Appends `/results/` and a result's id.
 fn push_result_tail(out: &mut Vec<u8>, id: &ResultId) -> Result<(), AllocError>
     ensures { OnOk result (out.new.items ≡ out.old.items ++ result_tail id.now) }
@@ -182,12 +194,13 @@ impl ResultName {
     /// Reads the name of a result, all of the text. `Memory` where there is none for the name.
     pub fn parse(alloc: Global, text: &[u8]) -> Result<ResultName, NameFault>
         ensures ok { IfOk result (λ r. IsResultName r text.now) }
+        ensures refused { IfErr result (λ f. f ≢ NameFault.Memory → (r : ResultName) → ¬ IsResultName r text.now) }
         ensures fault { IfErr result (λ f. f ≢ NameFault.Memory → result_name_fault text.now ≡ Some f) }
     {
-        if text.is_empty() {
-            return Err(NameFault::Empty);
+        match read_whole(alloc, text) {
+            Ok(name) => Ok(name),
+            Err(fault) => Err(fault),
         }
-        read_named(alloc, text)
     }
 
     /// Appends the one spelling of the name, all of it or nothing.
