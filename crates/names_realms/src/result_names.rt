@@ -93,7 +93,7 @@ fn read_test_tail(alloc: Global, text: &[u8]) -> Result<(TestId, ResultId), Name
 }
 
 /// Reads an invocation's id.
-fn read_invocation(alloc: Global, text: &[u8]) -> Result<InvocationId, NameFault>
+pub(crate) fn read_invocation(alloc: Global, text: &[u8]) -> Result<InvocationId, NameFault>
     ensures ok { IfOk result (λ id. (text.now ≡ id) × IsInvocationId id) }
     ensures none { IfOk result (λ _. invocation_id_fault text.now ≡ None) }
     ensures fault { IfErr result (λ f. f ≢ NameFault.Memory → invocation_id_fault text.now ≡ Some f) }
@@ -107,7 +107,7 @@ fn read_invocation(alloc: Global, text: &[u8]) -> Result<InvocationId, NameFault
 
 /// Reads what stands behind `invocations/` in the name of a result.
 #[tactic(auto, unfolding(crate::specs::ResultNames::all_parts_fault, crate::specs::Sequences::up_to_slash))]
-fn read_all_parts(alloc: Global, text: &[u8]) -> Result<ResultName, NameFault>
+pub(crate) fn read_all_parts(alloc: Global, text: &[u8]) -> Result<ResultName, NameFault>
     ensures ok { IfOk result (λ r. text.now ≡ r.invocation ++ test_tail r.test r.result) }
     ensures invocation { IfOk result (λ r. IsInvocationId r.invocation) }
     ensures others { IfOk result (λ r. IsTestId r.test × IsResultId r.result) }
@@ -182,7 +182,7 @@ fn push_test_tail(
 
 /// Appends the name of a result.
 #[tactic(auto, unfolding(crate::specs::ResultNames::result_name))]
-fn push_result_name(alloc: Global, out: &mut Vec<u8>, name: &ResultName) -> Result<(), AllocError>
+pub(crate) fn push_result_name(alloc: Global, out: &mut Vec<u8>, name: &ResultName) -> Result<(), AllocError>
     ensures { OnOk result (out.new.items ≡ out.old.items ++ result_name name.now) }
 {
     append(out, b"invocations/")?;
