@@ -11,3 +11,4 @@ pub mod EscapeLemmas
 pub mod VariantLemmas
 pub mod ByteLemmas
 pub mod ResultNameLemmas
+pub mod ParentLemmas

@@ -32,11 +32,15 @@ test_tail-None test id is is' =
     behind-None (codes "/tests/") (escaped test ++ result_tail id) test_and_result_fault
       (up_to_slash-None (escaped_fault TestId) result_tail_fault (escaped test) _ (escaped_without_slash test) (escaped-fault TestId test (IsPart-bytes TestId test is) is) (result_tail-None id is'))
 
+pub all_parts-None : (r : ResultName) → IsInvocationId r.invocation → IsTestId r.test → IsResultId r.result → all_parts_fault (r.invocation ++ test_tail r.test r.result) ≡ None
+unfolding all_parts_fault
+all_parts-None r is test result =
+    up_to_slash-None invocation_id_fault test_tail_fault r.invocation _ (invocation_without_slash r.invocation is) (IsPart-part_fault (Letters alphabet.Invocation) r.invocation is) (test_tail-None r.test r.result test result)
+
 named-None : (r : ResultName) → IsInvocationId r.invocation → IsTestId r.test → IsResultId r.result → named_fault (result_name r) ≡ None
-unfolding named_fault all_parts_fault result_name
+unfolding named_fault result_name
 named-None r is test result =
-    behind-None (codes "invocations/") (r.invocation ++ test_tail r.test r.result) all_parts_fault
-      (up_to_slash-None invocation_id_fault test_tail_fault r.invocation _ (invocation_without_slash r.invocation is) (IsPart-part_fault (Letters alphabet.Invocation) r.invocation is) (test_tail-None r.test r.result test result))
+    behind-None (codes "invocations/") (r.invocation ++ test_tail r.test r.result) all_parts_fault (all_parts-None r is test result)
 
 not_empty_name : (r : ResultName) → named_fault (result_name r) ≡ None → result_name_fault (result_name r) ≡ None
 unfolding result_name

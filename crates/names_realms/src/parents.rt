@@ -55,6 +55,17 @@ fn read_named(alloc: Global, text: &[u8]) -> Result<Parent, NameFault>
     }
 }
 
+/// Reads a parent's name, which is not empty.
+fn read_whole(alloc: Global, text: &[u8]) -> Result<Parent, NameFault>
+    ensures ok { IfOk result (λ p. IsParentName p text.now) }
+    ensures fault { IfErr result (λ f. f ≢ NameFault.Memory → parent_fault text.now ≡ Some f) }
+{
+    if text.is_empty() {
+        return Err(NameFault::Empty);
+    }
+    read_named(alloc, text)
+}
+
 /// Appends the name of an invocation.
 fn push_invocation_name(out: &mut Vec<u8>, id: &InvocationId) -> Result<(), AllocError>
     ensures { OnOk result (out.new.items ≡ out.old.items ++ (codes "invocations/" ++ id.now)) }
@@ -77,12 +88,13 @@ impl Parent {
     /// Reads the name of an invocation or of a result, all of the text. `Memory` where there is none for the name.
     pub fn parse(alloc: Global, text: &[u8]) -> Result<Parent, NameFault>
         ensures ok { IfOk result (λ p. IsParentName p text.now) }
+        ensures refused { IfErr result (λ f. f ≢ NameFault.Memory → (p : Parent) → ¬ IsParentName p text.now) }
         ensures fault { IfErr result (λ f. f ≢ NameFault.Memory → parent_fault text.now ≡ Some f) }
     {
-        if text.is_empty() {
-            return Err(NameFault::Empty);
+        match read_whole(alloc, text) {
+            Ok(parent) => Ok(parent),
+            Err(fault) => Err(fault),
         }
-        read_named(alloc, text)
     }
 
     /// Appends the one spelling of the name, all of it or nothing.
