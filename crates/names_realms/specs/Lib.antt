@@ -5,6 +5,7 @@ pub mod Sequences
 pub mod Names
 pub mod ResultNames
 pub mod Parents
+pub mod ArtifactNames
 pub mod Realms
 pub mod Pairs
 pub mod Variants

@@ -5,6 +5,7 @@
 #![tactic(auto)]
 
 mod alphabets;
+mod artifact_names;
 mod civil;
 mod escapes;
 mod faults;
@@ -25,6 +26,7 @@ mod tests;
 mod texts;
 mod variants;
 
+pub use artifact_names::ArtifactName;
 pub use faults::NameFault;
 pub use ids::{ArtifactId, InvocationId, ResultId, TestId};
 pub use lists::{Bytes, Numbers};

@@ -42,7 +42,7 @@ fn read_result_tail(alloc: Global, text: &[u8]) -> Result<ResultId, NameFault>
 }
 
 /// Reads an escaped test id.
-fn read_test(alloc: Global, text: &[u8]) -> Result<TestId, NameFault>
+pub(crate) fn read_test(alloc: Global, text: &[u8]) -> Result<TestId, NameFault>
     ensures ok { IfOk result (λ id. (text.now ≡ escaped id) × IsTestId id) }
     ensures none { IfOk result (λ _. escaped_fault PartForm.TestId text.now ≡ None) }
     ensures fault { IfErr result (λ f. f ≢ NameFault.Memory → escaped_fault PartForm.TestId text.now ≡ Some f) }
