@@ -1,5 +1,5 @@
 -- A part is bytes, and an escaped one has no slash.
-use Rattle.std.proofs.Common.{◌≡◌, ◌⊎◌, inl, inr, ⊎_elim, ℕ, ◌+◌, ◌/◌, ◌%◌, ◌<◌, ◌≤◌, All, Bool, true, false, not, List, [], ◌∷◌, ◌++◌, ltb, cond, refl, sym, ap, subst, ◌∙◌, arith}
+use Rattle.std.proofs.Common.{◌≡◌, inl, inr, ⊎_elim, ℕ, ◌+◌, ◌/◌, ◌%◌, ◌<◌, All, true, false, not, List, [], ◌∷◌, ltb, refl, ap, subst, ◌∙◌, arith}
 use Rattle.std.specs.Prelude.{◌==◌}
 use Rattle.std.specs.List.{list_all}
 use Rattle.std.specs.Str.{IsUtf8}
@@ -39,12 +39,12 @@ pub encode-bytes : (c : ℕ) → c < 1_114_112 → All IsByte (encode c)
 unfolding encode
 encode-bytes c small =
     cond_both (ltb c 128) _ _ (All IsByte)
-      (λ e. let low = ltb-true c 128 e in one c (omega arith))
-      (λ _. cond_both (ltb c 2048) _ _ (All IsByte)
-        (λ e. let low = ltb-true c 2048 e in two (192 + c / 64) (128 + c % 64) (omega arith) (omega arith))
-        (λ _. cond_both (ltb c 65_536) _ _ (All IsByte)
-          (λ e. let low = ltb-true c 65_536 e in three (224 + c / 4096) (128 + c / 64 % 64) (128 + c % 64) (omega arith) (omega arith) (omega arith))
-          (λ _. four (240 + c / 262_144) (128 + c / 4096 % 64) (128 + c / 64 % 64) (128 + c % 64) (omega arith) (omega arith) (omega arith) (omega arith))))
+    (λ e. let low = ltb-true c 128 e in one c (omega arith))
+    (λ _. cond_both (ltb c 2048) _ _ (All IsByte)
+    (λ e. let low = ltb-true c 2048 e in two (192 + c / 64) (128 + c % 64) (omega arith) (omega arith))
+    (λ _. cond_both (ltb c 65_536) _ _ (All IsByte)
+    (λ e. let low = ltb-true c 65_536 e in three (224 + c / 4096) (128 + c / 64 % 64) (128 + c % 64) (omega arith) (omega arith) (omega arith))
+    (λ _. four (240 + c / 262_144) (128 + c / 4096 % 64) (128 + c / 64 % 64) (128 + c % 64) (omega arith) (omega arith) (omega arith) (omega arith))))
 
 encodes-bytes : (cs : List ℕ) → scalars cs ≡ true → All IsByte (encodes cs)
 encodes-bytes [] e = All-nil IsByte

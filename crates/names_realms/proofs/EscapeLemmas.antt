@@ -1,5 +1,5 @@
 -- A text has no fault as an escaped part just where it is the one spelling of a part.
-use Rattle.std.proofs.Common.{◌≡◌, ℕ, ◌+◌, ◌*◌, ◌/◌, ◌%◌, ◌<◌, ◌≤◌, All, Bool, true, false, not, cond, List, [], ◌∷◌, ◌++◌, length, take, drop, map, nat_lt, inl, inr, option_map, Option, Some, None, refl, sym, ap, ◌∙◌, arith}
+use Rattle.std.proofs.Common.{◌≡◌, ℕ, ◌+◌, ◌*◌, ◌/◌, ◌%◌, ◌<◌, ◌≤◌, All, Bool, true, false, cond, List, [], ◌∷◌, ◌++◌, length, take, drop, map, nat_lt, inl, inr, option_map, Option, Some, None, refl, sym, ap, ◌∙◌, arith}
 use Rattle.std.specs.Prelude.{◌==◌}
 use Rattle.std.specs.Char.{digit_value, is_digit}
 use Rattle.percent_encoding.specs.Percent.{is_escape, percent_decode, percent_encode, percent_encode_byte, encode_byte}

@@ -1,17 +1,14 @@
 -- The name of a parent has no fault.
-use Rattle.std.proofs.Common.{◌≡◌, ℕ, ◌+◌, ◌<◌, List, ◌∷◌, ◌++◌, length, length-append, codes, Option, Some, None, cond, refl, sym, ap, ◌∙◌, arith}
-use Rattle.std.specs.Prelude.{◌==◌}
+use Rattle.std.proofs.Common.{◌≡◌, ℕ, ◌+◌, List, ◌∷◌, ◌++◌, length, length-append, codes, None, refl, ap, ◌∙◌, arith}
 use Rattle.std.proofs.lemmas.Bool.{eq-eqb, ne_eqb}
-use Rattle.names_realms.specs.declared.faults.NameFault.{NameFault}
 use Rattle.names_realms.specs.declared.alphabets.Alphabet.TheVariants as alphabet
 use Rattle.names_realms.specs.declared.parts.PartForm.TheVariants.{Letters}
 use Rattle.names_realms.specs.declared.parents.Parent.{Parent}
 use Rattle.names_realms.specs.declared.parents.Parent.TheVariants as parent
 use Rattle.names_realms.specs.declared.result_names.ResultName.{ResultName}
-use Rattle.names_realms.specs.Escapes.{escaped}
-use Rattle.names_realms.specs.Names.{IsInvocationId, IsInvocationName, invocation_name, invocation_id_fault}
+use Rattle.names_realms.specs.Names.{IsInvocationId, invocation_name}
 use Rattle.names_realms.specs.Sequences.{slash_place}
-use Rattle.names_realms.specs.ResultNames.{IsResultName, result_name, result_tail, test_tail, all_parts_fault}
+use Rattle.names_realms.specs.ResultNames.{IsResultName, result_name, test_tail, all_parts_fault}
 use Rattle.names_realms.specs.Parents.{IsParentName, parent_fault, parent_named_fault, parent_parts_fault}
 use Rattle.names_realms.proofs.PartLemmas.{IsPart-part_fault}
 use Rattle.names_realms.proofs.CutLemmas.{no_cut, cut_before}
@@ -41,8 +38,8 @@ named_result : (r : ResultName) (text : List ℕ) → IsResultName r text → pa
 unfolding parent_named_fault result_name
 named_result r text is =
     unless_empty-cons parent_named_fault _ _
-      (behind-None (codes "invocations/") (r.invocation ++ test_tail r.test r.result) parent_parts_fault
-        (before_slash r.invocation _ is.invocation (all_parts-None r is.invocation is.test is.result)))
+    (behind-None (codes "invocations/") (r.invocation ++ test_tail r.test r.result) parent_parts_fault
+    (before_slash r.invocation _ is.invocation (all_parts-None r is.invocation is.test is.result)))
 
 pub IsParentName-fault : (p : Parent) (text : List ℕ) → IsParentName p text → parent_fault text ≡ None
 IsParentName-fault (parent.Invocation id) text is = ap parent_fault is.0 ∙ named_id id is.1

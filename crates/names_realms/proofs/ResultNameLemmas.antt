@@ -1,5 +1,5 @@
 -- The name of a result has no fault.
-use Rattle.std.proofs.Common.{◌≡◌, ℕ, Bool, true, not, List, ◌∷◌, ◌++◌, length, take, drop, codes, Option, None, option_map, refl, ap, ◌∙◌}
+use Rattle.std.proofs.Common.{◌≡◌, ℕ, true, not, List, ◌∷◌, ◌++◌, length, codes, Option, None, refl, ap, ◌∙◌}
 use Rattle.std.specs.Prelude.{◌==◌}
 use Rattle.std.specs.List.{list_all}
 use Rattle.std.proofs.lemmas.List.{take_at, drop_at}
@@ -30,7 +30,7 @@ pub test_tail-None : (test id : List ℕ) → IsTestId test → IsResultId id �
 unfolding test_tail_fault test_and_result_fault
 test_tail-None test id is is' =
     behind-None (codes "/tests/") (escaped test ++ result_tail id) test_and_result_fault
-      (up_to_slash-None (escaped_fault TestId) result_tail_fault (escaped test) _ (escaped_without_slash test) (escaped-fault TestId test (IsPart-bytes TestId test is) is) (result_tail-None id is'))
+    (up_to_slash-None (escaped_fault TestId) result_tail_fault (escaped test) _ (escaped_without_slash test) (escaped-fault TestId test (IsPart-bytes TestId test is) is) (result_tail-None id is'))
 
 pub all_parts-None : (r : ResultName) → IsInvocationId r.invocation → IsTestId r.test → IsResultId r.result → all_parts_fault (r.invocation ++ test_tail r.test r.result) ≡ None
 unfolding all_parts_fault

@@ -1,5 +1,5 @@
 -- Escaped texts: how the bytes of a value are spelled in a name, and what is wrong with a text that is no spelling of one.
-use Rattle.std.specs.Prelude.{◌≡◌, ℕ, ◌+◌, ◌*◌, ◌==◌, if◌then◌else◌, nat_lt, Bool, false, List, [], ◌∷◌, length, Option, Some, None, option_map}
+use Rattle.std.specs.Prelude.{ℕ, ◌+◌, ◌*◌, ◌==◌, if◌then◌else◌, nat_lt, Bool, false, List, [], ◌∷◌, length, Option, Some, None, option_map}
 use Rattle.std.specs.Option.{option_or}
 use Rattle.std.specs.Str.{bytes_eq}
 use Rattle.std.specs.Char.{digit_value}
@@ -8,7 +8,7 @@ use Rattle.names_realms.specs.declared.escapes.TheConstants.{NAME_SET}
 use Rattle.names_realms.specs.declared.faults.NameFault.{NameFault}
 use Rattle.names_realms.specs.declared.faults.NameFault.TheVariants.{Empty, TooLong, BadByte, NotCanonical}
 use Rattle.names_realms.specs.declared.parts.PartForm.{PartForm}
-use Rattle.names_realms.specs.Parts.{IsPart, most_bytes, bad_place}
+use Rattle.names_realms.specs.Parts.{most_bytes, bad_place}
 
 -- The one spelling of bytes in a name: letters, digits and `- _ . ~ $ & + = : @` stand as themselves, every other byte is `%` and two
 -- upper-case hexadecimal digits.

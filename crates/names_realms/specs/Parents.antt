@@ -1,5 +1,5 @@
 -- What holds artifacts: an invocation or a result, by its name.
-use Rattle.std.specs.Prelude.{◌≡◌, ℕ, ◌==◌, if◌then◌else◌, List, length, codes, Option}
+use Rattle.std.specs.Prelude.{ℕ, ◌==◌, if◌then◌else◌, List, length, codes, Option}
 use Rattle.names_realms.specs.declared.faults.NameFault.{NameFault}
 use Rattle.names_realms.specs.declared.parents.Parent.{Parent}
 use Rattle.names_realms.specs.declared.parents.Parent.TheVariants.{Invocation, Result}

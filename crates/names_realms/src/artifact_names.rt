@@ -195,7 +195,11 @@ fn of_result(invocation: InvocationId, ids: Ids) -> ArtifactName
 
 /// Reads what stands behind an invocation's id in the name of an artifact.
 #[tactic(auto, unfolding(crate::specs::ArtifactNames::behind_id_fault))]
-fn read_behind_id(alloc: Global, invocation: InvocationId, text: &[u8]) -> Result<ArtifactName, NameFault>
+fn read_behind_id(
+    alloc: Global,
+    invocation: InvocationId,
+    text: &[u8],
+) -> Result<ArtifactName, NameFault>
     requires { IsInvocationId invocation }
     ensures ok { IfOk result (λ a. codes "invocations/" ++ (invocation ++ text.now) ≡ artifact_name a) }
     ensures grammar { IfOk result (λ a. IsArtifactName a (artifact_name a)) }
@@ -273,7 +277,11 @@ fn push_artifact_tail(alloc: Global, out: &mut Vec<u8>, id: &ArtifactId) -> Resu
 
 /// Appends the name of an artifact.
 #[tactic(auto, unfolding(crate::specs::ArtifactNames::artifact_name))]
-fn push_artifact_name(alloc: Global, out: &mut Vec<u8>, name: &ArtifactName) -> Result<(), AllocError>
+fn push_artifact_name(
+    alloc: Global,
+    out: &mut Vec<u8>,
+    name: &ArtifactName,
+) -> Result<(), AllocError>
     ensures { OnOk result (out.new.items ≡ out.old.items ++ artifact_name name.now) }
 {
     push_parent_name(alloc, out, &name.parent)?;

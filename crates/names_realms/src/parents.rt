@@ -75,7 +75,11 @@ fn push_invocation_name(out: &mut Vec<u8>, id: &InvocationId) -> Result<(), Allo
 }
 
 /// Appends a parent's name.
-pub(crate) fn push_parent_name(alloc: Global, out: &mut Vec<u8>, parent: &Parent) -> Result<(), AllocError>
+pub(crate) fn push_parent_name(
+    alloc: Global,
+    out: &mut Vec<u8>,
+    parent: &Parent,
+) -> Result<(), AllocError>
     ensures { OnOk result (out.new.items ≡ out.old.items ++ parent_name parent.now) }
 {
     match parent {

@@ -182,7 +182,11 @@ fn push_test_tail(
 
 /// Appends the name of a result.
 #[tactic(auto, unfolding(crate::specs::ResultNames::result_name))]
-pub(crate) fn push_result_name(alloc: Global, out: &mut Vec<u8>, name: &ResultName) -> Result<(), AllocError>
+pub(crate) fn push_result_name(
+    alloc: Global,
+    out: &mut Vec<u8>,
+    name: &ResultName,
+) -> Result<(), AllocError>
     ensures { OnOk result (out.new.items ≡ out.old.items ++ result_name name.now) }
 {
     append(out, b"invocations/")?;

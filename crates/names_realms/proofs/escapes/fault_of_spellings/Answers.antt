@@ -1,7 +1,5 @@
-use Rattle.std.proofs.Common.{◌≡◌, ℕ, ◌+◌, ◌<◌, List, [], ◌∷◌, length, Option, Some, None, refl, sym, ap, ◌∙◌, arith}
-use Rattle.names_realms.specs.declared.faults.NameFault.{NameFault}
-use Rattle.names_realms.specs.declared.faults.NameFault.TheVariants.{BadByte}
-use Rattle.names_realms.specs.Escapes.{front_byte, front_fault, front_len, spelled, spelling_fault}
+use Rattle.std.proofs.Common.{◌≡◌, ℕ, ◌+◌, ◌<◌, [], length, Option, sym, ap, ◌∙◌, arith}
+use Rattle.names_realms.specs.Escapes.{front_fault, spelled, spelling_fault}
 use Rattle.names_realms.proofs.EscapeLemmas.{spelled-at, spelled-nil, fault-front, fault-behind, not_empty, empty}
 use Rattle.names_realms.proofs.escapes.fault_of_spellings.Goals as goal
 

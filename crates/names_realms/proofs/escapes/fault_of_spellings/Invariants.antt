@@ -1,4 +1,4 @@
-use Rattle.std.proofs.Common.{◌≡◌, ℕ, ◌+◌, ◌≤◌, length}
+use Rattle.std.proofs.Common.{◌≡◌, ◌+◌, ◌≤◌, length}
 use Rattle.names_realms.specs.Escapes.{spelled, spelling_fault}
 use Rattle.names_realms.proofs.escapes.fault_of_spellings.Given as goal
 

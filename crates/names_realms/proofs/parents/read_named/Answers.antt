@@ -1,4 +1,4 @@
-use Rattle.std.proofs.Common.{◌≡◌, codes}
+use Rattle.std.proofs.Common.{codes}
 use Rattle.names_realms.specs.Parents.{parent_parts_fault, parent_named_fault}
 use Rattle.names_realms.proofs.SequenceLemmas.{behind-other}
 use Rattle.names_realms.proofs.parents.read_named.Goals as goal

@@ -1,4 +1,4 @@
-use Rattle.std.proofs.Common.{◌≡◌, codes}
+use Rattle.std.proofs.Common.{codes}
 use Rattle.names_realms.specs.ResultNames.{all_parts_fault, named_fault}
 use Rattle.names_realms.proofs.SequenceLemmas.{behind-other}
 use Rattle.names_realms.proofs.result_names.read_named.Goals as goal

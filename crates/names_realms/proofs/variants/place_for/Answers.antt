@@ -1,6 +1,5 @@
-use Rattle.std.proofs.Common.{◌≡◌, ℕ, suc, ◌-◌, ◌<◌, length, slice_get, Some, take, refl, sym, ◌∙◌, arith}
+use Rattle.std.proofs.Common.{◌≡◌, suc, ◌-◌, ◌<◌, length, slice_get, Some, refl, sym, ◌∙◌, arith}
 use Rattle.std.proofs.lemmas.Option.{slice_get_read}
-use Rattle.names_realms.specs.Variants.{EndsBefore}
 use Rattle.names_realms.proofs.VariantLemmas.{ends-at, same_key, turned}
 use Rattle.names_realms.proofs.variants.place_for.Goals as goal
 

@@ -1,4 +1,3 @@
-use Rattle.std.proofs.Common.{◌≡◌}
 use Rattle.names_realms.proofs.ParentLemmas.{IsParentName-fault}
 use Rattle.names_realms.proofs.parents.Parent.parse.Goals as goal
 

@@ -1,4 +1,3 @@
-use Rattle.std.proofs.Common.{◌≡◌}
 use Rattle.names_realms.proofs.ResultNameLemmas.{IsResultName-fault}
 use Rattle.names_realms.proofs.result_names.ResultName.parse.Goals as goal
 
