@@ -12,3 +12,4 @@ pub mod VariantLemmas
 pub mod ByteLemmas
 pub mod ResultNameLemmas
 pub mod ParentLemmas
+pub mod ArtifactNameLemmas

@@ -292,6 +292,7 @@ impl ArtifactName {
     /// Reads the name of an artifact, all of the text. `Memory` where there is none for the name.
     pub fn parse(alloc: Global, text: &[u8]) -> Result<ArtifactName, NameFault>
         ensures ok { IfOk result (λ a. IsArtifactName a text.now) }
+        ensures refused { IfErr result (λ f. f ≢ NameFault.Memory → (a : ArtifactName) → ¬ IsArtifactName a text.now) }
         ensures fault { IfErr result (λ f. f ≢ NameFault.Memory → artifact_name_fault text.now ≡ Some f) }
     {
         match read_whole(alloc, text) {
