@@ -9,3 +9,7 @@ pub mod FractionLemmas
 pub mod PairLemmas
 pub mod EscapeLemmas
 pub mod VariantLemmas
+pub mod ByteLemmas
+pub mod ResultNameLemmas
+pub mod ParentLemmas
+pub mod ArtifactNameLemmas

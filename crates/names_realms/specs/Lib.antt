@@ -4,6 +4,8 @@ pub mod Escapes
 pub mod Sequences
 pub mod Names
 pub mod ResultNames
+pub mod Parents
+pub mod ArtifactNames
 pub mod Realms
 pub mod Pairs
 pub mod Variants

@@ -5,6 +5,7 @@
 #![tactic(auto)]
 
 mod alphabets;
+mod artifact_names;
 mod civil;
 mod escapes;
 mod faults;
@@ -13,6 +14,7 @@ mod lists;
 mod moment_reading;
 mod moments;
 mod pairs;
+mod parents;
 mod parts;
 mod realms;
 mod result_names;
@@ -24,11 +26,13 @@ mod tests;
 mod texts;
 mod variants;
 
+pub use artifact_names::ArtifactName;
 pub use faults::NameFault;
 pub use ids::{ArtifactId, InvocationId, ResultId, TestId};
 pub use lists::{Bytes, Numbers};
 pub use moments::Moment;
 pub use pairs::{Pair, PairFault};
+pub use parents::Parent;
 pub use realms::Realm;
 pub use result_names::ResultName;
 pub use spans::Span;

@@ -3,6 +3,7 @@ ghost use Rattle.std.specs.Prelude.{◌≡◌, ◌≢◌, ◌≤◌, ◌++◌, �
 ghost use Rattle.names_realms.specs.Parts.{place_of};
 ghost use Rattle.names_realms.specs.Escapes.{escaped, escaped_fault};
 ghost use Rattle.names_realms.specs.Names.{IsInvocationId, IsResultId, IsTestId, invocation_id_fault};
+ghost use Rattle.names_realms.specs.declared.result_names.ResultName.{ResultName};
 ghost use Rattle.names_realms.specs.ResultNames.{IsResultName, all_parts_fault, named_fault, result_name, result_name_fault, result_tail, result_tail_fault, test_and_result_fault, test_tail, test_tail_fault};
 
 use crate::NameFault;
@@ -41,7 +42,7 @@ fn read_result_tail(alloc: Global, text: &[u8]) -> Result<ResultId, NameFault>
 }
 
 /// Reads an escaped test id.
-fn read_test(alloc: Global, text: &[u8]) -> Result<TestId, NameFault>
+pub(crate) fn read_test(alloc: Global, text: &[u8]) -> Result<TestId, NameFault>
     ensures ok { IfOk result (λ id. (text.now ≡ escaped id) × IsTestId id) }
     ensures none { IfOk result (λ _. escaped_fault PartForm.TestId text.now ≡ None) }
     ensures fault { IfErr result (λ f. f ≢ NameFault.Memory → escaped_fault PartForm.TestId text.now ≡ Some f) }
@@ -92,7 +93,7 @@ fn read_test_tail(alloc: Global, text: &[u8]) -> Result<(TestId, ResultId), Name
 }
 
 /// Reads an invocation's id.
-fn read_invocation(alloc: Global, text: &[u8]) -> Result<InvocationId, NameFault>
+pub(crate) fn read_invocation(alloc: Global, text: &[u8]) -> Result<InvocationId, NameFault>
     ensures ok { IfOk result (λ id. (text.now ≡ id) × IsInvocationId id) }
     ensures none { IfOk result (λ _. invocation_id_fault text.now ≡ None) }
     ensures fault { IfErr result (λ f. f ≢ NameFault.Memory → invocation_id_fault text.now ≡ Some f) }
@@ -106,7 +107,7 @@ fn read_invocation(alloc: Global, text: &[u8]) -> Result<InvocationId, NameFault
 
 /// Reads what stands behind `invocations/` in the name of a result.
 #[tactic(auto, unfolding(crate::specs::ResultNames::all_parts_fault, crate::specs::Sequences::up_to_slash))]
-fn read_all_parts(alloc: Global, text: &[u8]) -> Result<ResultName, NameFault>
+pub(crate) fn read_all_parts(alloc: Global, text: &[u8]) -> Result<ResultName, NameFault>
     ensures ok { IfOk result (λ r. text.now ≡ r.invocation ++ test_tail r.test r.result) }
     ensures invocation { IfOk result (λ r. IsInvocationId r.invocation) }
     ensures others { IfOk result (λ r. IsTestId r.test × IsResultId r.result) }
@@ -146,6 +147,17 @@ fn read_named(alloc: Global, text: &[u8]) -> Result<ResultName, NameFault>
     }
 }
 
+/// Reads the name of a result, which is not empty.
+fn read_whole(alloc: Global, text: &[u8]) -> Result<ResultName, NameFault>
+    ensures ok { IfOk result (λ r. IsResultName r text.now) }
+    ensures fault { IfErr result (λ f. f ≢ NameFault.Memory → result_name_fault text.now ≡ Some f) }
+{
+    if text.is_empty() {
+        return Err(NameFault::Empty);
+    }
+    read_named(alloc, text)
+}
+
 /// Appends `/results/` and a result's id.
 fn push_result_tail(out: &mut Vec<u8>, id: &ResultId) -> Result<(), AllocError>
     ensures { OnOk result (out.new.items ≡ out.old.items ++ result_tail id.now) }
@@ -170,7 +182,11 @@ fn push_test_tail(
 
 /// Appends the name of a result.
 #[tactic(auto, unfolding(crate::specs::ResultNames::result_name))]
-fn push_result_name(alloc: Global, out: &mut Vec<u8>, name: &ResultName) -> Result<(), AllocError>
+pub(crate) fn push_result_name(
+    alloc: Global,
+    out: &mut Vec<u8>,
+    name: &ResultName,
+) -> Result<(), AllocError>
     ensures { OnOk result (out.new.items ≡ out.old.items ++ result_name name.now) }
 {
     append(out, b"invocations/")?;
@@ -182,12 +198,13 @@ impl ResultName {
     /// Reads the name of a result, all of the text. `Memory` where there is none for the name.
     pub fn parse(alloc: Global, text: &[u8]) -> Result<ResultName, NameFault>
         ensures ok { IfOk result (λ r. IsResultName r text.now) }
+        ensures refused { IfErr result (λ f. f ≢ NameFault.Memory → (r : ResultName) → ¬ IsResultName r text.now) }
         ensures fault { IfErr result (λ f. f ≢ NameFault.Memory → result_name_fault text.now ≡ Some f) }
     {
-        if text.is_empty() {
-            return Err(NameFault::Empty);
+        match read_whole(alloc, text) {
+            Ok(name) => Ok(name),
+            Err(fault) => Err(fault),
         }
-        read_named(alloc, text)
     }
 
     /// Appends the one spelling of the name, all of it or nothing.

@@ -1,7 +1,7 @@
 //! Texts and what they read as, taken from the formats.
 use crate::{
-    ArtifactId, InvocationId, Moment, NameFault, Pair, PairFault, Realm, ResultId, ResultName,
-    Span, TestId,
+    ArtifactId, ArtifactName, InvocationId, Moment, NameFault, Pair, PairFault, Parent, Realm,
+    ResultId, ResultName, Span, TestId, Variant,
 };
 use std::alloc::Global;
 use std::test::Fail;
@@ -211,6 +211,90 @@ fn writes_moments_and_spans(rt: HostRuntime) -> Result<(), Fail> {
     .write_to(alloc, &mut out)?;
     assert!(rt;
         out.as_slice() == b"2023-11-14T22:13:29.999999Z0.250s0001-01-01T00:00:00Z".as_slice()
+    );
+    Ok(())
+}
+
+/// What is written of a name of an artifact that is read, and of its parent.
+fn artifact_again(alloc: Global, text: &[u8]) -> Result<Vec<u8>, NameFault> {
+    let name = ArtifactName::parse(alloc, text)?;
+    let mut out = Vec::new(alloc);
+    name.write_to(alloc, &mut out)?;
+    Ok(out)
+}
+
+fn parent_again(alloc: Global, text: &[u8]) -> Result<Vec<u8>, NameFault> {
+    let parent = Parent::parse(alloc, text)?;
+    let mut out = Vec::new(alloc);
+    parent.write_to(alloc, &mut out)?;
+    Ok(out)
+}
+
+#[test]
+fn reads_and_writes_names_of_artifacts(rt: HostRuntime) -> Result<(), Fail> {
+    let alloc = rt.alloc();
+    let of_result = b"invocations/u-1/tests/t%20/results/r1/artifacts/a%2Fb.txt";
+    let Ok(written) = artifact_again(alloc, of_result.as_slice()) else {
+        panic!(rt; "not read");
+    };
+    assert!(rt; written.as_slice() == of_result.as_slice());
+    let of_invocation = b"invocations/u-1/artifacts/a";
+    let Ok(written) = artifact_again(alloc, of_invocation.as_slice()) else {
+        panic!(rt; "not read");
+    };
+    assert!(rt; written.as_slice() == of_invocation.as_slice());
+    assert!(rt;
+        fault_of(ArtifactName::parse(alloc, b"invocations/u-1/artifacts/a/b"))
+            == Some(NameFault::BadByte { at: 27 })
+    );
+    assert!(rt;
+        fault_of(ArtifactName::parse(alloc, b"invocations/u-1"))
+            == Some(NameFault::BadByte { at: 15 })
+    );
+    let parent = b"invocations/u-1";
+    let Ok(written) = parent_again(alloc, parent.as_slice()) else {
+        panic!(rt; "not read");
+    };
+    assert!(rt; written.as_slice() == parent.as_slice());
+    assert!(rt;
+        fault_of(Parent::parse(alloc, b"invocations/a/x")) == Some(NameFault::BadByte { at: 14 })
+    );
+    Ok(())
+}
+
+/// The pairs of these keys, each with the value `v`.
+fn pairs_of(alloc: Global, keys: &[&str]) -> Result<Vec<Pair>, PairFault> {
+    let mut pairs = Vec::new(alloc);
+    for key in keys {
+        pairs.push(Pair::read(alloc, key.as_bytes(), b"v")?)?;
+    }
+    Ok(pairs)
+}
+
+#[test]
+fn puts_pairs_in_order_and_labels_them(rt: HostRuntime) -> Result<(), Fail> {
+    let alloc = rt.alloc();
+    let Ok(empty) = Variant::from_pairs(alloc, Vec::new(alloc)) else {
+        panic!(rt; "refused");
+    };
+    assert!(rt; empty.label().as_slice() == b"e3b0c44298fc1c14".as_slice());
+    let Ok(pairs) = pairs_of(alloc, ["b", "a/c", "a"].as_slice()) else {
+        panic!(rt; "not read");
+    };
+    let Ok(variant) = Variant::from_pairs(alloc, pairs) else {
+        panic!(rt; "refused");
+    };
+    let mut keys = Vec::new(alloc);
+    for pair in variant.as_slice() {
+        keys.extend_from_slice(pair.key.as_slice())?;
+        keys.push(b' ')?;
+    }
+    assert!(rt; keys.as_slice() == b"a a/c b ".as_slice());
+    let Ok(pairs) = pairs_of(alloc, ["b", "a", "b", "a"].as_slice()) else {
+        panic!(rt; "not read");
+    };
+    assert!(rt;
+        fault_of(Variant::from_pairs(alloc, pairs)) == Some(NameFault::NotCanonical { at: 2 })
     );
     Ok(())
 }

@@ -1,0 +1,313 @@
+//! Names of artifacts.
+ghost use Rattle.std.specs.Prelude.{◌≡◌, ◌≢◌, ◌≤◌, ◌++◌, List, ℕ, codes, length, IfOk, IfErr, OnOk, OnErr, None, Some};
+ghost use Rattle.names_realms.specs.Parts.{place_of};
+ghost use Rattle.names_realms.specs.Escapes.{escaped};
+ghost use Rattle.names_realms.specs.Names.{IsArtifactId, IsInvocationId, IsResultId, IsTestId, result_id_fault};
+ghost use Rattle.names_realms.specs.ResultNames.{result_name};
+ghost use Rattle.names_realms.specs.declared.artifact_names.ArtifactName.{ArtifactName};
+ghost use Rattle.names_realms.specs.ArtifactNames.{IsArtifactName, artifact_name, artifact_name_fault, artifact_named_fault, artifact_parts_fault, artifact_tail, artifact_tail_fault, behind_id_fault, goes_to_tests, result_and_artifact_fault, result_artifact_tail_fault, test_and_rest_fault, test_artifact_tail_fault};
+
+use crate::NameFault;
+use crate::alphabets::Alphabet;
+use crate::escapes::{append_escaped, read_escaped};
+use crate::ids::{ArtifactId, InvocationId, ResultId, TestId};
+use crate::parents::{Parent, push_parent_name};
+use crate::parts::{PartForm, moved, read_part};
+use crate::result_names::{ResultName, read_invocation, read_test};
+use crate::sequences::rest_behind;
+use crate::texts::{append, len_before};
+use std::alloc::{AllocError, Global};
+
+/// The name of an artifact: `{parent}/artifacts/{escaped artifact id}`.
+#[derive(Debug, Drop)]
+pub struct ArtifactName {
+    pub parent: Parent,
+    pub artifact: ArtifactId,
+}
+
+/// The ids behind `/tests/` in the name of an artifact of a result.
+#[derive(Drop)]
+struct Ids {
+    test: TestId,
+    result: ResultId,
+    artifact: ArtifactId,
+}
+
+/// Reads `/artifacts/` and an escaped artifact id.
+#[tactic(auto, unfolding(crate::specs::ArtifactNames::artifact_tail_fault, crate::specs::Sequences::behind))]
+fn read_artifact_tail(alloc: Global, text: &[u8]) -> Result<ArtifactId, NameFault>
+    ensures ok { IfOk result (λ a. (text.now ≡ artifact_tail a) × IsArtifactId a) }
+    ensures fault { IfErr result (λ f. f ≢ NameFault.Memory → artifact_tail_fault text.now ≡ Some f) }
+    ensures within { IfErr result (λ f. place_of f ≤ length text.now) }
+{
+    let rest = match rest_behind(b"/artifacts/", text) {
+        Ok(rest) => rest,
+        Err(fault) => return Err(fault),
+    };
+    match read_escaped(alloc, PartForm::Letters(Alphabet::Artifact), rest) {
+        Ok(text) => Ok(ArtifactId { text }),
+        Err(fault) => Err(moved(11, fault)),
+    }
+}
+
+/// Reads a result's id.
+fn read_result(alloc: Global, text: &[u8]) -> Result<ResultId, NameFault>
+    ensures ok { IfOk result (λ id. (text.now ≡ id) × IsResultId id) }
+    ensures none { IfOk result (λ _. result_id_fault text.now ≡ None) }
+    ensures fault { IfErr result (λ f. f ≢ NameFault.Memory → result_id_fault text.now ≡ Some f) }
+    ensures within { IfErr result (λ f. place_of f ≤ length text.now) }
+{
+    match read_part(alloc, PartForm::Letters(Alphabet::Outcome), text) {
+        Ok(text) => Ok(ResultId { text }),
+        Err(fault) => Err(fault),
+    }
+}
+
+/// Reads a result's id, `/artifacts/` and an escaped artifact id.
+#[tactic(auto, unfolding(crate::specs::ArtifactNames::result_and_artifact_fault, crate::specs::Sequences::up_to_slash))]
+fn read_result_and_artifact(alloc: Global, text: &[u8]) -> Result<(ResultId, ArtifactId), NameFault>
+    ensures ok { IfOk result (λ r. text.now ≡ r.0 ++ artifact_tail r.1) }
+    ensures grammar { IfOk result (λ r. IsResultId r.0 × IsArtifactId r.1) }
+    ensures fault { IfErr result (λ f. f ≢ NameFault.Memory → result_and_artifact_fault text.now ≡ Some f) }
+    ensures within { IfErr result (λ f. place_of f ≤ length text.now) }
+{
+    let end = len_before(text, b'/');
+    let (front, rest) = text.split_at(end);
+    let id = match read_result(alloc, front) {
+        Ok(id) => id,
+        Err(fault) => return Err(fault),
+    };
+    match read_artifact_tail(alloc, rest) {
+        Ok(artifact) => Ok((id, artifact)),
+        Err(fault) => Err(moved(end, fault)),
+    }
+}
+
+/// Reads `/results/` and what `read_result_and_artifact` reads.
+#[tactic(auto, unfolding(crate::specs::ArtifactNames::result_artifact_tail_fault, crate::specs::Sequences::behind))]
+fn read_result_tail(alloc: Global, text: &[u8]) -> Result<(ResultId, ArtifactId), NameFault>
+    ensures ok { IfOk result (λ r. text.now ≡ codes "/results/" ++ (r.0 ++ artifact_tail r.1)) }
+    ensures grammar { IfOk result (λ r. IsResultId r.0 × IsArtifactId r.1) }
+    ensures fault { IfErr result (λ f. f ≢ NameFault.Memory → result_artifact_tail_fault text.now ≡ Some f) }
+    ensures within { IfErr result (λ f. place_of f ≤ length text.now) }
+{
+    let rest = match rest_behind(b"/results/", text) {
+        Ok(rest) => rest,
+        Err(fault) => return Err(fault),
+    };
+    match read_result_and_artifact(alloc, rest) {
+        Ok(ids) => Ok(ids),
+        Err(fault) => Err(moved(9, fault)),
+    }
+}
+
+/// Reads an escaped test id and what `read_result_tail` reads.
+#[tactic(auto, unfolding(crate::specs::ArtifactNames::test_and_rest_fault, crate::specs::Sequences::up_to_slash))]
+fn read_test_and_rest(alloc: Global, text: &[u8]) -> Result<Ids, NameFault>
+    ensures ok { IfOk result (λ r. text.now ≡ escaped r.test ++ (codes "/results/" ++ (r.result ++ artifact_tail r.artifact))) }
+    ensures test { IfOk result (λ r. IsTestId r.test) }
+    ensures others { IfOk result (λ r. IsResultId r.result × IsArtifactId r.artifact) }
+    ensures fault { IfErr result (λ f. f ≢ NameFault.Memory → test_and_rest_fault text.now ≡ Some f) }
+    ensures within { IfErr result (λ f. place_of f ≤ length text.now) }
+{
+    let end = len_before(text, b'/');
+    let (front, rest) = text.split_at(end);
+    let test = match read_test(alloc, front) {
+        Ok(test) => test,
+        Err(fault) => return Err(fault),
+    };
+    match read_result_tail(alloc, rest) {
+        Ok((result, artifact)) => Ok(Ids {
+            test,
+            result,
+            artifact,
+        }),
+        Err(fault) => Err(moved(end, fault)),
+    }
+}
+
+/// Reads `/tests/` and what `read_test_and_rest` reads.
+#[tactic(auto, unfolding(crate::specs::ArtifactNames::test_artifact_tail_fault, crate::specs::Sequences::behind))]
+fn read_test_tail(alloc: Global, text: &[u8]) -> Result<Ids, NameFault>
+    ensures ok { IfOk result (λ r. text.now ≡ codes "/tests/" ++ (escaped r.test ++ (codes "/results/" ++ (r.result ++ artifact_tail r.artifact)))) }
+    ensures test { IfOk result (λ r. IsTestId r.test) }
+    ensures others { IfOk result (λ r. IsResultId r.result × IsArtifactId r.artifact) }
+    ensures fault { IfErr result (λ f. f ≢ NameFault.Memory → test_artifact_tail_fault text.now ≡ Some f) }
+    ensures within { IfErr result (λ f. place_of f ≤ length text.now) }
+{
+    let rest = match rest_behind(b"/tests/", text) {
+        Ok(rest) => rest,
+        Err(fault) => return Err(fault),
+    };
+    match read_test_and_rest(alloc, rest) {
+        Ok(ids) => Ok(ids),
+        Err(fault) => Err(moved(7, fault)),
+    }
+}
+
+/// Whether the text goes on as `/tests/` rather than `/artifacts/`.
+fn is_tests(text: &[u8]) -> bool
+    ensures { result ≡ goes_to_tests text.now }
+{
+    match text {
+        [_, second, ..] => *second == b't',
+        _ => false,
+    }
+}
+
+/// The name of an artifact of an invocation.
+#[tactic(auto, unfolding(crate::specs::ArtifactNames::artifact_name))]
+fn of_invocation(invocation: InvocationId, artifact: ArtifactId) -> ArtifactName
+    requires invocation { IsInvocationId invocation }
+    requires artifact { IsArtifactId artifact }
+    ensures spelling { artifact_name result ≡ codes "invocations/" ++ (invocation ++ artifact_tail artifact) }
+    ensures grammar { IsArtifactName result (artifact_name result) }
+{
+    ArtifactName {
+        parent: Parent::Invocation(invocation),
+        artifact,
+    }
+}
+
+/// The name of an artifact of a result.
+#[tactic(auto, unfolding(crate::specs::ArtifactNames::artifact_name, crate::specs::ResultNames::result_name))]
+fn of_result(invocation: InvocationId, ids: Ids) -> ArtifactName
+    requires invocation { IsInvocationId invocation }
+    requires test { IsTestId ids.test }
+    requires others { IsResultId ids.result × IsArtifactId ids.artifact }
+    ensures spelling { artifact_name result ≡ codes "invocations/" ++ (invocation ++ (codes "/tests/" ++ (escaped ids.test ++ (codes "/results/" ++ (ids.result ++ artifact_tail ids.artifact))))) }
+    ensures grammar { IsArtifactName result (artifact_name result) }
+{
+    let Ids {
+        test,
+        result,
+        artifact,
+    } = ids;
+    ArtifactName {
+        parent: Parent::Result(ResultName {
+            invocation,
+            test,
+            result,
+        }),
+        artifact,
+    }
+}
+
+/// Reads what stands behind an invocation's id in the name of an artifact.
+#[tactic(auto, unfolding(crate::specs::ArtifactNames::behind_id_fault))]
+fn read_behind_id(
+    alloc: Global,
+    invocation: InvocationId,
+    text: &[u8],
+) -> Result<ArtifactName, NameFault>
+    requires { IsInvocationId invocation }
+    ensures ok { IfOk result (λ a. codes "invocations/" ++ (invocation ++ text.now) ≡ artifact_name a) }
+    ensures grammar { IfOk result (λ a. IsArtifactName a (artifact_name a)) }
+    ensures fault { IfErr result (λ f. f ≢ NameFault.Memory → behind_id_fault text.now ≡ Some f) }
+    ensures within { IfErr result (λ f. place_of f ≤ length text.now) }
+{
+    if is_tests(text) {
+        return match read_test_tail(alloc, text) {
+            Ok(ids) => Ok(of_result(invocation, ids)),
+            Err(fault) => Err(fault),
+        };
+    }
+    match read_artifact_tail(alloc, text) {
+        Ok(artifact) => Ok(of_invocation(invocation, artifact)),
+        Err(fault) => Err(fault),
+    }
+}
+
+/// Reads what stands behind `invocations/` in the name of an artifact.
+#[tactic(auto, unfolding(crate::specs::ArtifactNames::artifact_parts_fault, crate::specs::Sequences::up_to_slash))]
+fn read_parts(alloc: Global, text: &[u8]) -> Result<ArtifactName, NameFault>
+    ensures ok { IfOk result (λ a. codes "invocations/" ++ text.now ≡ artifact_name a) }
+    ensures grammar { IfOk result (λ a. IsArtifactName a (artifact_name a)) }
+    ensures fault { IfErr result (λ f. f ≢ NameFault.Memory → artifact_parts_fault text.now ≡ Some f) }
+    ensures within { IfErr result (λ f. place_of f ≤ length text.now) }
+{
+    let end = len_before(text, b'/');
+    let (front, rest) = text.split_at(end);
+    let invocation = match read_invocation(alloc, front) {
+        Ok(invocation) => invocation,
+        Err(fault) => return Err(fault),
+    };
+    match read_behind_id(alloc, invocation, rest) {
+        Ok(name) => Ok(name),
+        Err(fault) => Err(moved(end, fault)),
+    }
+}
+
+/// Reads the name of an artifact.
+#[tactic(auto, unfolding(crate::specs::ArtifactNames::artifact_named_fault, crate::specs::Sequences::behind))]
+fn read_named(alloc: Global, text: &[u8]) -> Result<ArtifactName, NameFault>
+    ensures ok { IfOk result (λ a. text.now ≡ artifact_name a) }
+    ensures grammar { IfOk result (λ a. IsArtifactName a (artifact_name a)) }
+    ensures fault { IfErr result (λ f. f ≢ NameFault.Memory → artifact_named_fault text.now ≡ Some f) }
+{
+    let rest = match rest_behind(b"invocations/", text) {
+        Ok(rest) => rest,
+        Err(fault) => return Err(fault),
+    };
+    match read_parts(alloc, rest) {
+        Ok(name) => Ok(name),
+        Err(fault) => Err(moved(12, fault)),
+    }
+}
+
+/// Reads the name of an artifact, which is not empty.
+fn read_whole(alloc: Global, text: &[u8]) -> Result<ArtifactName, NameFault>
+    ensures ok { IfOk result (λ a. text.now ≡ artifact_name a) }
+    ensures grammar { IfOk result (λ a. IsArtifactName a (artifact_name a)) }
+    ensures fault { IfErr result (λ f. f ≢ NameFault.Memory → artifact_name_fault text.now ≡ Some f) }
+{
+    if text.is_empty() {
+        return Err(NameFault::Empty);
+    }
+    read_named(alloc, text)
+}
+
+/// Appends `/artifacts/` and an escaped artifact id.
+fn push_artifact_tail(alloc: Global, out: &mut Vec<u8>, id: &ArtifactId) -> Result<(), AllocError>
+    ensures { OnOk result (out.new.items ≡ out.old.items ++ artifact_tail id.now) }
+{
+    append(out, b"/artifacts/")?;
+    append_escaped(alloc, out, id.as_slice())
+}
+
+/// Appends the name of an artifact.
+#[tactic(auto, unfolding(crate::specs::ArtifactNames::artifact_name))]
+fn push_artifact_name(
+    alloc: Global,
+    out: &mut Vec<u8>,
+    name: &ArtifactName,
+) -> Result<(), AllocError>
+    ensures { OnOk result (out.new.items ≡ out.old.items ++ artifact_name name.now) }
+{
+    push_parent_name(alloc, out, &name.parent)?;
+    push_artifact_tail(alloc, out, &name.artifact)
+}
+
+impl ArtifactName {
+    /// Reads the name of an artifact, all of the text. `Memory` where there is none for the name.
+    pub fn parse(alloc: Global, text: &[u8]) -> Result<ArtifactName, NameFault>
+        ensures ok { IfOk result (λ a. IsArtifactName a text.now) }
+        ensures refused { IfErr result (λ f. f ≢ NameFault.Memory → (a : ArtifactName) → ¬ IsArtifactName a text.now) }
+        ensures fault { IfErr result (λ f. f ≢ NameFault.Memory → artifact_name_fault text.now ≡ Some f) }
+    {
+        match read_whole(alloc, text) {
+            Ok(name) => Ok(name),
+            Err(fault) => Err(fault),
+        }
+    }
+
+    /// Appends the one spelling of the name, all of it or nothing.
+    pub fn write_to(&self, alloc: Global, out: &mut Vec<u8>) -> Result<(), AllocError>
+        ensures ok { OnOk result (out.new.items ≡ out.old.items ++ artifact_name self.now) }
+        ensures err { OnErr result (out.new.items ≡ out.old.items) }
+    {
+        let mut text = Vec::new(alloc);
+        push_artifact_name(alloc, &mut text, self)?;
+        append(out, text.as_slice())
+    }
+}
