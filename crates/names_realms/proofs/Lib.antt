@@ -13,3 +13,6 @@ pub mod ByteLemmas
 pub mod ResultNameLemmas
 pub mod ParentLemmas
 pub mod ArtifactNameLemmas
+pub mod DigitLaws
+pub mod CalendarLaws
+pub mod MomentLaws
