@@ -16,3 +16,4 @@ pub mod ArtifactNameLemmas
 pub mod DigitLaws
 pub mod CalendarLaws
 pub mod MomentLaws
+pub mod SpanLaws
