@@ -29,7 +29,7 @@ follow_all : (bs : List ℕ) → list_all (may_follow alphabet.Outcome) bs ≡ t
 follow_all [] e = refl
 follow_all (b ∷ bs) e = let parts = and_parts _ _ e in and_from _ _ (follow_no_slash b parts.0) (follow_all bs parts.1)
 
-result_without_slash : (id : List ℕ) → IsResultId id → list_all (λ x. not (x == 47)) id ≡ true
+pub result_without_slash : (id : List ℕ) → IsResultId id → list_all (λ x. not (x == 47)) id ≡ true
 result_without_slash [] is = refl
 result_without_slash (b ∷ bs) is = let parts = and_parts _ _ is.letters in and_from _ _ (follow_no_slash b parts.0) (follow_all bs parts.1)
 

@@ -17,3 +17,4 @@ pub mod DigitLaws
 pub mod CalendarLaws
 pub mod MomentLaws
 pub mod SpanLaws
+pub mod NameLaws

@@ -1,5 +1,5 @@
 //! Laws of the definitions that the contracts cite. These functions do nothing: what each of them ensures is the law.
-ghost use Rattle.names_realms.specs.Laws.{DecimalsAreFewest, PrintedDecimalsAreRead, PrintedMomentIsRead, PrintedSpanIsRead};
+ghost use Rattle.names_realms.specs.Laws.{DecimalsAreFewest, OneArtifactNamed, OneInvocationNamed, OneParentNamed, OneResultNamed, PrintedDecimalsAreRead, PrintedMomentIsRead, PrintedSpanIsRead};
 
 /// Every moment that is printed is read as itself.
 pub fn printed_moment_is_read()
@@ -19,4 +19,24 @@ pub fn decimals_are_fewest()
 /// A fraction of a second that is printed is read as itself, where no further digit and no point stands behind it.
 pub fn printed_decimals_are_read()
     ensures { PrintedDecimalsAreRead }
+{}
+
+/// One text names at most one invocation.
+pub fn one_invocation_named()
+    ensures { OneInvocationNamed }
+{}
+
+/// One text names at most one result.
+pub fn one_result_named()
+    ensures { OneResultNamed }
+{}
+
+/// One text names at most one parent of artifacts.
+pub fn one_parent_named()
+    ensures { OneParentNamed }
+{}
+
+/// One text names at most one artifact.
+pub fn one_artifact_named()
+    ensures { OneArtifactNamed }
 {}
