@@ -1,10 +1,9 @@
 -- The name of an artifact has no fault.
-use Rattle.std.proofs.Common.{◌≡◌, ℕ, Bool, true, false, not, ◌&&◌, cond, List, [], ◌∷◌, ◌++◌, length, codes, Option, None, refl, sym, ap, ◌∙◌, append_assoc, arith}
+use Rattle.std.proofs.Common.{◌≡◌, ℕ, true, not, List, [], ◌∷◌, ◌++◌, codes, None, refl, ap, ◌∙◌, append_assoc, arith}
 use Rattle.std.specs.Prelude.{◌==◌}
 use Rattle.std.specs.List.{list_all}
 use Rattle.std.proofs.lemmas.Bool.{and_parts, and_from}
 use Rattle.std.proofs.lemmas.Bool.Decides.{nat_tests}
-use Rattle.names_realms.specs.declared.faults.NameFault.{NameFault}
 use Rattle.names_realms.specs.declared.alphabets.Alphabet.TheVariants as alphabet
 use Rattle.names_realms.specs.declared.parts.PartForm.TheVariants.{Letters, TestId}
 use Rattle.names_realms.specs.declared.artifact_names.ArtifactName.{ArtifactName}
@@ -14,7 +13,7 @@ use Rattle.names_realms.specs.declared.result_names.ResultName.{ResultName}
 use Rattle.names_realms.specs.Alphabets.{may_follow}
 use Rattle.names_realms.specs.Escapes.{escaped, escaped_fault}
 use Rattle.names_realms.specs.Names.{IsArtifactId, IsInvocationId, IsResultId, IsTestId, invocation_name, invocation_id_fault, result_id_fault}
-use Rattle.names_realms.specs.ResultNames.{IsResultName, result_name, result_tail, test_tail}
+use Rattle.names_realms.specs.ResultNames.{IsResultName, result_name}
 use Rattle.names_realms.specs.Parents.{IsParentName, parent_name}
 use Rattle.names_realms.specs.ArtifactNames.{artifact_tail, artifact_name, IsArtifactName, artifact_tail_fault, result_and_artifact_fault, result_artifact_tail_fault, test_and_rest_fault, test_artifact_tail_fault, behind_id_fault, artifact_parts_fault, artifact_named_fault, artifact_name_fault}
 use Rattle.names_realms.proofs.PartLemmas.{IsPart-part_fault}
@@ -30,7 +29,7 @@ follow_all : (bs : List ℕ) → list_all (may_follow alphabet.Outcome) bs ≡ t
 follow_all [] e = refl
 follow_all (b ∷ bs) e = let parts = and_parts _ _ e in and_from _ _ (follow_no_slash b parts.0) (follow_all bs parts.1)
 
-result_without_slash : (id : List ℕ) → IsResultId id → list_all (λ x. not (x == 47)) id ≡ true
+pub result_without_slash : (id : List ℕ) → IsResultId id → list_all (λ x. not (x == 47)) id ≡ true
 result_without_slash [] is = refl
 result_without_slash (b ∷ bs) is = let parts = and_parts _ _ is.letters in and_from _ _ (follow_no_slash b parts.0) (follow_all bs parts.1)
 

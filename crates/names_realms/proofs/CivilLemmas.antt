@@ -13,7 +13,7 @@ use Rattle.names_realms.specs.declared.civil.CivilDate.{CivilDate}
 use Rattle.names_realms.specs.Civil.{counted_off, year_and_days, month_and_days, date_in_year, civil_date}
 
 -- the days of k pieces from number n on
-abbrev total : (ℕ → ℕ) → ℕ → ℕ → ℕ
+abbrev pub total : (ℕ → ℕ) → ℕ → ℕ → ℕ
 total f n zero = 0
 total f n (suc k) = f n + total f (suc n) k
 
@@ -47,20 +47,20 @@ counted_off-total f (suc left) n (suc k) days few within =
     let later = rw next at within in
     rw next (in_later f left n (f n + total f (suc n) k + days) (omega arith) ∙ rw rest (counted_off-total f left (suc n) k days (omega arith) later))
 
-abbrev year_days : ℕ → ℕ
+abbrev pub year_days : ℕ → ℕ
 year_days y = days_in_year (pos y)
 
 day_count-one : day_count (pos 1) 1 1 ≡ 3_652_791
 unfolding day_count days_of_years days_of_months
 day_count-one = refl
 
-years_total : (k : ℕ) → day_count (pos (1 + k)) 1 1 ≡ 3_652_791 + total year_days 1 k
+pub years_total : (k : ℕ) → day_count (pos (1 + k)) 1 1 ≡ 3_652_791 + total year_days 1 k
 years_total zero = day_count-one
 years_total (suc k) =
     let next = day_count-next_year (pos (1 + k)) (pos (1 + suc k)) (omega (arith, ints)) (omega (arith, ints)) in
     omega (arith, next, years_total k, total-last year_days 1 k)
 
-months_total : (y : ℤ) (k : ℕ) → days_of_months y k ≡ total (days_in_month y) 1 k
+pub months_total : (y : ℤ) (k : ℕ) → days_of_months y k ≡ total (days_in_month y) 1 k
 months_total y zero = days_of_months-zero y
 months_total y (suc k) =
     let at : 1 + k ≡ suc k = omega arith in
@@ -71,13 +71,15 @@ months_total y (suc k) =
     omega (arith, step, last, months_total y k)
 
 -- how many days from 0001-01-01 on
-days_before : (y m d k : ℕ) → y ≡ 1 + k → IsCivilDate (pos y) m d → unsigned_abs (days_from_civil (pos y) m d +ℤ pos 719_162) ≡ total year_days 1 k + (day_of_year (pos y) m d - 1)
-days_before y m d k is date =
+pub days_after : (y m d k : ℕ) → y ≡ 1 + k → IsCivilDate (pos y) m d → days_from_civil (pos y) m d +ℤ pos 719_162 ≡ pos (total year_days 1 k + (day_of_year (pos y) m d - 1))
+days_after y m d k is date =
     let first : day_count (pos y) 1 1 ≡ 3_652_791 + total year_days 1 k = rw is (years_total k) in
     let whole = day_count-day_of_year (pos y) m d date.2.0 in
     let count = days_from_civil-day_count (pos y) m d in
-    let days : days_from_civil (pos y) m d +ℤ pos 719_162 ≡ pos (total year_days 1 k + (day_of_year (pos y) m d - 1)) = omega (arith, signed_arith, first, whole, count, date.2.0) in
-    ap unsigned_abs days
+    omega (arith, signed_arith, first, whole, count, date.2.0)
+
+days_before : (y m d k : ℕ) → y ≡ 1 + k → IsCivilDate (pos y) m d → unsigned_abs (days_from_civil (pos y) m d +ℤ pos 719_162) ≡ total year_days 1 k + (day_of_year (pos y) m d - 1)
+days_before y m d k is date = ap unsigned_abs (days_after y m d k is date)
 
 year_is : (y m d k : ℕ) → y ≡ 1 + k → k ≤ 9998 → IsCivilDate (pos y) m d → year_and_days (total year_days 1 k + (day_of_year (pos y) m d - 1)) ≡ (y, day_of_year (pos y) m d - 1)
 year_is y m d k is few date =

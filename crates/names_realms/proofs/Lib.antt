@@ -13,3 +13,8 @@ pub mod ByteLemmas
 pub mod ResultNameLemmas
 pub mod ParentLemmas
 pub mod ArtifactNameLemmas
+pub mod DigitLaws
+pub mod CalendarLaws
+pub mod MomentLaws
+pub mod SpanLaws
+pub mod NameLaws

@@ -13,3 +13,4 @@ pub mod Civil
 pub mod Moments
 pub mod MomentReading
 pub mod Spans
+pub mod Laws

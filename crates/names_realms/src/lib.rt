@@ -10,6 +10,7 @@ mod civil;
 mod escapes;
 mod faults;
 mod ids;
+pub mod laws;
 mod lists;
 mod moment_reading;
 mod moments;

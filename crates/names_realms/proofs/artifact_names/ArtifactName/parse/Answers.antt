@@ -1,4 +1,3 @@
-use Rattle.std.proofs.Common.{◌≡◌}
 use Rattle.names_realms.proofs.ArtifactNameLemmas.{IsArtifactName-fault}
 use Rattle.names_realms.proofs.artifact_names.ArtifactName.parse.Goals as goal
 
