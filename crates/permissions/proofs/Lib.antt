@@ -1,3 +1,4 @@
 pub mod BitLemmas
 pub mod FormLemmas
+pub mod GraphLemmas
 pub mod IndexLemmas

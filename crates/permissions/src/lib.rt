@@ -5,6 +5,7 @@ mod book;
 mod check;
 mod entries;
 mod findings;
+mod graph;
 mod hash;
 mod index;
 mod listed;
