@@ -64,7 +64,7 @@ front_kept : (old new : List ℕ) (i : ℕ) → take (length old) new ≡ old �
 front_kept old new i kept below = sym (get_or-take (length old) new i 0 below) ∙ ap (λ xs. get_or xs i 0) kept
 
 below_or_at : (i at : ℕ) → i < at + 1 → (i < at) ⊎ (i ≡ at)
-below_or_at i at below = elim (cases_Bool (i == at)) [ | inl e ↦ inr (eqb-true i at e) | inr e ↦ inl (grind arith) ]
+below_or_at i at below = elim (cases_Bool (i == at)) [ inl e ↦ inr (eqb-true i at e) | inr e ↦ inl (grind arith) ]
 
 -- one place more whose edges are found
 pub closed_more : (graph : List (List ℕ)) (old new : List ℕ) (at : ℕ) → at < length old → take (length old) new ≡ old
@@ -72,12 +72,12 @@ pub closed_more : (graph : List (List ℕ)) (old new : List ℕ) (at : ℕ) → 
 closed_more graph old new at within kept found closed i below q leads =
     elim (below_or_at i at below) [
       | inl before ↦
-        let leads' : has q (edges graph (get_or old i 0)) ≡ true = subst (λ (s : ℕ). has q (edges graph s) ≡ true) (front_kept old new i kept (omega arith)) leads in
-        found q ∙ or_left _ _ (closed i before q leads')
+          let leads' : has q (edges graph (get_or old i 0)) ≡ true = subst (λ (s : ℕ). has q (edges graph s) ≡ true) (front_kept old new i kept (omega arith)) leads in
+          found q ∙ or_left _ _ (closed i before q leads')
       | inr is ↦
-        let leads' : has q (edges graph (get_or old at 0)) ≡ true =
+          let leads' : has q (edges graph (get_or old at 0)) ≡ true =
           subst (λ (s : ℕ). has q (edges graph s) ≡ true) (ap (λ (j : ℕ). get_or new j 0) is ∙ front_kept old new at kept within) leads in
-        found q ∙ or_right _ _ leads'
+          found q ∙ or_right _ _ leads'
     ]
 
 pub begun_more : (old new others : List ℕ) (q : ℕ) → has q new ≡ (has q old || has q others) → has q old ≡ true → has q new ≡ true

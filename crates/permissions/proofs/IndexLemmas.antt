@@ -31,8 +31,8 @@ found_after bs m n w h cs =
     elim (cases_Bool (bytes_eq bs cs)) [
       | inl y ↦ subst (λ l. found_at l n ≡ w) ((bytes_decides bs cs).0 y) h.1 ∙ sym (cond-true (bytes_eq bs cs) w (found_at cs m) y)
       | inr e ↦
-        other_entries _ _ _ _ h.3 _ (λ x y. (eq_by_cmp_equiv nat_list_cmp_total).congr cs x.items y.items) (λ k. apart_in_order bs cs k.items e)
-        ∙ sym (cond-false (bytes_eq bs cs) w (found_at cs m) e)
+          other_entries _ _ _ _ h.3 _ (λ x y. (eq_by_cmp_equiv nat_list_cmp_total).congr cs x.items y.items) (λ k. apart_in_order bs cs k.items e)
+          ∙ sym (cond-false (bytes_eq bs cs) w (found_at cs m) e)
     ]
 
 map_cond : (t : Bool) (n : ℕ) (o : Option ℕ) → option_map suc (cond t (Some n) o) ≡ cond t (Some (suc n)) (option_map suc o)
@@ -40,7 +40,7 @@ map_cond true n o = refl
 map_cond false n o = refl
 
 -- a name that isn't there is none of the list, and is not in its rest
-not_there : (t : Bool) (o : Option ℕ) → cond t (Some 0) (option_map suc o) ≡ None → (t ≡ false) × (o ≡ None)
+pub not_there : (t : Bool) (o : Option ℕ) → cond t (Some 0) (option_map suc o) ≡ None → (t ≡ false) × (o ≡ None)
 not_there true o e = (cc, cc)
 not_there false None e = (refl, refl)
 not_there false (Some n) e = let no : Some (suc n) ≡ None = e in (refl, cc)
@@ -80,8 +80,8 @@ pub place_of-again : (name q : List ℕ) (names : List (List ℕ)) (n : ℕ) →
 place_of-again name q names n e =
     elim (cases_Bool (bytes_eq q name)) [
       | inl y ↦
-        let same : q ≡ name = (bytes_decides q name).0 y in
-        let found : place_of q names ≡ Some n = rw same e in
-        found ∙ sym (place_of-append q names (name ∷ []) n found)
+          let same : q ≡ name = (bytes_decides q name).0 y in
+          let found : place_of q names ≡ Some n = rw same e in
+          found ∙ sym (place_of-append q names (name ∷ []) n found)
       | inr other ↦ place_of-other q name names other
     ]

@@ -1,4 +1,6 @@
 pub mod BitLemmas
+pub mod CycleLemmas
 pub mod FormLemmas
 pub mod GraphLemmas
 pub mod IndexLemmas
+pub mod ReachLemmas

@@ -14,7 +14,11 @@ use std::alloc::{AllocError, Global};
 fn may_follow(byte: u8) -> bool
     ensures { result ≡ may_follow_in_name byte }
 {
-    byte.is_ascii_lowercase() || byte.is_ascii_digit() || byte == b'_' || byte == b'-' || byte == b'.'
+    byte.is_ascii_lowercase()
+        || byte.is_ascii_digit()
+        || byte == b'_'
+        || byte == b'-'
+        || byte == b'.'
 }
 
 /// Whether each byte may stand in a name, behind its first one.
@@ -107,7 +111,9 @@ fn is_formed(alloc: Global, kind: TextKind, text: &[u8]) -> Result<bool, AllocEr
         TextKind::Token => Ok(has_token_form(text)),
         TextKind::Permission => Ok(Permission::from_text(text).is_some()),
         TextKind::RealmName => has_realm_form(alloc, text),
-        TextKind::Extended | TextKind::BoundRole | TextKind::Member | TextKind::Principal => Ok(true),
+        TextKind::Extended | TextKind::BoundRole | TextKind::Member | TextKind::Principal => Ok(
+            true,
+        ),
     }
 }
 
@@ -132,7 +138,13 @@ fn is_known_principal(book: &Book, text: &[u8]) -> bool
 }
 
 /// Whether a text isn't what is asked of it.
-pub(crate) fn fails(alloc: Global, book: &Book, check: Check, kind: TextKind, text: &[u8]) -> Result<bool, AllocError>
+pub(crate) fn fails(
+    alloc: Global,
+    book: &Book,
+    check: Check,
+    kind: TextKind,
+    text: &[u8],
+) -> Result<bool, AllocError>
     ensures { IfOk result (λ b. b ≡ is_faulty book.now check kind text.now) }
 {
     match (check, kind) {

@@ -33,7 +33,11 @@ fn find_place(marks: &mut [bool], found: &mut Vec<usize>, place: usize) -> Resul
 }
 
 /// Finds each of these places.
-fn find_places(marks: &mut [bool], found: &mut Vec<usize>, places: &[usize]) -> Result<(), AllocError>
+fn find_places(
+    marks: &mut [bool],
+    found: &mut Vec<usize>,
+    places: &[usize],
+) -> Result<(), AllocError>
     requires within { (q : ℕ) → has q places.now ≡ true → q < length marks.old }
     requires marked { IsMarked marks.old found.old.items }
     ensures len { length marks.new ≡ length marks.old }
@@ -48,7 +52,12 @@ fn find_places(marks: &mut [bool], found: &mut Vec<usize>, places: &[usize]) -> 
 }
 
 /// Finds where each found place leads, until nothing new is found.
-fn find_others(graph: &[Listed<usize>], marks: &mut [bool], found: &mut Vec<usize>, start: usize) -> Result<(), AllocError>
+fn find_others(
+    graph: &[Listed<usize>],
+    marks: &mut [bool],
+    found: &mut Vec<usize>,
+    start: usize,
+) -> Result<(), AllocError>
     requires graph { IsGraph graph.now }
     requires len { length marks.old ≡ length graph.now }
     requires marked { IsMarked marks.old found.old.items }
@@ -65,7 +74,11 @@ fn find_others(graph: &[Listed<usize>], marks: &mut [bool], found: &mut Vec<usiz
 }
 
 /// The places that are reached from this one in one step or more.
-pub(crate) fn reached_from(alloc: Global, graph: &[Listed<usize>], start: usize) -> Result<Vec<usize>, AllocError>
+pub(crate) fn reached_from(
+    alloc: Global,
+    graph: &[Listed<usize>],
+    start: usize,
+) -> Result<Vec<usize>, AllocError>
     requires { IsGraph graph.now }
     ensures { IfOk result (λ found. (q : ℕ) → (has q found.items ≡ true) ↔ ReachesOn graph.now start q) }
 {

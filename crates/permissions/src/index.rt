@@ -24,7 +24,9 @@ impl NameIndex {
     pub(crate) fn new(alloc: Global) -> NameIndex
         ensures { IsIndexOf result [] }
     {
-        NameIndex { places: BTreeMap::new(alloc) }
+        NameIndex {
+            places: BTreeMap::new(alloc),
+        }
     }
 
     /// The first place of a name.

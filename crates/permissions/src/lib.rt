@@ -3,6 +3,7 @@
 
 mod book;
 mod check;
+mod cycle;
 mod entries;
 mod findings;
 mod graph;
@@ -11,12 +12,13 @@ mod index;
 mod listed;
 mod permission;
 mod read;
+mod realms;
 mod shape;
 mod tables;
-mod texts;
-mod walk;
 #[cfg(test)]
 mod tests;
+mod texts;
+mod walk;
 
 pub use findings::Finding;
 pub use hash::{hmac_sha256, token_is, update_token};

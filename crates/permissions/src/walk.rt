@@ -13,7 +13,15 @@ use names_realms::Bytes;
 use std::alloc::{AllocError, Global};
 
 /// Checks a text that stands at a path.
-fn look(alloc: Global, least: &mut Option<Finding>, book: &Book, check: Check, kind: TextKind, path: &[u8], text: &[u8]) -> Result<(), AllocError>
+fn look(
+    alloc: Global,
+    least: &mut Option<Finding>,
+    book: &Book,
+    check: Check,
+    kind: TextKind,
+    path: &[u8],
+    text: &[u8],
+) -> Result<(), AllocError>
     ensures { OnOk result (least.new ≡ with_spots book.now check least.old (spot kind path.now text.now ∷ [])) }
 {
     if fails(alloc, book, check, kind, text)? {
@@ -23,7 +31,16 @@ fn look(alloc: Global, least: &mut Option<Finding>, book: &Book, check: Check, k
 }
 
 /// Checks a text that stands at a key of the table at a path.
-fn look_at_key(alloc: Global, least: &mut Option<Finding>, book: &Book, check: Check, kind: TextKind, at: &[u8], key: &[u8], text: &[u8]) -> Result<(), AllocError>
+fn look_at_key(
+    alloc: Global,
+    least: &mut Option<Finding>,
+    book: &Book,
+    check: Check,
+    kind: TextKind,
+    at: &[u8],
+    key: &[u8],
+    text: &[u8],
+) -> Result<(), AllocError>
     ensures { OnOk result (least.new ≡ with_spots book.now check least.old (spot kind (joined at.now key.now) text.now ∷ [])) }
 {
     let path = path_of_key(alloc, at, key)?;
@@ -31,7 +48,16 @@ fn look_at_key(alloc: Global, least: &mut Option<Finding>, book: &Book, check: C
 }
 
 /// Checks a text that stands at a place of the list at a path.
-fn look_at_place(alloc: Global, least: &mut Option<Finding>, book: &Book, check: Check, kind: TextKind, at: &[u8], place: usize, text: &[u8]) -> Result<(), AllocError>
+fn look_at_place(
+    alloc: Global,
+    least: &mut Option<Finding>,
+    book: &Book,
+    check: Check,
+    kind: TextKind,
+    at: &[u8],
+    place: usize,
+    text: &[u8],
+) -> Result<(), AllocError>
     ensures { OnOk result (least.new ≡ with_spots book.now check least.old (spot kind (joined at.now (decimal place)) text.now ∷ [])) }
 {
     if fails(alloc, book, check, kind, text)? {
@@ -42,7 +68,15 @@ fn look_at_place(alloc: Global, least: &mut Option<Finding>, book: &Book, check:
 }
 
 /// Checks the texts of the list at a path.
-fn look_at_texts(alloc: Global, least: &mut Option<Finding>, book: &Book, check: Check, kind: TextKind, at: &[u8], texts: &[Bytes]) -> Result<(), AllocError>
+fn look_at_texts(
+    alloc: Global,
+    least: &mut Option<Finding>,
+    book: &Book,
+    check: Check,
+    kind: TextKind,
+    at: &[u8],
+    texts: &[Bytes],
+) -> Result<(), AllocError>
     ensures { OnOk result (least.new ≡ with_spots book.now check least.old (text_spots kind at.now 0 texts.now)) }
 {
     for (place, text) in texts.iter().enumerate() {
@@ -57,12 +91,27 @@ trait Texts {
     ghost spots: { List ℕ → ℕ → Self → List Spot };
 
     /// Checks each of them.
-    fn look(&self, alloc: Global, least: &mut Option<Finding>, book: &Book, check: Check, at: &[u8], place: usize) -> Result<(), AllocError>
+    fn look(
+        &self,
+        alloc: Global,
+        least: &mut Option<Finding>,
+        book: &Book,
+        check: Check,
+        at: &[u8],
+        place: usize,
+    ) -> Result<(), AllocError>
         ensures { OnOk result (least.new ≡ with_spots book.now check least.old (spots at.now place self.now)) };
 }
 
 /// Checks the texts of each of these.
-fn look_at_all<T: Texts>(alloc: Global, least: &mut Option<Finding>, book: &Book, check: Check, at: &[u8], rows: &[T]) -> Result<(), AllocError>
+fn look_at_all<T: Texts>(
+    alloc: Global,
+    least: &mut Option<Finding>,
+    book: &Book,
+    check: Check,
+    at: &[u8],
+    rows: &[T],
+) -> Result<(), AllocError>
     ensures { OnOk result (least.new ≡ with_spots book.now check least.old (spots_of T.spots at.now 0 rows.now)) }
 {
     for (place, row) in rows.iter().enumerate() {
@@ -76,11 +125,36 @@ impl Texts for User {
 
     ghost spots = { user_spots };
 
-    fn look(&self, alloc: Global, least: &mut Option<Finding>, book: &Book, check: Check, at: &[u8], place: usize) -> Result<(), AllocError> {
+    fn look(
+        &self,
+        alloc: Global,
+        least: &mut Option<Finding>,
+        book: &Book,
+        check: Check,
+        at: &[u8],
+        place: usize,
+    ) -> Result<(), AllocError> {
         let _ = place;
         let path = path_of_key(alloc, at, self.name.as_slice())?;
-        look(alloc, least, book, check, TextKind::UserName, path.as_slice(), self.name.as_slice())?;
-        look_at_key(alloc, least, book, check, TextKind::Token, path.as_slice(), b"token", self.token.as_slice())
+        look(
+            alloc,
+            least,
+            book,
+            check,
+            TextKind::UserName,
+            path.as_slice(),
+            self.name.as_slice(),
+        )?;
+        look_at_key(
+            alloc,
+            least,
+            book,
+            check,
+            TextKind::Token,
+            path.as_slice(),
+            b"token",
+            self.token.as_slice(),
+        )
     }
 }
 
@@ -89,12 +163,36 @@ impl Texts for Group {
 
     ghost spots = { group_spots };
 
-    fn look(&self, alloc: Global, least: &mut Option<Finding>, book: &Book, check: Check, at: &[u8], place: usize) -> Result<(), AllocError> {
+    fn look(
+        &self,
+        alloc: Global,
+        least: &mut Option<Finding>,
+        book: &Book,
+        check: Check,
+        at: &[u8],
+        place: usize,
+    ) -> Result<(), AllocError> {
         let _ = place;
         let path = path_of_key(alloc, at, self.name.as_slice())?;
-        look(alloc, least, book, check, TextKind::GroupName, path.as_slice(), self.name.as_slice())?;
+        look(
+            alloc,
+            least,
+            book,
+            check,
+            TextKind::GroupName,
+            path.as_slice(),
+            self.name.as_slice(),
+        )?;
         let members = path_of_key(alloc, path.as_slice(), b"members")?;
-        look_at_texts(alloc, least, book, check, TextKind::Member, members.as_slice(), self.members.as_slice())
+        look_at_texts(
+            alloc,
+            least,
+            book,
+            check,
+            TextKind::Member,
+            members.as_slice(),
+            self.members.as_slice(),
+        )
     }
 }
 
@@ -103,12 +201,36 @@ impl Texts for Role {
 
     ghost spots = { role_spots };
 
-    fn look(&self, alloc: Global, least: &mut Option<Finding>, book: &Book, check: Check, at: &[u8], place: usize) -> Result<(), AllocError> {
+    fn look(
+        &self,
+        alloc: Global,
+        least: &mut Option<Finding>,
+        book: &Book,
+        check: Check,
+        at: &[u8],
+        place: usize,
+    ) -> Result<(), AllocError> {
         let _ = place;
         let path = path_of_key(alloc, at, self.name.as_slice())?;
-        look(alloc, least, book, check, TextKind::RoleName, path.as_slice(), self.name.as_slice())?;
+        look(
+            alloc,
+            least,
+            book,
+            check,
+            TextKind::RoleName,
+            path.as_slice(),
+            self.name.as_slice(),
+        )?;
         let permissions = path_of_key(alloc, path.as_slice(), b"permissions")?;
-        look_at_texts(alloc, least, book, check, TextKind::Permission, permissions.as_slice(), self.permissions.as_slice())
+        look_at_texts(
+            alloc,
+            least,
+            book,
+            check,
+            TextKind::Permission,
+            permissions.as_slice(),
+            self.permissions.as_slice(),
+        )
     }
 }
 
@@ -117,11 +239,36 @@ impl Texts for Binding {
 
     ghost spots = { binding_spots };
 
-    fn look(&self, alloc: Global, least: &mut Option<Finding>, book: &Book, check: Check, at: &[u8], place: usize) -> Result<(), AllocError> {
+    fn look(
+        &self,
+        alloc: Global,
+        least: &mut Option<Finding>,
+        book: &Book,
+        check: Check,
+        at: &[u8],
+        place: usize,
+    ) -> Result<(), AllocError> {
         let path = path_of_place(alloc, at, place)?;
-        look_at_key(alloc, least, book, check, TextKind::BoundRole, path.as_slice(), b"role", self.role.as_slice())?;
+        look_at_key(
+            alloc,
+            least,
+            book,
+            check,
+            TextKind::BoundRole,
+            path.as_slice(),
+            b"role",
+            self.role.as_slice(),
+        )?;
         let principals = path_of_key(alloc, path.as_slice(), b"principals")?;
-        look_at_texts(alloc, least, book, check, TextKind::Principal, principals.as_slice(), self.principals.as_slice())
+        look_at_texts(
+            alloc,
+            least,
+            book,
+            check,
+            TextKind::Principal,
+            principals.as_slice(),
+            self.principals.as_slice(),
+        )
     }
 }
 
@@ -130,27 +277,98 @@ impl Texts for RealmTable {
 
     ghost spots = { realm_spots };
 
-    fn look(&self, alloc: Global, least: &mut Option<Finding>, book: &Book, check: Check, at: &[u8], place: usize) -> Result<(), AllocError> {
+    fn look(
+        &self,
+        alloc: Global,
+        least: &mut Option<Finding>,
+        book: &Book,
+        check: Check,
+        at: &[u8],
+        place: usize,
+    ) -> Result<(), AllocError> {
         let _ = place;
         let path = path_of_key(alloc, at, self.name.as_slice())?;
-        look(alloc, least, book, check, TextKind::RealmName, path.as_slice(), self.name.as_slice())?;
+        look(
+            alloc,
+            least,
+            book,
+            check,
+            TextKind::RealmName,
+            path.as_slice(),
+            self.name.as_slice(),
+        )?;
         let extends = path_of_key(alloc, path.as_slice(), b"extends")?;
-        look_at_texts(alloc, least, book, check, TextKind::Extended, extends.as_slice(), self.extends.as_slice())?;
+        look_at_texts(
+            alloc,
+            least,
+            book,
+            check,
+            TextKind::Extended,
+            extends.as_slice(),
+            self.extends.as_slice(),
+        )?;
         let bindings = path_of_key(alloc, path.as_slice(), b"bindings")?;
-        look_at_all(alloc, least, book, check, bindings.as_slice(), self.bindings.as_slice())
+        look_at_all(
+            alloc,
+            least,
+            book,
+            check,
+            bindings.as_slice(),
+            self.bindings.as_slice(),
+        )
     }
 }
 
 /// The text with the least path that isn't what the check asks for.
-pub(crate) fn first_failing(alloc: Global, book: &Book, check: Check) -> Result<Option<Finding>, AllocError>
+pub(crate) fn first_failing(
+    alloc: Global,
+    book: &Book,
+    check: Check,
+) -> Result<Option<Finding>, AllocError>
     ensures { IfOk result (λ least. least ≡ with_spots book.now check None (all_spots book.now)) }
 {
     let tables = book.tables();
     let mut least = None;
-    look(alloc, &mut least, book, check, TextKind::Secret, b"secret", tables.secret.as_slice())?;
-    look_at_all(alloc, &mut least, book, check, b"user", tables.users.as_slice())?;
-    look_at_all(alloc, &mut least, book, check, b"group", tables.groups.as_slice())?;
-    look_at_all(alloc, &mut least, book, check, b"role", tables.roles.as_slice())?;
-    look_at_all(alloc, &mut least, book, check, b"realm", tables.realms.as_slice())?;
+    look(
+        alloc,
+        &mut least,
+        book,
+        check,
+        TextKind::Secret,
+        b"secret",
+        tables.secret.as_slice(),
+    )?;
+    look_at_all(
+        alloc,
+        &mut least,
+        book,
+        check,
+        b"user",
+        tables.users.as_slice(),
+    )?;
+    look_at_all(
+        alloc,
+        &mut least,
+        book,
+        check,
+        b"group",
+        tables.groups.as_slice(),
+    )?;
+    look_at_all(
+        alloc,
+        &mut least,
+        book,
+        check,
+        b"role",
+        tables.roles.as_slice(),
+    )?;
+    look_at_all(
+        alloc,
+        &mut least,
+        book,
+        check,
+        b"realm",
+        tables.realms.as_slice(),
+    )?;
     Ok(least)
 }

@@ -10,7 +10,7 @@ loop-at-init c = record {
   marked = c.requires.marked;
   begun = λ q e. c.requires.begun q ∙ e;
   done = λ i below. absurd (omega arith);
-  reached = λ q e. reaches_at_once c.args.graph.now c.args.start q (sym (c.requires.begun q) ∙ e)
+  reached = λ q e. reaches_at_once c.args.graph.now c.args.start q (sym (c.requires.begun q) ∙ e);
 }
 
 pub loop-at-preserved : goal.loop-at-preserved
@@ -25,7 +25,7 @@ loop-at-preserved c =
       marked = c.in_ok-find_places.ensures.marked;
       begun = λ q e. begun_more old new _ q (found q) (c.loop-at.invariant.begun q e);
       done = closed_more graph old new c.loop-at.at within c.in_ok-find_places.ensures.kept found c.loop-at.invariant.done;
-      reached = reached_more graph c.args.start (get_or old c.loop-at.at 0) old new found c.loop-at.invariant.reached (has_of old c.loop-at.at within)
+      reached = reached_more graph c.args.start (get_or old c.loop-at.at 0) old new found c.loop-at.invariant.reached (has_of old c.loop-at.at within);
     }
 
 pub returns : goal.returns

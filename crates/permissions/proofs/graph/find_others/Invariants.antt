@@ -9,7 +9,7 @@ invariant-loop-at l = record {
   marked : IsMarked l.marks l.found.items;
   begun : (q : ℕ) → has q (edges l.graph l.start) ≡ true → has q l.found.items ≡ true;
   done : (i : ℕ) → i < l.at → (q : ℕ) → has q (edges l.graph (get_or l.found.items i 0)) ≡ true → has q l.found.items ≡ true;
-  reached : (q : ℕ) → has q l.found.items ≡ true → ReachesOn l.graph l.start q
+  reached : (q : ℕ) → has q l.found.items ≡ true → ReachesOn l.graph l.start q;
 }
 
 abbrev pub decreases-loop-at : goal.decreases-loop-at

@@ -8,5 +8,5 @@ invariant-loop-i l = record {
   len : length l.marks ≡ length l.initial.marks;
   marked : IsMarked l.marks l.found.items;
   found : (q : ℕ) → has q l.found.items ≡ (has q l.initial.found.items || has q (take l.i l.places));
-  kept : take (length l.initial.found.items) l.found.items ≡ l.initial.found.items
+  kept : take (length l.initial.found.items) l.found.items ≡ l.initial.found.items;
 }
