@@ -1,6 +1,7 @@
 //! Vectors from outside: RFC 4231, and a token computed by another program.
-use crate::{hmac_sha256, token_is, update_token};
+use crate::{Policy, PolicyFault, hmac_sha256, token_is, update_token};
 use names_realms::InvocationId;
+use std::alloc::Global;
 use std::process::Abort;
 use std::test::Fail;
 
@@ -63,5 +64,151 @@ fn a_token_is_told_from_others(rt: HostRuntime) -> Result<(), Fail> {
     assert!(rt; token_is(&secret, &id, token.as_slice()));
     assert!(rt; !token_is(&secret, &id, &token[..63]));
     assert!(rt; !token_is(b"another", &id, token.as_slice()));
+    Ok(())
+}
+
+const SAMPLE: &str = "secret = \"0b0b0b0b0b0b0b0b0b0b0b0b0b0b0b0b0b0b0b0b\"
+[user.alice]
+token = \"tok-a\"
+[user.bob]
+token = \"tok-b\"
+[user.carol]
+token = \"tok-c\"
+[user.dana]
+token = \"tok-d\"
+[group.farm]
+members = [\"dana\"]
+[role.writer]
+permissions = [\"resultdb.invocations.create\", \"resultdb.invocations.get\", \"resultdb.invocations.include\", \"resultdb.testResults.get\", \"resultdb.testResults.list\", \"resultdb.testExonerations.get\", \"resultdb.testExonerations.list\", \"resultdb.artifacts.get\", \"resultdb.artifacts.list\"]
+[role.reserved]
+permissions = [\"resultdb.invocations.createWithReservedID\"]
+[role.reader]
+permissions = [\"resultdb.invocations.get\", \"resultdb.testResults.get\", \"resultdb.testResults.list\", \"resultdb.testExonerations.get\", \"resultdb.testExonerations.list\", \"resultdb.artifacts.get\", \"resultdb.artifacts.list\"]
+[role.limited]
+permissions = [\"resultdb.invocations.get\", \"resultdb.testResults.listLimited\", \"resultdb.testExonerations.listLimited\"]
+[realm.\"proj:@root\"]
+bindings = [{ role = \"writer\", principals = [\"user:alice\", \"group:farm\"] }, { role = \"reserved\", principals = [\"group:farm\"] }]
+[realm.\"proj:ci\"]
+bindings = [{ role = \"reader\", principals = [\"user:bob\"] }, { role = \"limited\", principals = [\"user:carol\"] }]
+[realm.\"proj:priv\"]
+extends = []
+bindings = [{ role = \"limited\", principals = [\"user:bob\"] }]
+";
+
+/// What a fault names.
+fn subject_of(fault: &PolicyFault) -> &[u8] {
+    match fault {
+        PolicyFault::BadName { at } | PolicyFault::BadShape { at } => at.as_slice(),
+        PolicyFault::UnknownRole { name }
+        | PolicyFault::UnknownRealm { name }
+        | PolicyFault::UnknownPrincipal { name }
+        | PolicyFault::RealmCycle { name } => name.as_slice(),
+        PolicyFault::TwoOwners { token } => token.as_slice(),
+        PolicyFault::NotToml | PolicyFault::TooMany { .. } | PolicyFault::Memory => b"",
+    }
+}
+
+fn see_fault(rt: &(impl Abort + Alloc<A = Global>), text: &str, number: u8, subject: &str) {
+    match Policy::from_toml(rt.alloc(), text.as_bytes()) {
+        Ok(_) => panic!(rt; "read: {text}"),
+        Err(fault) => {
+            assert_eq!(rt; fault.number(), number, "{text}");
+            assert_eq!(rt; subject_of(&fault), subject.as_bytes());
+        }
+    }
+}
+
+#[test]
+fn each_fault_is_named(rt: HostRuntime) -> Result<(), Fail> {
+    see_fault(&rt, "secret = ", 1, "");
+    see_fault(&rt, "[user.a]\ntoken = \"t\"\n", 8, "secret");
+    see_fault(
+        &rt,
+        "secret = \"0b\"\n[user.a]\ntoken = 1\n[user.a-b]\n",
+        8,
+        "user.a-b.token",
+    );
+    see_fault(&rt, "secret = \"0b\"\nkey = 1\ngroup = 2\n", 8, "group");
+    see_fault(
+        &rt,
+        "secret = \"0b\"\n[group.g]\nmembers = [\"a\", 1, \"b\", 2]\n",
+        8,
+        "group.g.members.1",
+    );
+    see_fault(
+        &rt,
+        "secret = \"0b\"\n[realm.\"p:a\"]\nbindings = [{ role = \"r\", principals = [], more = 1 }]\n",
+        8,
+        "realm.p:a.bindings.0.more",
+    );
+    see_fault(&rt, "secret = \"0b0\"\n", 2, "secret");
+    see_fault(
+        &rt,
+        "secret = \"0b\"\n[user.B]\ntoken = \"t\"\n[user.A]\ntoken = \"u\"\n",
+        2,
+        "user.A",
+    );
+    see_fault(
+        &rt,
+        "secret = \"0b\"\n[user.a]\ntoken = \"t t\"\n",
+        2,
+        "user.a.token",
+    );
+    see_fault(
+        &rt,
+        "secret = \"0b\"\n[role.r]\npermissions = [\"resultdb.artifacts.get\", \"resultdb.artifacts.put\"]\n",
+        2,
+        "role.r.permissions.1",
+    );
+    see_fault(&rt, "secret = \"0b\"\n[realm.p]\n", 2, "realm.p");
+    see_fault(
+        &rt,
+        "secret = \"0b\"\n[realm.\"p:a\"]\nextends = [\"p:c\"]\nbindings = [{ role = \"x\", principals = [] }, { role = \"w\", principals = [] }]\n",
+        3,
+        "x",
+    );
+    see_fault(
+        &rt,
+        "secret = \"0b\"\n[realm.\"p:a\"]\nextends = [\"p:a\", \"p:c\"]\n[realm.\"p:b\"]\nextends = [\"p:b\", \"p:d\"]\n",
+        4,
+        "p:c",
+    );
+    see_fault(
+        &rt,
+        "secret = \"0b\"\n[group.g]\nmembers = [\"alice\"]\n[realm.\"p:a\"]\nextends = [\"p:a\"]\n",
+        9,
+        "alice",
+    );
+    see_fault(
+        &rt,
+        "secret = \"0b\"\n[role.r]\npermissions = []\n[realm.\"p:a\"]\nbindings = [{ role = \"r\", principals = [\"bob\"] }]\n",
+        9,
+        "bob",
+    );
+    see_fault(
+        &rt,
+        "secret = \"0b\"\n[user.a]\ntoken = \"t\"\n[user.b]\ntoken = \"t\"\n[realm.\"p:@root\"]\nextends = [\"p:a\"]\n[realm.\"p:c\"]\nextends = [\"p:b\"]\n[realm.\"p:b\"]\nextends = [\"p:c\"]\n[realm.\"p:a\"]\nextends = [\"p:b\"]\n",
+        5,
+        "p:b",
+    );
+    see_fault(
+        &rt,
+        "secret = \"0b\"\n[user.a]\ntoken = \"t\"\n[user.b]\ntoken = \"t\"\n[user.c]\ntoken = \"s\"\n[user.d]\ntoken = \"s\"\n[realm.\"p:@root\"]\n[realm.\"p:a\"]\n",
+        6,
+        "s",
+    );
+    Ok(())
+}
+
+#[test]
+fn a_sample_is_read(rt: HostRuntime) -> Result<(), Fail> {
+    let policy = match Policy::from_toml(rt.alloc(), SAMPLE.as_bytes()) {
+        Ok(policy) => policy,
+        Err(fault) => panic!(&rt; "refused: {}", fault.name()),
+    };
+    assert_eq!(rt; policy.secret(), [0x0b; 20].as_slice());
+    assert!(rt; policy.caller_of(b"tok-e").is_none());
+    let bob = policy.caller_of(b"tok-b").ok_or("bob")?;
+    assert_eq!(rt; policy.name_of(bob), b"bob".as_slice());
     Ok(())
 }
