@@ -2,7 +2,10 @@ pub mod BitLemmas
 pub mod CycleLemmas
 pub mod FaultLemmas
 pub mod FormLemmas
+pub mod GrantLemmas
 pub mod GraphLemmas
 pub mod IndexLemmas
 pub mod ReachLemmas
+pub mod RootLemmas
+pub mod RowLemmas
 pub mod SpotLemmas

@@ -15,7 +15,7 @@ use Rattle.permissions.specs.Graph.{has, edges, IsGraph, IsWalkOn, ReachesOn}
 use Rattle.permissions.specs.Reach.{realm_at, extended, IsWalk, Reaches, ReachesItself, places_in, graph_from, graph_of}
 
 -- the first place is within, and has the name
-place_step : (t : Bool) (o : Option ℕ) (q : ℕ) → cond t (Some 0) (option_map suc o) ≡ Some q → ((t ≡ true) × (q ≡ 0)) ⊎ ((t ≡ false) × ((r : ℕ) × (o ≡ Some r) × (q ≡ suc r)))
+pub place_step : (t : Bool) (o : Option ℕ) (q : ℕ) → cond t (Some 0) (option_map suc o) ≡ Some q → ((t ≡ true) × (q ≡ 0)) ⊎ ((t ≡ false) × ((r : ℕ) × (o ≡ Some r) × (q ≡ suc r)))
 place_step true o q e = inl (refl, cc)
 place_step false None q e = let no : None ≡ Some q = e in cc
 place_step false (Some r) q e = let is : Some (suc r) ≡ Some q = e in inr (refl, (r, refl, cc))
@@ -48,7 +48,7 @@ unfolding graph_of
 edges_of-graph t a p e = edges_from (realm_names t) a t.realms p e
 
 -- a realm that isn't there extends none
-not_there-extended : (a : List ℕ) (realms : List RealmTable) → place_of a (map (λ r. r.name) realms) ≡ None → realm_at a realms ≡ record { name = a; extends = []; bindings = [] }
+pub not_there-extended : (a : List ℕ) (realms : List RealmTable) → place_of a (map (λ r. r.name) realms) ≡ None → realm_at a realms ≡ record { name = a; extends = []; bindings = [] }
 not_there-extended a [] e = refl
 not_there-extended a (r ∷ rs) e = let none = not_there (bytes_eq a r.name) (place_of a (map (λ r. r.name) rs)) e in rw none.0 (not_there-extended a rs none.1)
 
@@ -107,7 +107,7 @@ pub graph-IsGraph : (t : PolicyTables) → IsGraph (graph_of t)
 graph-IsGraph t p q e = rw (length-graph_of t) (edge-within t p q e)
 
 -- nothing is in the list of a realm that isn't there
-no_walk : (t : PolicyTables) (a b x : List ℕ) (xs : List (List ℕ)) → place_of a (realm_names t) ≡ None → is_there x (extended t a) ≡ true → ⊥
+pub no_walk : (t : PolicyTables) (a b x : List ℕ) (xs : List (List ℕ)) → place_of a (realm_names t) ≡ None → is_there x (extended t a) ≡ true → ⊥
 no_walk t a b x xs none there =
     let no : false ≡ true = sym (ap (λ r. is_there x r.extends) (not_there-extended a t.realms none)) ∙ there in cc
 

@@ -21,6 +21,21 @@ permission_text ListLimitedTestExonerations = codes "resultdb.testExonerations.l
 permission_text GetArtifact = codes "resultdb.artifacts.get"
 permission_text ListArtifacts = codes "resultdb.artifacts.list"
 
+-- each permission's number
+abbrev pub permission_number : Permission → ℕ
+permission_number CreateInvocation = 0
+permission_number CreateWithReservedId = 1
+permission_number GetInvocation = 2
+permission_number IncludeInvocation = 3
+permission_number GetTestResult = 4
+permission_number ListTestResults = 5
+permission_number ListLimitedTestResults = 6
+permission_number GetTestExoneration = 7
+permission_number ListTestExonerations = 8
+permission_number ListLimitedTestExonerations = 9
+permission_number GetArtifact = 10
+permission_number ListArtifacts = 11
+
 -- the permission whose text this is
 unfoldable pub permission_of : List ℕ → Option Permission
 permission_of text = find (λ p. bytes_eq (permission_text p) text) EVERY

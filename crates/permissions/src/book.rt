@@ -1,10 +1,13 @@
 //! The tables of a configuration, with indexes of the names in them.
 ghost use Rattle.std.specs.Prelude.{◌≡◌, IfOk};
 ghost use Rattle.permissions.specs.Index.{place_of};
+ghost use Rattle.permissions.specs.Allows.{group_at};
+ghost use Rattle.permissions.specs.Places.{role_texts_at, members_at_place};
 ghost use Rattle.permissions.specs.Checks.{user_names, group_names, role_names, realm_names};
 
 use crate::index::{NameIndex, Named, index_names};
 use crate::tables::{Group, PolicyTables, RealmTable, Role, User};
+use names_realms::Bytes;
 use std::alloc::{AllocError, Global};
 use std::marker::Model;
 
@@ -112,5 +115,35 @@ impl Book {
         ensures { result ≡ place_of name.now (realm_names self.now) }
     {
         self.realms.find(name)
+    }
+}
+
+/// The permissions that the role at a place holds.
+pub(crate) fn role_texts(book: &Book, place: usize) -> &[Bytes]
+    ensures { result.now ≡ role_texts_at book.now.roles place }
+{
+    match book.tables.roles.as_slice().get(place) {
+        Some(role) => role.permissions.as_slice(),
+        None => &[],
+    }
+}
+
+/// The members of the group at a place.
+fn members_at(book: &Book, place: usize) -> &[Bytes]
+    ensures { result.now ≡ members_at_place book.now.groups place }
+{
+    match book.tables.groups.as_slice().get(place) {
+        Some(group) => group.members.as_slice(),
+        None => &[],
+    }
+}
+
+/// The members of a group.
+pub(crate) fn members_of<'b>(book: &'b Book, name: &[u8]) -> &'b [Bytes]
+    ensures { result.now ≡ (group_at name.now book.now.groups).members }
+{
+    match book.group(name) {
+        Some(place) => members_at(book, place),
+        None => &[],
     }
 }

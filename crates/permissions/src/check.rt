@@ -118,7 +118,7 @@ fn is_formed(alloc: Global, kind: TextKind, text: &[u8]) -> Result<bool, AllocEr
 }
 
 /// What stands behind a front.
-fn rest_behind<'a>(front: &[u8], text: &'a [u8]) -> Option<&'a [u8]>
+pub(crate) fn rest_behind<'a>(front: &[u8], text: &'a [u8]) -> Option<&'a [u8]>
     ensures { option_map (λ r. r.now) result ≡ behind front.now text.now }
 {
     text.strip_prefix(front)

@@ -7,7 +7,7 @@ use names_realms::InvocationId;
 use sha2::{Digest, Sha256};
 
 /// Writes bytes over the front of a slice.
-fn write_front(room: &mut [u8], bytes: &[u8])
+pub(crate) fn write_front(room: &mut [u8], bytes: &[u8])
     requires { length bytes.now ≤ length room.old }
     ensures { room.new ≡ bytes.now ++ drop (length bytes.now) room.old }
 {

@@ -1,21 +1,30 @@
 //! The policy of a configuration.
-ghost use Rattle.std.specs.Prelude.{◌≡◌, ◌≢◌, ◌<◌, ◌≤◌, ◌↔◌, Ok, None, [], length, map, IsTrue, IfOk, IfErr, IfSome, slice_index_or};
+ghost use Rattle.std.specs.Prelude.{◌≡◌, ◌≢◌, ◌<◌, ◌≤◌, ◌↔◌, ◌==◌, true, take, Ok, None, [], length, map, IsTrue, IfOk, IfErr, IfSome, slice_index_or};
+ghost use Rattle.std.specs.List.{position};
 ghost use Rattle.hex.specs.Hex.{decode_of};
 ghost use Rattle.toml.specs.View.{table_view};
 ghost use Rattle.permissions.specs.Checks.{user_names};
+ghost use Rattle.permissions.specs.Allows.{Allows, root_of};
+ghost use Rattle.permissions.specs.Grants.{has_bit, IsBoundByName};
+ghost use Rattle.permissions.specs.Reach.{graph_of};
+ghost use Rattle.names_realms.specs.Realms.{IsRealm, project_len};
 ghost use Rattle.permissions.specs.Faults.{most_bytes, IsToml, IsFirstFault, IsTablesFault, IsPolicyOf, IsSound, text_fault};
 ghost use Rattle.permissions.specs.Index.{place_of, IsIndexOf};
 
 use crate::PolicyFault;
 use crate::book::Book;
 use crate::caller::CallerId;
+use crate::hash::write_front;
 use crate::index::NameIndex;
+use crate::listed::Listed;
+use crate::permission::Permission;
 use crate::realms::read_graph;
+use crate::rows::close_rows;
 use crate::stages::{
     check_cycle, check_entries, check_size, check_texts, check_tokens, read_shaped, read_toml,
 };
 use crate::tables::PolicyTables;
-use names_realms::Bytes;
+use names_realms::{Bytes, Realm};
 use std::alloc::Global;
 use std::marker::Model;
 
@@ -25,6 +34,7 @@ pub struct Policy {
     book: Book,
     secret: Bytes,
     tokens: NameIndex,
+    rows: Vec<Listed<u16>>,
 }
 
 impl Model for Policy {
@@ -37,7 +47,7 @@ impl Model for Policy {
 
     ghost view = { λ p. p.book };
 
-    ghost invariant = { λ p. IsKept p.secret p.tokens p.book };
+    ghost invariant = { λ p. IsKept p.secret p.tokens p.rows.items p.book };
 }
 
 /// The bytes of a secret, whose digits were checked before.
@@ -63,13 +73,17 @@ fn checked_book(alloc: Global, tables: PolicyTables) -> Result<Book, PolicyFault
 }
 
 /// The index of the tokens, where no realm reaches itself and each token has one owner.
-fn checked_tokens(alloc: Global, book: &Book) -> Result<NameIndex, PolicyFault>
-    requires { text_fault book.now ≡ None }
+fn checked_tokens(
+    alloc: Global,
+    book: &Book,
+    graph: &[Listed<usize>],
+) -> Result<NameIndex, PolicyFault>
+    requires texts { text_fault book.now ≡ None }
+    requires graph { graph.now ≡ graph_of book.now }
     ensures ok { IfOk result (λ tokens. IsSound book.now × IsIndexOf tokens (map (λ u. u.token) book.now.users)) }
     ensures err { IfErr result (λ f. f ≢ PolicyFault.Memory → IsTablesFault book.now f) }
 {
-    let graph = read_graph(alloc, book)?;
-    check_cycle(alloc, book, graph.as_slice())?;
+    check_cycle(alloc, book, graph)?;
     check_tokens(alloc, book.tables())
 }
 
@@ -79,12 +93,15 @@ fn policy_of(alloc: Global, tables: PolicyTables) -> Result<Policy, PolicyFault>
     ensures err { IfErr result (λ f. f ≢ PolicyFault.Memory → IsTablesFault tables f) }
 {
     let book = checked_book(alloc, tables)?;
-    let tokens = checked_tokens(alloc, &book)?;
+    let graph = read_graph(alloc, &book)?;
+    let tokens = checked_tokens(alloc, &book, graph.as_slice())?;
     let secret = read_secret(alloc, book.tables().secret.as_slice())?;
+    let rows = close_rows(alloc, &book, graph.as_slice())?;
     Ok(Policy {
         book,
         secret,
         tokens,
+        rows,
     })
 }
 
@@ -131,4 +148,85 @@ impl Policy {
     {
         self.secret.as_slice()
     }
+
+    /// Whether the caller has the permission in the realm: some realm that is this one, or that it reaches by `extends`, or that is
+    /// its project's `@root`, or that this one reaches, binds a role which holds the permission to the caller, or to a group that the
+    /// caller is in.
+    pub fn allows(&self, caller: CallerId, permission: Permission, realm: &Realm) -> bool
+        requires { caller < length self.now.users }
+        ensures { IsTrue result ↔ Allows self.now caller permission realm.now }
+    {
+        let mut room = [0u8; 106];
+        let len = write_root(&mut room, realm.as_slice());
+        let own = self.binds(realm.as_slice(), caller, permission);
+        let root = self.binds(&room[..len], caller, permission);
+        own || root
+    }
+
+    /// Whether a realm, or one that it reaches by `extends`, binds the caller.
+    fn binds(&self, name: &[u8], caller: CallerId, permission: Permission) -> bool
+        requires { caller < length self.now.users }
+        ensures { (result ≡ true) ↔ IsBoundByName self.now name.now caller permission }
+    {
+        match self.book.realm(name) {
+            Some(place) => permission.is_in(mask_at(
+                row_at(self.rows.as_slice(), place),
+                caller.place(),
+            )),
+            None => false,
+        }
+    }
+}
+
+/// The row of a place.
+fn row_at(rows: &[Listed<u16>], place: usize) -> &[u16]
+    ensures { result.now ≡ slice_index_or rows.now place [] }
+{
+    match rows.get(place) {
+        Some(row) => row.as_slice(),
+        None => &[],
+    }
+}
+
+/// The bits of a user.
+fn mask_at(row: &[u16], user: usize) -> u16
+    ensures { result ≡ slice_index_or row.now user 0 }
+{
+    match row.get(user) {
+        Some(mask) => *mask,
+        None => 0,
+    }
+}
+
+/// The first place of a colon.
+fn place_of_colon(text: &[u8]) -> Option<usize>
+    ensures place { result ≡ position (λ b. b == 58) text.now }
+    ensures within { IfSome result (λ place. place < length text.now) }
+{
+    text.iter().position(|b| *b == b':')
+}
+
+/// How long the project of a realm is.
+fn project_of(text: &[u8]) -> usize
+    ensures len { result ≡ project_len text.now }
+    ensures within { result ≤ length text.now }
+{
+    match place_of_colon(text) {
+        Some(place) => place,
+        None => text.len(),
+    }
+}
+
+/// Writes the name of the `@root` of a realm's project, and says how long it is.
+fn write_root(room: &mut [u8], realm: &[u8]) -> usize
+    requires room { length room.old ≡ 106 }
+    requires realm { IsRealm realm.now }
+    ensures within { result ≤ 106 }
+    ensures len { length room.new ≡ 106 }
+    ensures root { take result room.new ≡ root_of realm.now }
+{
+    let len = project_of(realm);
+    write_front(room, &realm[..len]);
+    write_front(&mut room[len..], b":@root");
+    len + 6
 }

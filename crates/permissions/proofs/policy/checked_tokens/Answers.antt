@@ -5,10 +5,10 @@ use Rattle.permissions.proofs.policy.checked_tokens.Goals as goal
 
 pub returns-in_err-check_cycle-clause-err : goal.returns-in_err-check_cycle-clause-err
 returns-in_err-check_cycle-clause-err c =
-    let p = err_from_is_err_and c.from_residual-in_err-check_cycle.result c.from_residual-in_err-check_cycle.ensures.1 in
-    rw (p.1, p.2) (λ n. let (name, least, is) = c.in_err-check_cycle.ensures.err n in rw is (cycle name c.requires least))
+    let p = err_from_is_err_and c.from_residual.result c.from_residual.ensures.1 in
+    rw (p.1, p.2) (λ n. let (name, least, is) = c.in_err-check_cycle.ensures.err n in rw is (cycle name c.requires.texts least))
 
 pub returns-clause-err : goal.returns-clause-err
 returns-clause-err c =
     MatchResult-weaker c.check_tokens.result c.check_tokens.ensures.fault (λ _ _. tt)
-    (λ y h n. owners y c.requires c.in_ok-check_cycle.ensures.ok (ap owners_fault (sym c.tables.ensures) ∙ h n))
+    (λ y h n. owners y c.requires.texts c.in_ok-check_cycle.ensures.ok (ap owners_fault (sym c.tables.ensures) ∙ h n))
