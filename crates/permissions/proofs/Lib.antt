@@ -1,4 +1,5 @@
 pub mod BitLemmas
+pub mod ClosingLemmas
 pub mod CycleLemmas
 pub mod FaultLemmas
 pub mod FormLemmas

@@ -166,7 +166,7 @@ itself_over_names t a p is w = some_walk (walk_over_names t a p (w.first ∷ w.o
       record { first = x; others = xs; walk = subst (λ (c : List ℕ). IsWalk t a (x ∷ xs) c) (same_place t b a p end is) walk }
 
 -- a place that is reached is that of its name
-last_edge : (graph : List (List ℕ)) (p : ℕ) (x : ℕ) (xs : List ℕ) (q : ℕ) → IsWalkOn graph p (x ∷ xs) q → (r : ℕ) × (has q (edges graph r) ≡ true)
+pub last_edge : (graph : List (List ℕ)) (p : ℕ) (x : ℕ) (xs : List ℕ) (q : ℕ) → IsWalkOn graph p (x ∷ xs) q → (r : ℕ) × (has q (edges graph r) ≡ true)
 last_edge graph p x [] q w = (p, subst (λ (s : ℕ). has s (edges graph p) ≡ true) w.1 w.0)
 last_edge graph p x (y ∷ ys) q w = last_edge graph x y ys q w.1
 

@@ -22,7 +22,7 @@ or_false : (b : Bool) → b ≡ (b || false)
 or_false true = refl
 or_false false = refl
 
-differ : (a b : ℕ) → (a == b) ≡ false → a ≡ b → ⊥
+pub differ : (a b : ℕ) → (a == b) ≡ false → a ≡ b → ⊥
 differ a b e h = let yes_it_is : (a == b) ≡ true = eq-eqb a b h in let no : false ≡ true = sym e ∙ yes_it_is in cc
 
 -- a row after a grant
@@ -44,7 +44,7 @@ grant_bits row user mask u p within =
     ]
 
 -- an element with a property, and the other way round
-any_has : (f : ℕ → Bool) (xs : List ℕ) → list_any f xs ≡ true → (q : ℕ) × (has q xs ≡ true) × (f q ≡ true)
+pub any_has : (f : ℕ → Bool) (xs : List ℕ) → list_any f xs ≡ true → (q : ℕ) × (has q xs ≡ true) × (f q ≡ true)
 any_has f [] e = let no : false ≡ true = e in cc
 any_has f (x ∷ xs) e = elim (cases_Bool (f x)) [
   | inl h ↦ (x, ap (λ b. b || has x xs) (eq-eqb x x refl), h)
@@ -56,7 +56,7 @@ any_has f (x ∷ xs) e = elim (cases_Bool (f x)) [
   or_right true b e = refl
   or_right false b e = e
 
-has_any : (f : ℕ → Bool) (xs : List ℕ) (q : ℕ) → has q xs ≡ true → f q ≡ true → list_any f xs ≡ true
+pub has_any : (f : ℕ → Bool) (xs : List ℕ) (q : ℕ) → has q xs ≡ true → f q ≡ true → list_any f xs ≡ true
 has_any f [] q e h = let no : false ≡ true = e in cc
 has_any f (x ∷ xs) q e h = elim (cases_Bool (x == q)) [
   | inl is ↦ ap (λ b. b || list_any f xs) (ap f (eqb-true x q is) ∙ h)

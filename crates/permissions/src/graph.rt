@@ -6,7 +6,7 @@ use crate::listed::Listed;
 use std::alloc::{AllocError, Global};
 
 /// The places that a place leads to.
-fn edges_of(graph: &[Listed<usize>], place: usize) -> &[usize]
+pub(crate) fn edges_of(graph: &[Listed<usize>], place: usize) -> &[usize]
     ensures { result.now ≡ edges graph.now place }
 {
     match graph.get(place) {

@@ -4,6 +4,7 @@
 mod book;
 mod caller;
 mod check;
+mod closing;
 mod cycle;
 mod entries;
 mod faults;
@@ -13,6 +14,7 @@ mod graph;
 mod hash;
 mod index;
 mod listed;
+mod order;
 mod permission;
 mod policy;
 mod read;

@@ -5,7 +5,8 @@ ghost use Rattle.hex.specs.Hex.{decode_of};
 ghost use Rattle.toml.specs.View.{table_view};
 ghost use Rattle.permissions.specs.Checks.{user_names};
 ghost use Rattle.permissions.specs.Allows.{Allows, root_of};
-ghost use Rattle.permissions.specs.Grants.{has_bit, IsBoundByName};
+ghost use Rattle.permissions.specs.Cycle.{HasNoCycle};
+ghost use Rattle.permissions.specs.Grants.{has_bit, AreRows, IsBoundByName};
 ghost use Rattle.permissions.specs.Reach.{graph_of};
 ghost use Rattle.names_realms.specs.Realms.{IsRealm, project_len};
 ghost use Rattle.permissions.specs.Faults.{most_bytes, IsToml, IsFirstFault, IsTablesFault, IsPolicyOf, IsSound, text_fault};
@@ -19,10 +20,8 @@ use crate::index::NameIndex;
 use crate::listed::Listed;
 use crate::permission::Permission;
 use crate::realms::read_graph;
-use crate::rows::close_rows;
-use crate::stages::{
-    check_cycle, check_entries, check_size, check_texts, check_tokens, read_shaped, read_toml,
-};
+use crate::rows::{close_rows, mask_at, row_at};
+use crate::stages::{check_entries, check_size, check_texts, check_tokens, read_shaped, read_toml};
 use crate::tables::PolicyTables;
 use names_realms::{Bytes, Realm};
 use std::alloc::Global;
@@ -72,18 +71,23 @@ fn checked_book(alloc: Global, tables: PolicyTables) -> Result<Book, PolicyFault
     Ok(book)
 }
 
-/// The index of the tokens, where no realm reaches itself and each token has one owner.
-fn checked_tokens(
-    alloc: Global,
-    book: &Book,
-    graph: &[Listed<usize>],
-) -> Result<NameIndex, PolicyFault>
+/// What each user may do from each realm, where no realm reaches itself.
+fn checked_rows(alloc: Global, book: &Book) -> Result<Vec<Listed<u16>>, PolicyFault>
+    requires { text_fault book.now ≡ None }
+    ensures ok { IfOk result (λ rows. HasNoCycle book.now × AreRows book.now rows.items) }
+    ensures err { IfErr result (λ f. f ≢ PolicyFault.Memory → IsTablesFault book.now f) }
+{
+    let graph = read_graph(alloc, book)?;
+    close_rows(alloc, book, graph.as_slice())
+}
+
+/// The index of the tokens, where each has one owner.
+fn checked_tokens(alloc: Global, book: &Book) -> Result<NameIndex, PolicyFault>
     requires texts { text_fault book.now ≡ None }
-    requires graph { graph.now ≡ graph_of book.now }
+    requires no_cycle { HasNoCycle book.now }
     ensures ok { IfOk result (λ tokens. IsSound book.now × IsIndexOf tokens (map (λ u. u.token) book.now.users)) }
     ensures err { IfErr result (λ f. f ≢ PolicyFault.Memory → IsTablesFault book.now f) }
 {
-    check_cycle(alloc, book, graph)?;
     check_tokens(alloc, book.tables())
 }
 
@@ -93,10 +97,9 @@ fn policy_of(alloc: Global, tables: PolicyTables) -> Result<Policy, PolicyFault>
     ensures err { IfErr result (λ f. f ≢ PolicyFault.Memory → IsTablesFault tables f) }
 {
     let book = checked_book(alloc, tables)?;
-    let graph = read_graph(alloc, &book)?;
-    let tokens = checked_tokens(alloc, &book, graph.as_slice())?;
+    let rows = checked_rows(alloc, &book)?;
+    let tokens = checked_tokens(alloc, &book)?;
     let secret = read_secret(alloc, book.tables().secret.as_slice())?;
-    let rows = close_rows(alloc, &book, graph.as_slice())?;
     Ok(Policy {
         book,
         secret,
@@ -175,26 +178,6 @@ impl Policy {
             )),
             None => false,
         }
-    }
-}
-
-/// The row of a place.
-fn row_at(rows: &[Listed<u16>], place: usize) -> &[u16]
-    ensures { result.now ≡ slice_index_or rows.now place [] }
-{
-    match rows.get(place) {
-        Some(row) => row.as_slice(),
-        None => &[],
-    }
-}
-
-/// The bits of a user.
-fn mask_at(row: &[u16], user: usize) -> u16
-    ensures { result ≡ slice_index_or row.now user 0 }
-{
-    match row.get(user) {
-        Some(mask) => *mask,
-        None => 0,
     }
 }
 

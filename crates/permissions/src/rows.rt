@@ -1,15 +1,20 @@
 //! Each user's permissions from each realm, closed over what the realm reaches.
-ghost use Rattle.std.specs.Prelude.{◌≡◌, ◌↔◌, ◌<◌, ◌||◌, ◌&&◌, ◌==◌, ℕ, true, List, [], IfOk, OnOk, length, slice_index_or};
+ghost use Rattle.std.specs.Prelude.{◌≡◌, ◌↔◌, ◌<◌, ◌||◌, ◌&&◌, ◌==◌, ℕ, true, List, [], ◌≢◌, IfOk, IfErr, IfSome, OnOk, length, slice_index_or};
 ghost use Rattle.std.specs.List.{list_any};
 ghost use Rattle.permissions.specs.declared.permission.Permission.{Permission as PermissionOf};
+ghost use Rattle.permissions.specs.Cycle.{HasNoCycle, IsLeastCycle};
 ghost use Rattle.permissions.specs.Graph.{IsGraph};
 ghost use Rattle.permissions.specs.Grants.{has_bit, granted, grants_at, AreGrants, IsGrantedFrom, IsGrantedRow, AreGrantedRows, AreRows};
 ghost use Rattle.permissions.specs.Reach.{graph_of};
 
+use crate::PolicyFault;
 use crate::book::Book;
+use crate::closing::close_in_order;
 use crate::grants::{Grant, grants_of};
 use crate::graph::reached_from;
 use crate::listed::Listed;
+use crate::order::order_of;
+use crate::stages::check_cycle;
 use crate::tables::RealmTable;
 use std::alloc::{AllocError, Global};
 
@@ -24,7 +29,7 @@ fn add_grant(row: &mut [u16], grant: Grant)
 }
 
 /// Gives each user what the grants give.
-fn add_grants(row: &mut [u16], grants: &[Grant])
+pub(crate) fn add_grants(row: &mut [u16], grants: &[Grant])
     ensures len { length row.new ≡ length row.old }
     ensures bits { (u : ℕ) (p : PermissionOf) → u < length row.old → has_bit (slice_index_or row.new u 0) p ≡ (has_bit (slice_index_or row.old u 0) p || granted u p grants.now) }
 {
@@ -34,7 +39,7 @@ fn add_grants(row: &mut [u16], grants: &[Grant])
 }
 
 /// The grants of a place.
-fn grants_of_place(grants: &[Listed<Grant>], place: usize) -> &[Grant]
+pub(crate) fn grants_of_place(grants: &[Listed<Grant>], place: usize) -> &[Grant]
     ensures { result.now ≡ grants_at grants.now place }
 {
     match grants.get(place) {
@@ -97,7 +102,7 @@ fn rows_from(
 }
 
 /// What each realm's own bindings grant.
-fn all_grants(
+pub(crate) fn all_grants(
     alloc: Global,
     book: &Book,
     realms: &[RealmTable],
@@ -111,21 +116,87 @@ fn all_grants(
     Ok(grants)
 }
 
-/// Each user's permissions from each realm.
+/// Each user's permissions from each realm, made in an order that puts each realm behind those that it extends. None where the order
+/// doesn't, which is where a realm reaches itself.
+fn rows_in_order(
+    alloc: Global,
+    book: &Book,
+    grants: &[Listed<Grant>],
+    graph: &[Listed<usize>],
+) -> Result<Option<Vec<Listed<u16>>>, AllocError>
+    requires graph { graph.now ≡ graph_of book.now }
+    requires grants { AreGrants book.now book.now.realms (length book.now.realms) grants.now }
+    ensures { IfOk result (λ found. IfSome found (λ rows. HasNoCycle book.now × AreRows book.now rows.items)) }
+{
+    let order = order_of(alloc, graph)?;
+    let tables = book.tables();
+    close_in_order(
+        alloc,
+        tables.users.as_slice().len(),
+        grants,
+        graph,
+        order.as_slice(),
+    )
+}
+
+/// Each user's permissions from each realm, each made on its own.
+fn rows_on_their_own(
+    alloc: Global,
+    book: &Book,
+    grants: &[Listed<Grant>],
+    graph: &[Listed<usize>],
+) -> Result<Vec<Listed<u16>>, AllocError>
+    requires graph { graph.now ≡ graph_of book.now }
+    requires grants { AreGrants book.now book.now.realms (length book.now.realms) grants.now }
+    ensures { IfOk result (λ rows. AreRows book.now rows.items) }
+{
+    let tables = book.tables();
+    rows_from(alloc, tables.users.as_slice().len(), grants, graph)
+}
+
+/// What each realm's own bindings grant, by the realms' places.
+fn own_grants(alloc: Global, book: &Book) -> Result<Vec<Listed<Grant>>, AllocError>
+    ensures { IfOk result (λ grants. AreGrants book.now book.now.realms (length book.now.realms) grants.items) }
+{
+    let tables = book.tables();
+    all_grants(alloc, book, tables.realms.as_slice())
+}
+
+/// Each user's permissions from each realm, where no realm reaches itself.
 pub(crate) fn close_rows(
     alloc: Global,
     book: &Book,
     graph: &[Listed<usize>],
-) -> Result<Vec<Listed<u16>>, AllocError>
+) -> Result<Vec<Listed<u16>>, PolicyFault>
     requires { graph.now ≡ graph_of book.now }
-    ensures { IfOk result (λ rows. AreRows book.now rows.items) }
+    ensures ok { IfOk result (λ rows. HasNoCycle book.now × AreRows book.now rows.items) }
+    ensures err { IfErr result (λ f. f ≢ PolicyFault.Memory → (name : List ℕ) × IsLeastCycle book.now name × (f ≡ PolicyFault.RealmCycle name)) }
 {
-    let tables = book.tables();
-    let grants = all_grants(alloc, book, tables.realms.as_slice())?;
-    rows_from(
-        alloc,
-        tables.users.as_slice().len(),
-        grants.as_slice(),
-        graph,
-    )
+    let grants = own_grants(alloc, book)?;
+    if let Some(rows) = rows_in_order(alloc, book, grants.as_slice(), graph)? {
+        return Ok(rows);
+    }
+    check_cycle(alloc, book, graph)?;
+    let rows = rows_on_their_own(alloc, book, grants.as_slice(), graph)?;
+    Ok(rows)
+}
+
+/// The row of a place.
+pub(crate) fn row_at(rows: &[Listed<u16>], place: usize) -> &[u16]
+    ensures { result.now ≡ slice_index_or rows.now place [] }
+{
+    match rows.get(place) {
+        Some(row) => row.as_slice(),
+        None => &[],
+    }
+}
+
+/// The bits of a user.
+pub(crate) fn mask_at(row: &[u16], user: usize) -> u16
+    ensures { result ≡ slice_index_or row.now user 0 }
+{
+    match row.get(user) {
+        Some(mask) => *mask,
+        None => 0,
+    }
 }

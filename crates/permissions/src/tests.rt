@@ -1,7 +1,7 @@
 //! Vectors from outside: RFC 4231, and a token computed by another program.
-use crate::{Policy, PolicyFault, hmac_sha256, token_is, update_token};
-use names_realms::InvocationId;
-use std::alloc::Global;
+use crate::{Permission, Policy, PolicyFault, hmac_sha256, token_is, update_token};
+use names_realms::{InvocationId, Realm};
+use std::alloc::{AllocError, Global};
 use std::process::Abort;
 use std::test::Fail;
 
@@ -200,15 +200,168 @@ fn each_fault_is_named(rt: HostRuntime) -> Result<(), Fail> {
     Ok(())
 }
 
+/// A policy that is read.
+fn read(rt: &(impl Abort + Alloc<A = Global>), text: &str) -> Policy {
+    match Policy::from_toml(rt.alloc(), text.as_bytes()) {
+        Ok(policy) => policy,
+        Err(fault) => panic!(rt; "refused: {}", fault.name()),
+    }
+}
+
+/// The letters of the permissions that the owner of a token has in a realm, in the order of the table.
+fn rights(
+    rt: &(impl Abort + Alloc<A = Global>),
+    policy: &Policy,
+    token: &str,
+    realm: &str,
+) -> [u8; 12] {
+    let mut out = [b'-'; 12];
+    let Ok(realm) = Realm::parse(rt.alloc(), realm.as_bytes()) else {
+        panic!(rt; "no realm");
+    };
+    let Some(caller) = policy.caller_of(token.as_bytes()) else {
+        panic!(rt; "no caller");
+    };
+    for (i, text) in TEXTS.iter().enumerate() {
+        let Some(permission) = Permission::from_text(text.as_bytes()) else {
+            panic!(rt; "no permission");
+        };
+        if i < 12 && policy.allows(caller, permission, &realm) {
+            out[i] = b'x';
+        }
+    }
+    out
+}
+
+const TEXTS: [&str; 12] = [
+    "resultdb.invocations.create",
+    "resultdb.invocations.createWithReservedID",
+    "resultdb.invocations.get",
+    "resultdb.invocations.include",
+    "resultdb.testResults.get",
+    "resultdb.testResults.list",
+    "resultdb.testResults.listLimited",
+    "resultdb.testExonerations.get",
+    "resultdb.testExonerations.list",
+    "resultdb.testExonerations.listLimited",
+    "resultdb.artifacts.get",
+    "resultdb.artifacts.list",
+];
+
 #[test]
 fn a_sample_is_read(rt: HostRuntime) -> Result<(), Fail> {
-    let policy = match Policy::from_toml(rt.alloc(), SAMPLE.as_bytes()) {
-        Ok(policy) => policy,
-        Err(fault) => panic!(&rt; "refused: {}", fault.name()),
-    };
+    let policy = read(&rt, SAMPLE);
     assert_eq!(rt; policy.secret(), [0x0b; 20].as_slice());
     assert!(rt; policy.caller_of(b"tok-e").is_none());
     let bob = policy.caller_of(b"tok-b").ok_or("bob")?;
     assert_eq!(rt; policy.name_of(bob), b"bob".as_slice());
+    for (token, realm, wanted) in [
+        ("tok-a", "proj:@root", b"x-xxxx-xx-xx"),
+        ("tok-a", "proj:ci", b"x-xxxx-xx-xx"),
+        ("tok-a", "proj:none", b"x-xxxx-xx-xx"),
+        ("tok-a", "other:ci", b"------------"),
+        ("tok-b", "proj:@root", b"------------"),
+        ("tok-b", "proj:ci", b"--x-xx-xx-xx"),
+        ("tok-b", "proj:priv", b"--x---x--x--"),
+        ("tok-c", "proj:ci", b"--x---x--x--"),
+        ("tok-c", "proj:priv", b"------------"),
+        ("tok-d", "proj:priv", b"xxxxxx-xx-xx"),
+    ] {
+        assert_eq!(rt;
+            rights(&rt, &policy, token, realm).as_slice(),
+            wanted.as_slice(),
+            "{token} in {realm}"
+        );
+    }
+    Ok(())
+}
+
+const EXTENDING: &str = "secret = \"0B\"
+[user.a]
+token = \"a\"
+[role.r]
+permissions = [\"resultdb.artifacts.get\"]
+[role.s]
+permissions = [\"resultdb.artifacts.list\"]
+[realm.\"p:a\"]
+extends = [\"p:b\"]
+[realm.\"p:b\"]
+extends = [\"q:c\"]
+[realm.\"p:@root\"]
+extends = [\"p:a\"]
+[realm.\"q:c\"]
+bindings = [{ role = \"r\", principals = [\"user:a\"] }]
+[realm.\"q:@root\"]
+bindings = [{ role = \"s\", principals = [\"user:a\"] }]
+";
+
+#[test]
+fn what_is_extended_is_asked(rt: HostRuntime) -> Result<(), Fail> {
+    let policy = read(&rt, EXTENDING);
+    for (realm, wanted) in [
+        ("p:a", b"----------x-"),
+        ("p:@root", b"----------x-"),
+        ("p:none", b"----------x-"),
+        ("q:none", b"-----------x"),
+        ("q:c", b"----------xx"),
+        ("z:a", b"------------"),
+    ] {
+        assert_eq!(rt;
+            rights(&rt, &policy, "a", realm).as_slice(),
+            wanted.as_slice(),
+            "in {realm}"
+        );
+    }
+    Ok(())
+}
+
+/// A chain of realms by `extends`, with a binding each.
+fn chain(alloc: Global, realms: usize) -> Result<String, AllocError> {
+    let mut text = String::from_str(
+        alloc,
+        "secret = \"0b\"\n[user.a]\ntoken = \"a\"\n[role.r]\npermissions = [\"resultdb.artifacts.get\"]\n",
+    )?;
+    for i in 0..realms {
+        let name = format!(in alloc;
+            "[realm.\"p:{i:05}\"]\nbindings = [{{ role = \"r\", principals = [\"user:a\"] }}]\n"
+        )?;
+        text.push_str(name.as_str())?;
+        if i > 0 {
+            let before = i - 1;
+            let line = format!(in alloc; "extends = [\"p:{before:05}\"]\n")?;
+            text.push_str(line.as_str())?;
+        }
+    }
+    Ok(text)
+}
+
+#[test]
+fn a_long_chain_is_read(rt: HostRuntime) -> Result<(), Fail> {
+    let text = chain(rt.alloc(), 30_000)?;
+    let policy = read(&rt, text.as_str());
+    assert_eq!(rt;
+        rights(&rt, &policy, "a", "p:29999").as_slice(),
+        b"----------x-".as_slice()
+    );
+    Ok(())
+}
+
+#[test]
+fn bounds_are_looked_at(rt: HostRuntime) -> Result<(), Fail> {
+    let alloc = rt.alloc();
+    let blanks = vec![in alloc; b' '; 4_194_305]?;
+    match Policy::from_toml(rt.alloc(), blanks.as_slice()) {
+        Err(PolicyFault::TooMany { count }) => assert_eq!(rt; count, 4_194_305),
+        _ => panic!(&rt; "read"),
+    }
+    let mut text = String::from_str(alloc, "secret = \"0b\"\n[realm.p]\nbindings = [")?;
+    for _ in 0..65_536 {
+        text.push_str("{role=\"\",principals=[]},")?;
+    }
+    text.push_str("]\n")?;
+    match Policy::from_toml(rt.alloc(), text.as_bytes()) {
+        Err(PolicyFault::TooMany { count }) => assert_eq!(rt; count, 65_537),
+        _ => panic!(&rt; "read"),
+    }
     Ok(())
 }
