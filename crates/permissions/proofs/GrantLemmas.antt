@@ -1,0 +1,79 @@
+-- Bits of permissions, and what stands at the place of a name.
+use Rattle.std.proofs.Common.{◌≡◌, ℕ, zero, suc, ◌+◌, ◌<◌, ◌≤◌, ◌^◌, ◌/◌, max, bit_and, Bool, true, false, cond, ◌||◌, ◌&&◌, List, [], ◌∷◌, length, map, get_or, bit_or, Option, Some, None, option_map, refl, sym, ap, subst, ◌∙◌, inl, inr, arith, eq-eqb}
+use Rattle.std.specs.Prelude.{◌==◌, ◌⊎◌, ◌≢◌}
+use Rattle.std.specs.Int.{bit_at}
+use Rattle.std.specs.List.{list_any}
+use Rattle.std.specs.Str.{bytes_eq}
+use Rattle.std.proofs.lemmas.Bool.{cases_Bool, eqb-true}
+use Rattle.std.proofs.lemmas.Bool.Decides.{nat_tests}
+use Rattle.std.proofs.lemmas.Nat.Bits.{bit_at_or, bit_at-lt, bit_at-zero, bit_at-pow_same, bit_at-pow_other, shr_and_one}
+use Rattle.permissions.specs.declared.permission.Permission.{Permission}
+use Rattle.permissions.specs.declared.tables.Group.{Group}
+use Rattle.permissions.specs.declared.tables.Role.{Role}
+use Rattle.permissions.specs.declared.tables.RealmTable.{RealmTable}
+use Rattle.permissions.specs.Allows.{role_at, group_at}
+use Rattle.permissions.specs.Grants.{has_bit, bindings_at}
+use Rattle.permissions.specs.Index.{place_of}
+use Rattle.permissions.specs.Permissions.{permission_number}
+use Rattle.permissions.specs.Places.{role_texts_at, members_at_place}
+use Rattle.permissions.specs.Reach.{realm_at}
+use Rattle.permissions.proofs.IndexLemmas.{not_there}
+use Rattle.permissions.proofs.ReachLemmas.{place_step}
+
+pub has_bit-zero : (p : Permission) → has_bit 0 p ≡ false
+unfolding has_bit
+has_bit-zero p = ap (λ b. b == 1) (bit_at-zero (permission_number p))
+
+or_tests : (x y : ℕ) → x < 2 → y < 2 → (max x y == 1) ≡ ((x == 1) || (y == 1))
+or_tests x y a b = grind (arith, nat_tests)
+
+pub has_bit-or : (a b : ℕ) (p : Permission) → has_bit (bit_or a b) p ≡ (has_bit a p || has_bit b p)
+unfolding has_bit
+has_bit-or a b p = ap (λ n. n == 1) (bit_at_or a b (permission_number p)) ∙ or_tests _ _ (bit_at-lt a (permission_number p)) (bit_at-lt b (permission_number p))
+
+false_if_not : (a b : ℕ) → (a == b) ≡ false → b ≢ a
+false_if_not a b e h = let yes_it_is : (a == b) ≡ true = eq-eqb a b (sym h) in let no : false ≡ true = sym e ∙ yes_it_is in cc
+
+one_bit : (k i : ℕ) → (bit_at (2 ^ k) i == 1) ≡ (k == i)
+one_bit k i = elim (cases_Bool (k == i)) [
+  | inl e ↦ ap (λ n. n == 1) (ap (bit_at (2 ^ k)) (sym (eqb-true k i e)) ∙ bit_at-pow_same k) ∙ sym e
+  | inr e ↦ ap (λ n. n == 1) (bit_at-pow_other k i (false_if_not k i e)) ∙ sym e
+]
+
+pub has_bit-pow : (q p : Permission) → has_bit (2 ^ permission_number q) p ≡ (permission_number q == permission_number p)
+unfolding has_bit
+has_bit-pow q p = one_bit (permission_number q) (permission_number p)
+
+-- what stands at the place of a name is that of the name
+pub role_place : (name : List ℕ) (roles : List Role) (p : ℕ) → place_of name (map (λ r. r.name) roles) ≡ Some p → role_texts_at roles p ≡ (role_at name roles).permissions
+role_place name [] p e = let no : None ≡ Some p = e in cc
+role_place name (r ∷ rs) p e = elim (place_step (bytes_eq name r.name) (place_of name (map (λ r. r.name) rs)) p e) [
+  | inl h ↦ ap (λ (i : ℕ). role_texts_at (r ∷ rs) i) h.1 ∙ rw h.0
+  | inr h ↦ let (q, is, next) = h.1 in ap (λ (i : ℕ). role_texts_at (r ∷ rs) i) next ∙ role_place name rs q is ∙ rw h.0
+]
+
+pub role_none : (name : List ℕ) (roles : List Role) → place_of name (map (λ r. r.name) roles) ≡ None → [] ≡ (role_at name roles).permissions
+role_none name [] e = refl
+role_none name (r ∷ rs) e = let none = not_there (bytes_eq name r.name) (place_of name (map (λ r. r.name) rs)) e in rw none.0 (role_none name rs none.1)
+
+pub group_place : (name : List ℕ) (groups : List Group) (p : ℕ) → place_of name (map (λ g. g.name) groups) ≡ Some p → members_at_place groups p ≡ (group_at name groups).members
+group_place name [] p e = let no : None ≡ Some p = e in cc
+group_place name (r ∷ rs) p e = elim (place_step (bytes_eq name r.name) (place_of name (map (λ g. g.name) rs)) p e) [
+  | inl h ↦ ap (λ (i : ℕ). members_at_place (r ∷ rs) i) h.1 ∙ rw h.0
+  | inr h ↦ let (q, is, next) = h.1 in ap (λ (i : ℕ). members_at_place (r ∷ rs) i) next ∙ group_place name rs q is ∙ rw h.0
+]
+
+pub group_none : (name : List ℕ) (groups : List Group) → place_of name (map (λ g. g.name) groups) ≡ None → [] ≡ (group_at name groups).members
+group_none name [] e = refl
+group_none name (r ∷ rs) e = let none = not_there (bytes_eq name r.name) (place_of name (map (λ g. g.name) rs)) e in rw none.0 (group_none name rs none.1)
+
+pub realm_place : (name : List ℕ) (realms : List RealmTable) (p : ℕ) → place_of name (map (λ r. r.name) realms) ≡ Some p → bindings_at realms p ≡ (realm_at name realms).bindings
+realm_place name [] p e = let no : None ≡ Some p = e in cc
+realm_place name (r ∷ rs) p e = elim (place_step (bytes_eq name r.name) (place_of name (map (λ r. r.name) rs)) p e) [
+  | inl h ↦ ap (λ (i : ℕ). bindings_at (r ∷ rs) i) h.1 ∙ rw h.0
+  | inr h ↦ let (q, is, next) = h.1 in ap (λ (i : ℕ). bindings_at (r ∷ rs) i) next ∙ realm_place name rs q is ∙ rw h.0
+]
+
+-- the lowest bit after a shift
+pub shifted_bit : (n i k : ℕ) → k ≡ i → (bit_and (n / 2 ^ k) 1 == 1) ≡ (bit_at n i == 1)
+shifted_bit n i k e = ap (λ b. b == 1) (shr_and_one n k ∙ ap (bit_at n) e)

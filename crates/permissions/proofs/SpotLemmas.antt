@@ -1,0 +1,17 @@
+-- What the checks note is the least of what fails.
+use Rattle.std.proofs.Common.{◌≡◌, ℕ, Bool, true, false, cond, List, [], ◌∷◌, Option, Some, None, refl, ap, ◌∙◌, inl, inr}
+use Rattle.std.specs.Prelude.{fold}
+use Rattle.std.proofs.lemmas.Bool.{cases_Bool}
+use Rattle.permissions.specs.declared.findings.Finding.{Finding}
+use Rattle.permissions.specs.declared.tables.PolicyTables.{PolicyTables}
+use Rattle.permissions.specs.declared.texts.Check.{Check}
+use Rattle.permissions.specs.Findings.{lesser, least_with, least_of}
+use Rattle.permissions.specs.Checks.{is_faulty}
+use Rattle.permissions.specs.Spots.{Spot, failing, with_spots}
+
+pub with_spots-failing : (t : PolicyTables) (check : Check) (least : Option Finding) (spots : List Spot) → with_spots t check least spots ≡ least_with least (failing t check spots)
+with_spots-failing t check least [] = refl
+with_spots-failing t check least (s ∷ ss) = elim (cases_Bool (is_faulty t check s.kind s.found.text)) [
+  | inl e ↦ rw e (with_spots-failing t check (lesser least s.found) ss)
+  | inr e ↦ rw e (with_spots-failing t check least ss)
+]

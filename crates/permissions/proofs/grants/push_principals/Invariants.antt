@@ -1,0 +1,9 @@
+use Rattle.std.proofs.Common.{◌≡◌, ℕ, ◌||◌, ◌&&◌, take}
+use Rattle.std.specs.List.{list_any}
+use Rattle.permissions.specs.declared.permission.Permission.{Permission}
+use Rattle.permissions.specs.Allows.{gives}
+use Rattle.permissions.specs.Grants.{has_bit, granted}
+use Rattle.permissions.proofs.grants.push_principals.Given as goal
+
+abbrev pub invariant-loop-text : goal.invariant-loop-text
+invariant-loop-text l = (u : ℕ) (p : Permission) → granted u p l.grants.items ≡ (granted u p l.initial.grants.items || (list_any (gives l.book u) (take l.text-index l.texts) && has_bit l.mask p))

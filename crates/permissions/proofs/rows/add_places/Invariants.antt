@@ -1,0 +1,11 @@
+use Rattle.std.proofs.Common.{◌≡◌, ℕ, ◌<◌, ◌||◌, length, take, get_or}
+use Rattle.std.specs.List.{list_any}
+use Rattle.permissions.specs.declared.permission.Permission.{Permission}
+use Rattle.permissions.specs.Grants.{has_bit, granted, grants_at}
+use Rattle.permissions.proofs.rows.add_places.Given as goal
+
+abbrev pub invariant-loop-place : goal.invariant-loop-place
+invariant-loop-place l = record {
+  len : length l.row ≡ length l.initial.row;
+  bits : (u : ℕ) (p : Permission) → u < length l.initial.row → has_bit (get_or l.row u 0) p ≡ (has_bit (get_or l.initial.row u 0) p || list_any (λ q. granted u p (grants_at l.grants q)) (take l.place-index l.places));
+}

@@ -1,0 +1,12 @@
+use Rattle.std.proofs.Common.{◌≡◌, [], map, take, drop}
+use Rattle.permissions.specs.Findings.{least_with}
+use Rattle.permissions.specs.Index.{IsIndexOf}
+use Rattle.permissions.specs.Faults.{repeated}
+use Rattle.permissions.proofs.stages.index_tokens.Given as goal
+
+-- the tokens so far are indexed, and what is noted, with what is to come, is that of all users
+abbrev pub invariant-loop-place : goal.invariant-loop-place
+invariant-loop-place l = record {
+  index : IsIndexOf l.index (map (λ u. u.token) (take l.place l.users));
+  least : least_with l.least (repeated (map (λ u. u.token) (take l.place l.users)) (drop l.place l.users)) ≡ least_with l.initial.least (repeated [] l.users);
+}

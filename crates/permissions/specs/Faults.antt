@@ -1,0 +1,121 @@
+-- The faults of a configuration, in the order in which they are looked for.
+use Rattle.std.specs.Prelude.{◌≡◌, ◌≢◌, ◌<◌, ◌≤◌, ℕ, ◌+◌, ◌-◌, ◌^◌, min, List, [], ◌∷◌, ◌++◌, length, sum_by, Option, Some, None, option_map, IsUtf8, codes, nat_lt, if◌then◌else◌, Result, MatchResult}
+use Rattle.std.specs.Option.{option_or}
+use Rattle.toml.specs.Data.{Members}
+use Rattle.toml.specs.Parse.{parse_document}
+use Rattle.permissions.specs.declared.findings.Finding.{Finding}
+use Rattle.permissions.specs.declared.faults.PolicyFault.{PolicyFault}
+use Rattle.permissions.specs.declared.faults.PolicyFault.TheVariants.{NotToml, BadName, UnknownRole, UnknownRealm, RealmCycle, TwoOwners, TooMany, BadShape, UnknownPrincipal, Memory}
+use Rattle.permissions.specs.declared.tables.User.{User}
+use Rattle.permissions.specs.declared.tables.PolicyTables.{PolicyTables}
+use Rattle.permissions.specs.declared.texts.Check.{Check}
+use Rattle.permissions.specs.declared.texts.Check.TheVariants.{Form, Roles, Realms, Principals}
+use Rattle.permissions.specs.Findings.{at, least_of}
+use Rattle.permissions.specs.Document.{shape_findings, tables_of}
+use Rattle.permissions.specs.Checks.{is_there}
+use Rattle.permissions.specs.Spots.{failing, all_spots}
+use Rattle.permissions.specs.Cycle.{HasNoCycle, IsLeastCycle}
+
+abbrev pub fault_number : PolicyFault → ℕ
+fault_number NotToml = 1
+fault_number (BadName at) = 2
+fault_number (UnknownRole name) = 3
+fault_number (UnknownRealm name) = 4
+fault_number (RealmCycle name) = 5
+fault_number (TwoOwners token) = 6
+fault_number (TooMany count) = 7
+fault_number (BadShape at) = 8
+fault_number (UnknownPrincipal name) = 9
+fault_number Memory = 0
+
+abbrev pub fault_name : PolicyFault → List ℕ
+fault_name NotToml = codes "NotToml"
+fault_name (BadName at) = codes "BadName"
+fault_name (UnknownRole name) = codes "UnknownRole"
+fault_name (UnknownRealm name) = codes "UnknownRealm"
+fault_name (RealmCycle name) = codes "RealmCycle"
+fault_name (TwoOwners token) = codes "TwoOwners"
+fault_name (TooMany count) = codes "TooMany"
+fault_name (BadShape at) = codes "BadShape"
+fault_name (UnknownPrincipal name) = codes "UnknownPrincipal"
+fault_name Memory = codes "Memory"
+
+-- 4 MiB
+abbrev pub most_bytes : ℕ
+most_bytes = 4194304
+
+abbrev pub most_entries : ℕ
+most_entries = 65536
+
+-- the text is a TOML document with these members
+abbrev pub IsToml : List ℕ → Members → Type 0
+IsToml text t = IsUtf8 text × (parse_document text ≡ Some t)
+
+-- the least path that isn't of the document's shape
+unfoldable pub shape_fault : Members → Option PolicyFault
+shape_fault t = option_map (λ f. BadShape f.path) (least_of (shape_findings t))
+
+-- the entries of the four tables, and all bindings, up to the greatest number that a count holds
+abbrev pub capped : ℕ → ℕ
+capped n = min n (2 ^ 64 - 1)
+
+abbrev pub entries : PolicyTables → ℕ
+entries t = capped (length t.users + length t.groups + length t.roles + length t.realms + sum_by (λ r. length r.bindings) t.realms)
+
+abbrev pub entries_fault : PolicyTables → Option PolicyFault
+entries_fault t = if nat_lt most_entries (entries t) then Some (TooMany (entries t)) else None
+
+-- what a check says of its least finding
+abbrev pub check_fault : Check → Finding → PolicyFault
+check_fault Form f = BadName f.path
+check_fault Roles f = UnknownRole f.text
+check_fault Realms f = UnknownRealm f.text
+check_fault Principals f = UnknownPrincipal f.text
+
+unfoldable pub checked : PolicyTables → Check → Option PolicyFault
+checked t check = option_map (check_fault check) (least_of (failing t check (all_spots t)))
+
+-- the first fault in the tables' texts: their number, their forms, then the names that aren't there
+abbrev pub text_fault : PolicyTables → Option PolicyFault
+text_fault t = option_or (entries_fault t) (option_or (checked t Form) (option_or (checked t Roles) (option_or (checked t Realms) (checked t Principals))))
+
+-- each token that a user before has too, where users before have these
+abbrev pub repeated : List (List ℕ) → List User → List Finding
+repeated seen [] = []
+repeated seen (u ∷ us) = (if is_there u.token seen then at u.token ∷ [] else []) ++ repeated (seen ++ u.token ∷ []) us
+
+-- the least token that two users have
+unfoldable pub owners_fault : PolicyTables → Option PolicyFault
+owners_fault t = option_map (λ f. TwoOwners f.path) (least_of (repeated [] t.users))
+
+-- the first fault of tables: in their texts, then the least realm that reaches itself, then the least token of two users
+pub data IsTablesFault (t : PolicyTables) : PolicyFault → Type 0 where
+  text : (f : PolicyFault) → text_fault t ≡ Some f → IsTablesFault t f
+  cycle : (name : List ℕ) → text_fault t ≡ None → IsLeastCycle t name → IsTablesFault t (RealmCycle name)
+  owners : (f : PolicyFault) → text_fault t ≡ None → HasNoCycle t → owners_fault t ≡ Some f → IsTablesFault t f
+
+-- the first fault of a text: its size, that it is no TOML, its shape, then that of its tables
+pub data IsFirstFault (text : List ℕ) : PolicyFault → Type 0 where
+  size : most_bytes < length text → IsFirstFault text (TooMany (length text))
+  toml : length text ≤ most_bytes → ((t : Members) → ¬ IsToml text t) → IsFirstFault text NotToml
+  shape : length text ≤ most_bytes → (t : Members) → IsToml text t → (f : PolicyFault) → shape_fault t ≡ Some f → IsFirstFault text f
+  tables : length text ≤ most_bytes → (t : Members) → IsToml text t → shape_fault t ≡ None → (f : PolicyFault) → IsTablesFault (tables_of t) f → IsFirstFault text f
+
+-- tables without a fault
+pub record IsSound (t : PolicyTables) : Type 0 where
+  pub texts : text_fault t ≡ None
+  pub no_cycle : HasNoCycle t
+  pub owners : owners_fault t ≡ None
+
+-- a text without a fault, and its tables
+pub record IsPolicyOf (text : List ℕ) (tables : PolicyTables) : Type 0 where
+  pub size : length text ≤ most_bytes
+  pub members : Members
+  pub toml : IsToml text members
+  pub shape : shape_fault members ≡ None
+  pub same : tables ≡ tables_of members
+  pub sound : IsSound tables
+
+-- an answer that there is no fault, or that this is the one
+abbrev pub Answers : {A : Type 0} → Result A PolicyFault → Option PolicyFault → Type 0
+Answers r o = MatchResult r (λ _. o ≡ None) (λ f. f ≢ Memory → o ≡ Some f)

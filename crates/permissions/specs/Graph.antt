@@ -1,0 +1,31 @@
+-- Walks from place to place, where each place has a list of the places that it leads to.
+use Rattle.std.specs.Prelude.{◌≡◌, ℕ, ◌<◌, ◌==◌, Bool, true, false, List, [], ◌∷◌, length, slice_index_or, count_by}
+use Rattle.std.specs.List.{list_any}
+
+-- the place is one of these
+abbrev pub has : ℕ → List ℕ → Bool
+has q ps = list_any (λ p. p == q) ps
+
+-- the places that a place leads to
+abbrev pub edges : List (List ℕ) → ℕ → List ℕ
+edges graph p = slice_index_or graph p []
+
+-- each place that is led to is one of the graph
+abbrev pub IsGraph : List (List ℕ) → Type 0
+IsGraph graph = (p q : ℕ) → has q (edges graph p) ≡ true → q < length graph
+
+-- a walk from p over these places, the last of which is q
+abbrev pub IsWalkOn : List (List ℕ) → ℕ → List ℕ → ℕ → Type 0
+IsWalkOn graph p [] q = p ≡ q
+IsWalkOn graph p (x ∷ xs) q = (has x (edges graph p) ≡ true) × IsWalkOn graph x xs q
+
+-- from p to q in one step or more
+pub record ReachesOn (graph : List (List ℕ)) (p q : ℕ) : Type 0 where
+  pub first : ℕ
+  pub others : List ℕ
+  pub walk : IsWalkOn graph p (first ∷ others) q
+
+-- just the places that were found are marked, each once
+pub record IsMarked (marks : List Bool) (found : List ℕ) : Type 0 where
+  pub same : (q : ℕ) → q < length marks → slice_index_or marks q false ≡ has q found
+  pub count : count_by (λ m. m) marks ≡ length found

@@ -1,0 +1,129 @@
+//! The permissions.
+ghost use Rattle.std.specs.Prelude.{◌≡◌, ◌<◌, ◌^◌};
+ghost use Rattle.std.specs.List.{find};
+ghost use Rattle.std.specs.Str.{bytes_eq};
+ghost use Rattle.permissions.specs.Grants.{has_bit};
+ghost use Rattle.permissions.specs.Permissions.{permission_text, permission_number, permission_of};
+
+/// What a caller may be allowed to do in a realm.
+#[derive(Clone, Copy, Debug, PartialEq, Eq)]
+pub enum Permission {
+    CreateInvocation,
+    CreateWithReservedId,
+    GetInvocation,
+    IncludeInvocation,
+    GetTestResult,
+    ListTestResults,
+    ListLimitedTestResults,
+    GetTestExoneration,
+    ListTestExonerations,
+    ListLimitedTestExonerations,
+    GetArtifact,
+    ListArtifacts,
+}
+
+/// Every permission.
+const EVERY: [Permission; 12] = [
+    Permission::CreateInvocation,
+    Permission::CreateWithReservedId,
+    Permission::GetInvocation,
+    Permission::IncludeInvocation,
+    Permission::GetTestResult,
+    Permission::ListTestResults,
+    Permission::ListLimitedTestResults,
+    Permission::GetTestExoneration,
+    Permission::ListTestExonerations,
+    Permission::ListLimitedTestExonerations,
+    Permission::GetArtifact,
+    Permission::ListArtifacts,
+];
+
+impl Permission {
+    /// The permission's text, as configurations write it.
+    pub fn text(self) -> &'static str
+        ensures { result.now ≡ permission_text self }
+    {
+        match self {
+            Permission::CreateInvocation => "resultdb.invocations.create",
+            Permission::CreateWithReservedId => "resultdb.invocations.createWithReservedID",
+            Permission::GetInvocation => "resultdb.invocations.get",
+            Permission::IncludeInvocation => "resultdb.invocations.include",
+            Permission::GetTestResult => "resultdb.testResults.get",
+            Permission::ListTestResults => "resultdb.testResults.list",
+            Permission::ListLimitedTestResults => "resultdb.testResults.listLimited",
+            Permission::GetTestExoneration => "resultdb.testExonerations.get",
+            Permission::ListTestExonerations => "resultdb.testExonerations.list",
+            Permission::ListLimitedTestExonerations => "resultdb.testExonerations.listLimited",
+            Permission::GetArtifact => "resultdb.artifacts.get",
+            Permission::ListArtifacts => "resultdb.artifacts.list",
+        }
+    }
+
+    /// The permission's number.
+    fn number(self) -> u32
+        ensures value { result ≡ permission_number self }
+        ensures within { result < 12 }
+    {
+        match self {
+            Permission::CreateInvocation => 0,
+            Permission::CreateWithReservedId => 1,
+            Permission::GetInvocation => 2,
+            Permission::IncludeInvocation => 3,
+            Permission::GetTestResult => 4,
+            Permission::ListTestResults => 5,
+            Permission::ListLimitedTestResults => 6,
+            Permission::GetTestExoneration => 7,
+            Permission::ListTestExonerations => 8,
+            Permission::ListLimitedTestExonerations => 9,
+            Permission::GetArtifact => 10,
+            Permission::ListArtifacts => 11,
+        }
+    }
+
+    /// Whether the permission's bit is set.
+    #[tactic(auto, unfolding(crate::specs::Grants::has_bit), using(crate::proofs::GrantLemmas::shifted_bit))]
+    pub(crate) fn is_in(self, mask: u16) -> bool
+        ensures { result ≡ has_bit mask self }
+    {
+        (mask >> self.number()) & 1 == 1
+    }
+
+    /// A number with one bit, which no other permission has.
+    pub(crate) fn bit(self) -> u16
+        ensures { result ≡ 2 ^ permission_number self }
+    {
+        match self {
+            Permission::CreateInvocation => 1,
+            Permission::CreateWithReservedId => 2,
+            Permission::GetInvocation => 4,
+            Permission::IncludeInvocation => 8,
+            Permission::GetTestResult => 16,
+            Permission::ListTestResults => 32,
+            Permission::ListLimitedTestResults => 64,
+            Permission::GetTestExoneration => 128,
+            Permission::ListTestExonerations => 256,
+            Permission::ListLimitedTestExonerations => 512,
+            Permission::GetArtifact => 1024,
+            Permission::ListArtifacts => 2048,
+        }
+    }
+
+    /// The permission of a text, none where the text is no permission's.
+    pub fn from_text(text: &[u8]) -> Option<Permission>
+        ensures { result ≡ permission_of text.now }
+    {
+        find_text(EVERY.as_slice(), text)
+    }
+}
+
+/// The first of these permissions that has the text.
+fn find_text(permissions: &[Permission], text: &[u8]) -> Option<Permission>
+    ensures { result ≡ find (λ p. bytes_eq (permission_text p) text.now) permissions.now }
+{
+    for permission in permissions {
+        if permission.text().as_bytes() == text {
+            return Some(*permission);
+        }
+    }
+    None
+}

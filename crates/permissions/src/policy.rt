@@ -1,0 +1,215 @@
+//! The policy of a configuration.
+ghost use Rattle.std.specs.Prelude.{◌≡◌, ◌≢◌, ◌<◌, ◌≤◌, ◌↔◌, ◌==◌, true, take, Ok, None, [], length, map, IsTrue, IfOk, IfErr, IfSome, slice_index_or};
+ghost use Rattle.std.specs.List.{position};
+ghost use Rattle.hex.specs.Hex.{decode_of};
+ghost use Rattle.toml.specs.View.{table_view};
+ghost use Rattle.permissions.specs.Checks.{user_names};
+ghost use Rattle.permissions.specs.Allows.{Allows, root_of};
+ghost use Rattle.permissions.specs.Cycle.{HasNoCycle};
+ghost use Rattle.permissions.specs.Grants.{has_bit, AreRows, IsBoundByName};
+ghost use Rattle.permissions.specs.Reach.{graph_of};
+ghost use Rattle.names_realms.specs.Realms.{IsRealm, project_len};
+ghost use Rattle.permissions.specs.Faults.{most_bytes, IsToml, IsFirstFault, IsTablesFault, IsPolicyOf, IsSound, text_fault};
+ghost use Rattle.permissions.specs.Index.{place_of, IsIndexOf};
+
+use crate::PolicyFault;
+use crate::book::Book;
+use crate::caller::CallerId;
+use crate::hash::write_front;
+use crate::index::NameIndex;
+use crate::listed::Listed;
+use crate::permission::Permission;
+use crate::realms::read_graph;
+use crate::rows::{close_rows, mask_at, row_at};
+use crate::stages::{check_entries, check_size, check_texts, check_tokens, read_shaped, read_toml};
+use crate::tables::PolicyTables;
+use names_realms::{Bytes, Realm};
+use std::alloc::Global;
+use std::marker::Model;
+
+/// Who may do what, as a configuration says.
+#[derive(Debug, Drop)]
+pub struct Policy {
+    book: Book,
+    secret: Bytes,
+    tokens: NameIndex,
+    rows: Vec<Listed<u16>>,
+}
+
+impl Model for Policy {
+    ghost use Rattle.std.specs.Prelude.{◌≡◌, Ok, map};
+    ghost use Rattle.hex.specs.Hex.{decode_of};
+    ghost use Rattle.permissions.specs.declared.tables.PolicyTables.{PolicyTables};
+    ghost use Rattle.permissions.specs.Policy.{IsKept};
+
+    ghost Value = { PolicyTables };
+
+    ghost view = { λ p. p.book };
+
+    ghost invariant = { λ p. IsKept p.secret p.tokens p.rows.items p.book };
+}
+
+/// The bytes of a secret, whose digits were checked before.
+fn read_secret(alloc: Global, text: &[u8]) -> Result<Bytes, PolicyFault>
+    ensures ok { IfOk result (λ bytes. decode_of text.now ≡ Ok bytes) }
+    ensures err { IfErr result (λ f. f ≡ PolicyFault.Memory) }
+{
+    match hex::decode(alloc, text) {
+        Ok(bytes) => Ok(Bytes::new(bytes)),
+        Err(_) => Err(PolicyFault::Memory),
+    }
+}
+
+/// The tables with their indexes, where each text is what it has to be.
+fn checked_book(alloc: Global, tables: PolicyTables) -> Result<Book, PolicyFault>
+    ensures ok { IfOk result (λ b. (b ≡ tables) × (text_fault tables ≡ None)) }
+    ensures err { IfErr result (λ f. f ≢ PolicyFault.Memory → IsTablesFault tables f) }
+{
+    check_entries(&tables)?;
+    let book = Book::new(alloc, tables)?;
+    check_texts(alloc, &book)?;
+    Ok(book)
+}
+
+/// What each user may do from each realm, where no realm reaches itself.
+fn checked_rows(alloc: Global, book: &Book) -> Result<Vec<Listed<u16>>, PolicyFault>
+    requires { text_fault book.now ≡ None }
+    ensures ok { IfOk result (λ rows. HasNoCycle book.now × AreRows book.now rows.items) }
+    ensures err { IfErr result (λ f. f ≢ PolicyFault.Memory → IsTablesFault book.now f) }
+{
+    let graph = read_graph(alloc, book)?;
+    close_rows(alloc, book, graph.as_slice())
+}
+
+/// The index of the tokens, where each has one owner.
+fn checked_tokens(alloc: Global, book: &Book) -> Result<NameIndex, PolicyFault>
+    requires texts { text_fault book.now ≡ None }
+    requires no_cycle { HasNoCycle book.now }
+    ensures ok { IfOk result (λ tokens. IsSound book.now × IsIndexOf tokens (map (λ u. u.token) book.now.users)) }
+    ensures err { IfErr result (λ f. f ≢ PolicyFault.Memory → IsTablesFault book.now f) }
+{
+    check_tokens(alloc, book.tables())
+}
+
+/// The policy of sound tables.
+fn policy_of(alloc: Global, tables: PolicyTables) -> Result<Policy, PolicyFault>
+    ensures ok { IfOk result (λ p. (p ≡ tables) × IsSound tables) }
+    ensures err { IfErr result (λ f. f ≢ PolicyFault.Memory → IsTablesFault tables f) }
+{
+    let book = checked_book(alloc, tables)?;
+    let rows = checked_rows(alloc, &book)?;
+    let tokens = checked_tokens(alloc, &book)?;
+    let secret = read_secret(alloc, book.tables().secret.as_slice())?;
+    Ok(Policy {
+        book,
+        secret,
+        tokens,
+        rows,
+    })
+}
+
+impl Policy {
+    /// Reads a configuration.
+    ///
+    /// The first fault is answered: `TooMany` for more than 4 MiB, which is looked at before the text is read, `NotToml`,
+    /// `BadShape`, `TooMany` for more than 65,536 entries over the four tables and all bindings, `BadName`, `UnknownRole`,
+    /// `UnknownRealm`, `UnknownPrincipal`, `RealmCycle`, `TwoOwners`. Of several of one kind it is the one with the least path, or
+    /// the least name or token, in byte order.
+    pub fn from_toml(alloc: Global, text: &[u8]) -> Result<Policy, PolicyFault>
+        ensures ok { IfOk result (IsPolicyOf text.now) }
+        ensures err { IfErr result (λ f. f ≢ PolicyFault.Memory → IsFirstFault text.now f) }
+    {
+        check_size(text)?;
+        let document = read_toml(alloc, text)?;
+        let tables = read_shaped(alloc, &document)?;
+        policy_of(alloc, tables)
+    }
+
+    /// The caller who shows a token, none where it is nobody's.
+    pub fn caller_of(&self, token: &[u8]) -> Option<CallerId>
+        ensures caller { result ≡ place_of token.now (map (λ u. u.token) self.now.users) }
+        ensures there { IfSome result (λ c. c < length self.now.users) }
+    {
+        match self.tokens.find(token) {
+            Some(place) => Some(CallerId::at(place)),
+            None => None,
+        }
+    }
+
+    /// The name of a caller.
+    pub fn name_of(&self, caller: CallerId) -> &[u8]
+        requires { caller < length self.now.users }
+        ensures { result.now ≡ slice_index_or (user_names self.now) caller [] }
+    {
+        let user = &self.book.tables().users.as_slice()[caller.place()];
+        user.name.as_slice()
+    }
+
+    /// The secret under which update tokens are made.
+    pub fn secret(&self) -> &[u8]
+        ensures { decode_of self.now.secret ≡ Ok result.now }
+    {
+        self.secret.as_slice()
+    }
+
+    /// Whether the caller has the permission in the realm: some realm that is this one, or that it reaches by `extends`, or that is
+    /// its project's `@root`, or that this one reaches, binds a role which holds the permission to the caller, or to a group that the
+    /// caller is in.
+    pub fn allows(&self, caller: CallerId, permission: Permission, realm: &Realm) -> bool
+        requires { caller < length self.now.users }
+        ensures { IsTrue result ↔ Allows self.now caller permission realm.now }
+    {
+        let mut room = [0u8; 106];
+        let len = write_root(&mut room, realm.as_slice());
+        let own = self.binds(realm.as_slice(), caller, permission);
+        let root = self.binds(&room[..len], caller, permission);
+        own || root
+    }
+
+    /// Whether a realm, or one that it reaches by `extends`, binds the caller.
+    fn binds(&self, name: &[u8], caller: CallerId, permission: Permission) -> bool
+        requires { caller < length self.now.users }
+        ensures { (result ≡ true) ↔ IsBoundByName self.now name.now caller permission }
+    {
+        match self.book.realm(name) {
+            Some(place) => permission.is_in(mask_at(
+                row_at(self.rows.as_slice(), place),
+                caller.place(),
+            )),
+            None => false,
+        }
+    }
+}
+
+/// The first place of a colon.
+fn place_of_colon(text: &[u8]) -> Option<usize>
+    ensures place { result ≡ position (λ b. b == 58) text.now }
+    ensures within { IfSome result (λ place. place < length text.now) }
+{
+    text.iter().position(|b| *b == b':')
+}
+
+/// How long the project of a realm is.
+fn project_of(text: &[u8]) -> usize
+    ensures len { result ≡ project_len text.now }
+    ensures within { result ≤ length text.now }
+{
+    match place_of_colon(text) {
+        Some(place) => place,
+        None => text.len(),
+    }
+}
+
+/// Writes the name of the `@root` of a realm's project, and says how long it is.
+fn write_root(room: &mut [u8], realm: &[u8]) -> usize
+    requires room { length room.old ≡ 106 }
+    requires realm { IsRealm realm.now }
+    ensures within { result ≤ 106 }
+    ensures len { length room.new ≡ 106 }
+    ensures root { take result room.new ≡ root_of realm.now }
+{
+    let len = project_of(realm);
+    write_front(room, &realm[..len]);
+    write_front(&mut room[len..], b":@root");
+    len + 6
+}
