@@ -17,12 +17,12 @@ in_piece f (suc left) n days few =
     elim (cases_lt days (f n)) [
       | inl here ↦ (0, (days, (omega arith, rw (add-zero n) here, sym (zero-add days))))
       | inr past ↦
-        let rest = in_piece f left (suc n) (days - f n) (omega (arith, few, past)) in
-        let k = rest.0 in
-        let r = rest.1.0 in
-        let next : n + suc k ≡ suc n + k = omega arith in
-        let within : r < f (n + suc k) = rw next (rest.1.1.1) in
-        (suc k, (r, (omega (arith, rest.1.1.0), within, omega (arith, past, rest.1.1.2))))
+          let rest = in_piece f left (suc n) (days - f n) (omega (arith, few, past)) in
+          let k = rest.0 in
+          let r = rest.1.0 in
+          let next : n + suc k ≡ suc n + k = omega arith in
+          let within : r < f (n + suc k) = rw next (rest.1.1.1) in
+          (suc k, (r, (omega (arith, rest.1.1.0), within, omega (arith, past, rest.1.1.2))))
     ]
 
 -- the parts of the date of a day

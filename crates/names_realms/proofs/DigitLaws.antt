@@ -97,16 +97,16 @@ pub decimals_read : (micros b : ℕ) (bs : List ℕ) → micros < 1_000_000 → 
 decimals_read micros b bs few ends =
     by_zero micros (λ none. rw none (no_point b bs ends.1))
     (λ some.
-      let has : (micros == 0) ≡ false = is_positive micros some in
-      by_zero (micros % 1000)
-      (λ whole.
-        let same : 1000 * (micros / 1000) ≡ micros = omega arith in
-        rw (has, whole) (point _ ∙ digits_start (micros / 1000 / 100) _ (omega arith)
-        ∙ ap Ok (milliseconds (micros / 1000) (b ∷ bs) (omega arith) ∙ fraction-other 6 100 _ b bs ends.0 ∙ ap (λ v. (v, b ∷ bs)) same)))
-      (λ more.
-        let parts : (micros % 1000 == 0) ≡ false = is_positive _ more in
-        let same : 1000 * (micros / 1000) + micros % 1000 ≡ micros = omega arith in
-        rw (has, parts) (point _ ∙ digits_start (micros / 1000 / 100) _ (omega arith)
-        ∙ ap Ok (milliseconds (micros / 1000) (three_digits (micros % 1000) ++ b ∷ bs) (omega arith)
-          ∙ microseconds (1000 * (micros / 1000)) (micros % 1000) (b ∷ bs) (omega arith)
-          ∙ fraction-other 3 0 _ b bs ends.0 ∙ ap (λ v. (v, b ∷ bs)) same))))
+    let has : (micros == 0) ≡ false = is_positive micros some in
+    by_zero (micros % 1000)
+    (λ whole.
+    let same : 1000 * (micros / 1000) ≡ micros = omega arith in
+    rw (has, whole) (point _ ∙ digits_start (micros / 1000 / 100) _ (omega arith)
+    ∙ ap Ok (milliseconds (micros / 1000) (b ∷ bs) (omega arith) ∙ fraction-other 6 100 _ b bs ends.0 ∙ ap (λ v. (v, b ∷ bs)) same)))
+    (λ more.
+    let parts : (micros % 1000 == 0) ≡ false = is_positive _ more in
+    let same : 1000 * (micros / 1000) + micros % 1000 ≡ micros = omega arith in
+    rw (has, parts) (point _ ∙ digits_start (micros / 1000 / 100) _ (omega arith)
+    ∙ ap Ok (milliseconds (micros / 1000) (three_digits (micros % 1000) ++ b ∷ bs) (omega arith)
+    ∙ microseconds (1000 * (micros / 1000)) (micros % 1000) (b ∷ bs) (omega arith)
+    ∙ fraction-other 3 0 _ b bs ends.0 ∙ ap (λ v. (v, b ∷ bs)) same))))

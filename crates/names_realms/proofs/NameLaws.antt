@@ -30,9 +30,10 @@ HasNoSlash bs = list_all (λ x. not (x == 47)) bs ≡ true
 -- two texts that are one are cut at one slash
 cut_alike : (p q s t : List ℕ) → HasNoSlash p → HasNoSlash q → p ++ 47 ∷ s ≡ q ++ 47 ∷ t → (p ≡ q) × ((47 ∷ s) ≡ (47 ∷ t))
 cut_alike p q s t no_p no_q e =
-    let same : length p ≡ length q = sym (cut_before 47 p s no_p) ∙ ap slash_place e ∙ cut_before 47 q t no_q in
-    (sym (take_at p (47 ∷ s) (length p) refl) ∙ ap (take (length p)) e ∙ take_at q (47 ∷ t) (length p) (sym same),
-    sym (drop_at p (47 ∷ s) (length p) refl) ∙ ap (drop (length p)) e ∙ drop_at q (47 ∷ t) (length p) (sym same))
+    let same : length p ≡ length q = sym (cut_before 47 p s no_p) ∙ ap slash_place e ∙ cut_before 47 q t no_q in (
+      sym (take_at p (47 ∷ s) (length p) refl) ∙ ap (take (length p)) e ∙ take_at q (47 ∷ t) (length p) (sym same),
+      sym (drop_at p (47 ∷ s) (length p) refl) ∙ ap (drop (length p)) e ∙ drop_at q (47 ∷ t) (length p) (sym same),
+    )
 
 -- and a text without a slash is none with one
 cut_apart : (p q t : List ℕ) → HasNoSlash p → HasNoSlash q → p ≡ q ++ 47 ∷ t → ⊥

@@ -65,8 +65,8 @@ seconds_read seconds micros few =
     let places : 12 ≡ length (decimal seconds) + (12 - length (decimal seconds)) = omega (arith, long) in
     seconds_begin seconds (omega (arith, few)) behind
     ∙ ap Ok (ap (λ k. whole_from k 0 (decimal seconds ++ behind)) places
-      ∙ digits_read seconds (omega (arith, few)) (12 - length (decimal seconds)) behind
-      ∙ stops micros (12 - length (decimal seconds)) seconds)
+    ∙ digits_read seconds (omega (arith, few)) (12 - length (decimal seconds)) behind
+    ∙ stops micros (12 - length (decimal seconds)) seconds)
 
 span_read : (micros : ℕ) → micros ≤ most_span → span_from (span_text micros) ≡ Ok micros
 unfolding span_from span_text
@@ -101,7 +101,7 @@ pub decimals_are_fewest : DecimalsAreFewest
 decimals_are_fewest micros few =
     by_zero micros (λ none. rw none ((λ e. refl, λ e. refl), (λ e. absurd (omega (arith, e)), λ h. absurd (h.0 refl)), (λ e. absurd (omega (arith, e)), λ h. absurd (h refl))))
     (λ some. let has = is_positive micros some in
-      by_zero (micros % 1000)
-      (λ whole. rw (has, whole) ((λ e. cc, λ e. absurd (omega (arith, e, some))), (λ e. (λ n. absurd (omega (arith, n, some)), refl), λ h. refl), (λ e. absurd (omega (arith, e)), λ h. absurd (h refl))))
-      (λ more. let parts = is_positive (micros % 1000) more in
-        rw (has, parts) ((λ e. cc, λ e. absurd (omega (arith, e, some))), (λ e. absurd (omega (arith, e)), λ h. absurd (omega (arith, h.1, more))), (λ e. λ n. absurd (omega (arith, n, more)), λ h. refl))))
+    by_zero (micros % 1000)
+    (λ whole. rw (has, whole) ((λ e. cc, λ e. absurd (omega (arith, e, some))), (λ e. (λ n. absurd (omega (arith, n, some)), refl), λ h. refl), (λ e. absurd (omega (arith, e)), λ h. absurd (h refl))))
+    (λ more. let parts = is_positive (micros % 1000) more in
+    rw (has, parts) ((λ e. cc, λ e. absurd (omega (arith, e, some))), (λ e. absurd (omega (arith, e)), λ h. absurd (omega (arith, h.1, more))), (λ e. λ n. absurd (omega (arith, n, more)), λ h. refl))))

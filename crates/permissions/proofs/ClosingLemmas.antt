@@ -1,9 +1,9 @@
 -- Rows that are made in an order are those of the definition.
-use Rattle.std.proofs.Common.{◌≡◌, ℕ, zero, suc, ◌+◌, ◌<◌, ◌≤◌, Bool, true, false, cond, ◌||◌, ◌&&◌, List, [], ◌∷◌, length, get_or, bit_or, refl, sym, ap, subst, ◌∙◌, inl, inr, arith, eq-eqb, length-set}
-use Rattle.std.specs.Prelude.{◌==◌, ◌⊎◌, ◌≢◌, ◌↔◌, Result, Ok, Err, Option, Some, None, IfOk, IfSome}
+use Rattle.std.proofs.Common.{◌≡◌, ℕ, zero, suc, ◌+◌, ◌<◌, ◌≤◌, Bool, true, false, ◌||◌, List, [], ◌∷◌, length, get_or, bit_or, refl, sym, ap, subst, ◌∙◌, inl, inr, arith, length-set}
+use Rattle.std.specs.Prelude.{◌==◌, ◌⊎◌, ◌≢◌, Result, Ok, Err, Option, Some, None, IfOk, IfSome}
 use Rattle.std.proofs.Common.{Vec, Global}
 use Rattle.std.specs.declared.alloc.AllocError.{AllocError}
-use Rattle.std.specs.List.{list_any, list_all}
+use Rattle.std.specs.List.{list_all}
 use Rattle.std.proofs.Math.ListN.{set}
 use Rattle.std.proofs.lemmas.Bool.{cases_Bool, eqb-true, and_parts}
 use Rattle.std.proofs.lemmas.List.{get_or-set_same, get_or-set_other, length-map}
@@ -15,7 +15,7 @@ use Rattle.permissions.specs.Cycle.{HasNoCycle}
 use Rattle.permissions.specs.Grants.{has_bit, granted, grants_at, IsGrantedFrom, IsGrantedRow, AreGrantedRows, AreGrants, AreRows}
 use Rattle.permissions.specs.Graph.{has, edges, IsGraph, IsWalkOn, ReachesOn}
 use Rattle.permissions.specs.Reach.{graph_of}
-use Rattle.permissions.proofs.GrantLemmas.{has_bit-zero, has_bit-or}
+use Rattle.permissions.proofs.GrantLemmas.{has_bit-or}
 use Rattle.permissions.proofs.ReachLemmas.{last_edge, itself_over_places, length-graph_of}
 use Rattle.permissions.proofs.RowLemmas.{any_has, has_any, differ, rows_are}
 

@@ -1,5 +1,5 @@
 -- The first fault of tables.
-use Rattle.std.proofs.Common.{◌≡◌, Option, Some, None, ap}
+use Rattle.std.proofs.Common.{◌≡◌, Option, Some, ap}
 use Rattle.std.specs.Option.{option_or}
 use Rattle.permissions.specs.declared.faults.PolicyFault.{PolicyFault}
 use Rattle.permissions.specs.declared.tables.PolicyTables.{PolicyTables}

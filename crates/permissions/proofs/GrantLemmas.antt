@@ -1,8 +1,7 @@
 -- Bits of permissions, and what stands at the place of a name.
-use Rattle.std.proofs.Common.{◌≡◌, ℕ, zero, suc, ◌+◌, ◌<◌, ◌≤◌, ◌^◌, ◌/◌, max, bit_and, Bool, true, false, cond, ◌||◌, ◌&&◌, List, [], ◌∷◌, length, map, get_or, bit_or, Option, Some, None, option_map, refl, sym, ap, subst, ◌∙◌, inl, inr, arith, eq-eqb}
-use Rattle.std.specs.Prelude.{◌==◌, ◌⊎◌, ◌≢◌}
+use Rattle.std.proofs.Common.{◌≡◌, ℕ, ◌<◌, ◌^◌, ◌/◌, max, bit_and, true, false, ◌||◌, List, [], ◌∷◌, map, bit_or, Some, None, refl, sym, ap, ◌∙◌, inl, inr, arith, eq-eqb}
+use Rattle.std.specs.Prelude.{◌==◌, ◌≢◌}
 use Rattle.std.specs.Int.{bit_at}
-use Rattle.std.specs.List.{list_any}
 use Rattle.std.specs.Str.{bytes_eq}
 use Rattle.std.proofs.lemmas.Bool.{cases_Bool, eqb-true}
 use Rattle.std.proofs.lemmas.Bool.Decides.{nat_tests}

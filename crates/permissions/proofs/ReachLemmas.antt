@@ -1,5 +1,5 @@
 -- A walk over names is a walk over their places.
-use Rattle.std.proofs.Common.{◌≡◌, ℕ, suc, zero, ◌+◌, ◌<◌, Bool, true, false, cond, ◌||◌, List, [], ◌∷◌, length, map, get_or, Option, Some, None, option_map, refl, sym, ap, subst, ◌∙◌, inl, inr, arith, eq-eqb}
+use Rattle.std.proofs.Common.{◌≡◌, ℕ, suc, zero, ◌<◌, Bool, true, false, cond, ◌||◌, List, [], ◌∷◌, length, map, get_or, Option, Some, None, option_map, refl, sym, ap, subst, ◌∙◌, inl, inr, arith, eq-eqb}
 use Rattle.std.specs.Prelude.{◌==◌, ◌⊎◌, is_some}
 use Rattle.std.proofs.lemmas.List.{length-map}
 use Rattle.std.specs.Str.{bytes_eq}
@@ -12,7 +12,7 @@ use Rattle.permissions.specs.Index.{place_of}
 use Rattle.permissions.specs.Checks.{is_there, realm_names}
 use Rattle.permissions.proofs.IndexLemmas.{not_there}
 use Rattle.permissions.specs.Graph.{has, edges, IsGraph, IsWalkOn, ReachesOn}
-use Rattle.permissions.specs.Reach.{realm_at, extended, IsWalk, Reaches, ReachesItself, places_in, graph_from, graph_of}
+use Rattle.permissions.specs.Reach.{realm_at, extended, IsWalk, ReachesItself, places_in, graph_from, graph_of}
 
 -- the first place is within, and has the name
 pub place_step : (t : Bool) (o : Option ℕ) (q : ℕ) → cond t (Some 0) (option_map suc o) ≡ Some q → ((t ≡ true) × (q ≡ 0)) ⊎ ((t ≡ false) × ((r : ℕ) × (o ≡ Some r) × (q ≡ suc r)))

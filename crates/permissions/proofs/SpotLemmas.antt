@@ -1,11 +1,10 @@
 -- What the checks note is the least of what fails.
-use Rattle.std.proofs.Common.{◌≡◌, ℕ, Bool, true, false, cond, List, [], ◌∷◌, Option, Some, None, refl, ap, ◌∙◌, inl, inr}
-use Rattle.std.specs.Prelude.{fold}
+use Rattle.std.proofs.Common.{◌≡◌, List, [], ◌∷◌, Option, refl, inl, inr}
 use Rattle.std.proofs.lemmas.Bool.{cases_Bool}
 use Rattle.permissions.specs.declared.findings.Finding.{Finding}
 use Rattle.permissions.specs.declared.tables.PolicyTables.{PolicyTables}
 use Rattle.permissions.specs.declared.texts.Check.{Check}
-use Rattle.permissions.specs.Findings.{lesser, least_with, least_of}
+use Rattle.permissions.specs.Findings.{lesser, least_with}
 use Rattle.permissions.specs.Checks.{is_faulty}
 use Rattle.permissions.specs.Spots.{Spot, failing, with_spots}
 

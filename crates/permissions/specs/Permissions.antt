@@ -1,5 +1,5 @@
 -- The twelve permissions and their texts.
-use Rattle.std.specs.Prelude.{ℕ, List, [], ◌∷◌, Option, codes}
+use Rattle.std.specs.Prelude.{ℕ, List, Option, codes}
 use Rattle.std.specs.List.{find}
 use Rattle.std.specs.Str.{bytes_eq}
 use Rattle.permissions.specs.declared.permission.Permission.{Permission}

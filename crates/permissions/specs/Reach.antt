@@ -1,5 +1,5 @@
 -- Which realms are reached from which.
-use Rattle.std.specs.Prelude.{◌≡◌, ℕ, true, List, [], ◌∷◌, map, Option, Some, None, if◌then◌else◌}
+use Rattle.std.specs.Prelude.{◌≡◌, ℕ, true, List, [], ◌∷◌, map, if◌then◌else◌}
 use Rattle.std.specs.Str.{bytes_eq}
 use Rattle.permissions.specs.declared.tables.RealmTable.{RealmTable}
 use Rattle.permissions.specs.declared.tables.PolicyTables.{PolicyTables}

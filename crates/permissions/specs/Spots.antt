@@ -1,5 +1,5 @@
 -- Each text of a configuration, with its kind and the path where it stands.
-use Rattle.std.specs.Prelude.{◌≡◌, ℕ, ◌+◌, List, [], ◌∷◌, ◌++◌, Option, fold, codes, if◌then◌else◌}
+use Rattle.std.specs.Prelude.{ℕ, ◌+◌, List, [], ◌∷◌, ◌++◌, Option, fold, codes, if◌then◌else◌}
 use Rattle.std.specs.Fmt.{decimal}
 use Rattle.permissions.specs.declared.findings.Finding.{Finding}
 use Rattle.permissions.specs.declared.tables.User.{User}

@@ -1,4 +1,4 @@
-use Rattle.std.proofs.Common.{◌≡◌, ◌<◌, length, length-set, ◌∙◌, arith}
+use Rattle.std.proofs.Common.{◌<◌, length, length-set, arith}
 use Rattle.permissions.proofs.ClosingLemmas.{row_step, row_rest}
 use Rattle.permissions.proofs.closing.add_row.Goals as goal
 

@@ -1,4 +1,4 @@
-use Rattle.std.proofs.Common.{◌≡◌, ℕ, ◌+◌, ◌<◌, ◌≤◌, ◌||◌, List, length, get_or, ap, ◌∙◌, sym, arith}
+use Rattle.std.proofs.Common.{◌≡◌, ℕ, ◌<◌, ◌≤◌, ◌||◌, List, length, get_or, ap, ◌∙◌, sym, arith}
 use Rattle.std.proofs.lemmas.Grind.{get_or_default_zero}
 use Rattle.permissions.specs.Graph.{has, edges}
 use Rattle.permissions.proofs.GraphLemmas.{has_of, reaches_at_once, all_found, closed_more, begun_more, reached_more}

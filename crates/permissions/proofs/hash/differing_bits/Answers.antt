@@ -1,4 +1,4 @@
-use Rattle.std.proofs.Common.{◌≡◌, ℕ, get_or, bit_or, bit_xor, below_more, ap, arith, ◌∙◌}
+use Rattle.std.proofs.Common.{get_or, below_more, ap, arith}
 use Rattle.std.proofs.lemmas.Grind.{same_number_lists}
 use Rattle.permissions.proofs.BitLemmas.{or_zero, xor_zero, no_bits}
 use Rattle.permissions.proofs.hash.differing_bits.Goals as goal

@@ -1,4 +1,4 @@
-use Rattle.std.proofs.Common.{◌≡◌, length, map, bit_xor, arith, refl, sym, ap, rules, append-nil, ◌∙◌}
+use Rattle.std.proofs.Common.{bit_xor, rules, append-nil}
 use Rattle.std.proofs.lemmas.List.{take_all, drop_all}
 use Rattle.std.proofs.lemmas.List.Edits.{map_over_more}
 use Rattle.permissions.proofs.hash.lay_pad.Goals as goal

@@ -1,6 +1,6 @@
 use Rattle.std.proofs.Common.{sym, ap, ◌∙◌}
 use Rattle.std.proofs.lemmas.Result.{err_from_is_err_and}
-use Rattle.permissions.specs.Faults.{IsTablesFault, text_fault, text}
+use Rattle.permissions.specs.Faults.{text_fault, text}
 use Rattle.permissions.proofs.FaultLemmas.{entries_first}
 use Rattle.permissions.proofs.policy.checked_book.Goals as goal
 

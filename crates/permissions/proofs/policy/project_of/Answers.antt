@@ -1,4 +1,4 @@
-use Rattle.std.proofs.Common.{◌≡◌, not, arith}
+use Rattle.std.proofs.Common.{not, arith}
 use Rattle.std.specs.Prelude.{◌==◌}
 use Rattle.std.proofs.lemmas.Bool.Decides.{nat_tests}
 use Rattle.std.proofs.lemmas.List.Sums.{prefix_len-le-length}

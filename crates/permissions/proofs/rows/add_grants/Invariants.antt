@@ -1,7 +1,6 @@
 use Rattle.std.proofs.Common.{◌≡◌, ℕ, ◌<◌, ◌||◌, length, take, get_or}
-use Rattle.std.specs.List.{list_any}
 use Rattle.permissions.specs.declared.permission.Permission.{Permission}
-use Rattle.permissions.specs.Grants.{has_bit, granted, grants_at}
+use Rattle.permissions.specs.Grants.{has_bit, granted}
 use Rattle.permissions.proofs.rows.add_grants.Given as goal
 
 abbrev pub invariant-loop-grant : goal.invariant-loop-grant

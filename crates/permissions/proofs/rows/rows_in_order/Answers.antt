@@ -1,4 +1,4 @@
-use Rattle.std.proofs.Common.{◌≡◌, length, List, sym, ap, subst, ◌∙◌}
+use Rattle.std.proofs.Common.{length, sym, ap, subst, ◌∙◌}
 use Rattle.permissions.specs.Graph.{IsGraph}
 use Rattle.permissions.proofs.ReachLemmas.{graph-IsGraph}
 use Rattle.permissions.proofs.ClosingLemmas.{ordered_rows}
