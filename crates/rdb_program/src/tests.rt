@@ -18,7 +18,7 @@ const CREATED: &str =
     "HTTP/1.1 200 OK\r\nContent-Type: application/json\r\nX-Prpc-Grpc-Code: 0\r\nContent-Length: 136\r\n\r\n)]}'\n{\"createTime\":\"2023-11-14T22:13:20Z\",\"deadline\":\"2023-11-16T22:13:20Z\",\"name\":\"invocations/u-a\",\"realm\":\"proj:ci\",\"state\":\"ACTIVE\"}";
 
 const OTHER_CREATED: &str =
-    "HTTP/1.1 200 OK\r\nContent-Type: application/json\r\nX-Prpc-Grpc-Code: 0\r\nContent-Length: 143\r\n\r\n)]}'\n{\"createTime\":\"2023-11-14T22:13:20.250Z\",\"deadline\":\"2023-11-16T22:13:20.250Z\",\"name\":\"invocations/u-b\",\"realm\":\"proj:ci\",\"state\":\"ACTIVE\"}";
+    "HTTP/1.1 200 OK\r\nContent-Type: application/json\r\nX-Prpc-Grpc-Code: 0\r\nContent-Length: 144\r\n\r\n)]}'\n{\"createTime\":\"2023-11-14T22:13:20.250Z\",\"deadline\":\"2023-11-16T22:13:20.250Z\",\"name\":\"invocations/u-b\",\"realm\":\"proj:ci\",\"state\":\"ACTIVE\"}";
 
 const TAKEN: &str =
     "HTTP/1.1 409 Conflict\r\nContent-Type: text/plain; charset=utf-8\r\nX-Prpc-Grpc-Code: 6\r\nContent-Length: 26\r\n\r\n19 Taken: invocations/u-a\n";
