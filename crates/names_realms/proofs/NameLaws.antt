@@ -3,25 +3,20 @@ use Rattle.std.proofs.Common.{◌≡◌, ℕ, true, not, List, ◌∷◌, ◌++�
 use Rattle.std.specs.Prelude.{◌==◌}
 use Rattle.std.specs.List.{list_all}
 use Rattle.std.proofs.lemmas.List.{append_cancel_left, take_at, drop_at}
-use Rattle.percent_encoding.specs.Percent.{percent_decode}
-use Rattle.percent_encoding.proofs.PercentLemmas.{round_trip}
-use Rattle.names_realms.specs.declared.escapes.TheConstants.{NAME_SET}
-use Rattle.names_realms.specs.declared.alphabets.Alphabet.TheVariants as alphabet
-use Rattle.names_realms.specs.declared.parts.PartForm.{PartForm}
-use Rattle.names_realms.specs.declared.parts.PartForm.TheVariants.{Letters, TestId}
+use Rattle.name_parts.specs.declared.alphabets.Alphabet.TheVariants as alphabet
+use Rattle.name_parts.specs.declared.parts.PartForm.TheVariants.{Letters, TestId}
 use Rattle.names_realms.specs.declared.result_names.ResultName.{ResultName}
 use Rattle.names_realms.specs.declared.parents.Parent.{Parent}
 use Rattle.names_realms.specs.declared.parents.Parent.TheVariants as parent
-use Rattle.names_realms.specs.Sequences.{slash_place}
-use Rattle.names_realms.specs.Parts.{IsPart}
-use Rattle.names_realms.specs.Escapes.{escaped}
+use Rattle.name_parts.specs.Sequences.{slash_place}
+use Rattle.name_parts.specs.Escapes.{escaped}
 use Rattle.names_realms.specs.Names.{IsInvocationId, IsArtifactId, IsInvocationName, invocation_name}
 use Rattle.names_realms.specs.ResultNames.{IsResultName, result_name, result_tail, test_tail}
 use Rattle.names_realms.specs.Parents.{IsParentName, parent_name}
 use Rattle.names_realms.specs.ArtifactNames.{artifact_name, artifact_tail}
 use Rattle.names_realms.specs.Laws.{OneArtifactNamed, OneInvocationNamed, OneParentNamed, OneResultNamed}
-use Rattle.names_realms.proofs.CutLemmas.{cut_before, no_cut}
-use Rattle.names_realms.proofs.ByteLemmas.{IsPart-bytes, escaped_without_slash, invocation_without_slash}
+use Rattle.name_parts.proofs.CutLemmas.{cut_before, no_cut}
+use Rattle.name_parts.proofs.ByteLemmas.{escaped_without_slash, invocation_without_slash, unescaped}
 use Rattle.names_realms.proofs.ArtifactNameLemmas.{result_without_slash}
 
 abbrev HasNoSlash : List ℕ → Type 0
@@ -40,10 +35,6 @@ cut_apart : (p q t : List ℕ) → HasNoSlash p → HasNoSlash q → p ≡ q ++ 
 cut_apart p q t no_p no_q e =
     let place : length p ≡ length q = sym (no_cut 47 p no_p) ∙ ap slash_place e ∙ cut_before 47 q t no_q in
     omega (arith, place, ap length e, length-append q (47 ∷ t))
-
-unescaped : (form : PartForm) (x y : List ℕ) → IsPart form x → IsPart form y → escaped x ≡ escaped y → x ≡ y
-unescaped form x y is is' e =
-    sym (round_trip NAME_SET x refl (IsPart-bytes form x is)) ∙ ap percent_decode e ∙ round_trip NAME_SET y refl (IsPart-bytes form y is')
 
 pub one_invocation_named : OneInvocationNamed
 one_invocation_named id other text is is' = append_cancel_left (codes "invocations/") id other (sym is.0 ∙ is'.0)

@@ -1,11 +1,11 @@
 -- Names of artifacts: `{parent}/artifacts/{escaped artifact id}`.
 use Rattle.std.specs.Prelude.{◌≡◌, ℕ, ◌==◌, if◌then◌else◌, Bool, false, List, [], ◌∷◌, ◌++◌, codes, Option}
-use Rattle.names_realms.specs.declared.faults.NameFault.{NameFault}
-use Rattle.names_realms.specs.declared.alphabets.Alphabet.TheVariants as alphabet
-use Rattle.names_realms.specs.declared.parts.PartForm.TheVariants.{Letters, TestId}
+use Rattle.name_parts.specs.declared.faults.NameFault.{NameFault}
+use Rattle.name_parts.specs.declared.alphabets.Alphabet.TheVariants as alphabet
+use Rattle.name_parts.specs.declared.parts.PartForm.TheVariants.{Letters, TestId}
 use Rattle.names_realms.specs.declared.artifact_names.ArtifactName.{ArtifactName}
-use Rattle.names_realms.specs.Sequences.{behind, unless_empty, up_to_slash}
-use Rattle.names_realms.specs.Escapes.{escaped, escaped_fault}
+use Rattle.name_parts.specs.Sequences.{behind, unless_empty, up_to_slash}
+use Rattle.name_parts.specs.Escapes.{escaped, escaped_fault}
 use Rattle.names_realms.specs.Names.{IsArtifactId, invocation_id_fault, result_id_fault}
 use Rattle.names_realms.specs.Parents.{IsParentName, parent_name}
 

@@ -1,7 +1,3 @@
-pub mod Alphabets
-pub mod Parts
-pub mod Escapes
-pub mod Sequences
 pub mod Names
 pub mod ResultNames
 pub mod Parents
@@ -9,8 +5,4 @@ pub mod ArtifactNames
 pub mod Realms
 pub mod Pairs
 pub mod Variants
-pub mod Civil
-pub mod Moments
-pub mod MomentReading
-pub mod Spans
 pub mod Laws

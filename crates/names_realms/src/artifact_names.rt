@@ -1,21 +1,19 @@
 //! Names of artifacts.
 ghost use Rattle.std.specs.Prelude.{◌≡◌, ◌≢◌, ◌≤◌, ◌++◌, List, ℕ, codes, length, IfOk, IfErr, OnOk, OnErr, None, Some};
-ghost use Rattle.names_realms.specs.Parts.{place_of};
-ghost use Rattle.names_realms.specs.Escapes.{escaped};
+ghost use Rattle.name_parts.specs.Parts.{place_of};
+ghost use Rattle.name_parts.specs.Escapes.{escaped};
 ghost use Rattle.names_realms.specs.Names.{IsArtifactId, IsInvocationId, IsResultId, IsTestId, result_id_fault};
 ghost use Rattle.names_realms.specs.ResultNames.{result_name};
 ghost use Rattle.names_realms.specs.declared.artifact_names.ArtifactName.{ArtifactName};
 ghost use Rattle.names_realms.specs.ArtifactNames.{IsArtifactName, artifact_name, artifact_name_fault, artifact_named_fault, artifact_parts_fault, artifact_tail, artifact_tail_fault, behind_id_fault, goes_to_tests, result_and_artifact_fault, result_artifact_tail_fault, test_and_rest_fault, test_artifact_tail_fault};
 
-use crate::NameFault;
-use crate::alphabets::Alphabet;
-use crate::escapes::{append_escaped, read_escaped};
 use crate::ids::{ArtifactId, InvocationId, ResultId, TestId};
 use crate::parents::{Parent, push_parent_name};
-use crate::parts::{PartForm, moved, read_part};
 use crate::result_names::{ResultName, read_invocation, read_test};
-use crate::sequences::rest_behind;
-use crate::texts::{append, len_before};
+use name_parts::{
+    Alphabet, NameFault, PartForm, append, append_escaped, len_before, moved, read_escaped,
+    read_part, rest_behind,
+};
 use std::alloc::{AllocError, Global};
 
 /// The name of an artifact: `{parent}/artifacts/{escaped artifact id}`.
@@ -34,7 +32,7 @@ struct Ids {
 }
 
 /// Reads `/artifacts/` and an escaped artifact id.
-#[tactic(auto, unfolding(crate::specs::ArtifactNames::artifact_tail_fault, crate::specs::Sequences::behind))]
+#[tactic(auto, unfolding(crate::specs::ArtifactNames::artifact_tail_fault, name_parts::specs::Sequences::behind))]
 fn read_artifact_tail(alloc: Global, text: &[u8]) -> Result<ArtifactId, NameFault>
     ensures ok { IfOk result (λ a. (text.now ≡ artifact_tail a) × IsArtifactId a) }
     ensures fault { IfErr result (λ f. f ≢ NameFault.Memory → artifact_tail_fault text.now ≡ Some f) }
@@ -64,7 +62,7 @@ fn read_result(alloc: Global, text: &[u8]) -> Result<ResultId, NameFault>
 }
 
 /// Reads a result's id, `/artifacts/` and an escaped artifact id.
-#[tactic(auto, unfolding(crate::specs::ArtifactNames::result_and_artifact_fault, crate::specs::Sequences::up_to_slash))]
+#[tactic(auto, unfolding(crate::specs::ArtifactNames::result_and_artifact_fault, name_parts::specs::Sequences::up_to_slash))]
 fn read_result_and_artifact(alloc: Global, text: &[u8]) -> Result<(ResultId, ArtifactId), NameFault>
     ensures ok { IfOk result (λ r. text.now ≡ r.0 ++ artifact_tail r.1) }
     ensures grammar { IfOk result (λ r. IsResultId r.0 × IsArtifactId r.1) }
@@ -84,7 +82,7 @@ fn read_result_and_artifact(alloc: Global, text: &[u8]) -> Result<(ResultId, Art
 }
 
 /// Reads `/results/` and what `read_result_and_artifact` reads.
-#[tactic(auto, unfolding(crate::specs::ArtifactNames::result_artifact_tail_fault, crate::specs::Sequences::behind))]
+#[tactic(auto, unfolding(crate::specs::ArtifactNames::result_artifact_tail_fault, name_parts::specs::Sequences::behind))]
 fn read_result_tail(alloc: Global, text: &[u8]) -> Result<(ResultId, ArtifactId), NameFault>
     ensures ok { IfOk result (λ r. text.now ≡ codes "/results/" ++ (r.0 ++ artifact_tail r.1)) }
     ensures grammar { IfOk result (λ r. IsResultId r.0 × IsArtifactId r.1) }
@@ -102,7 +100,7 @@ fn read_result_tail(alloc: Global, text: &[u8]) -> Result<(ResultId, ArtifactId)
 }
 
 /// Reads an escaped test id and what `read_result_tail` reads.
-#[tactic(auto, unfolding(crate::specs::ArtifactNames::test_and_rest_fault, crate::specs::Sequences::up_to_slash))]
+#[tactic(auto, unfolding(crate::specs::ArtifactNames::test_and_rest_fault, name_parts::specs::Sequences::up_to_slash))]
 fn read_test_and_rest(alloc: Global, text: &[u8]) -> Result<Ids, NameFault>
     ensures ok { IfOk result (λ r. text.now ≡ escaped r.test ++ (codes "/results/" ++ (r.result ++ artifact_tail r.artifact))) }
     ensures test { IfOk result (λ r. IsTestId r.test) }
@@ -127,7 +125,7 @@ fn read_test_and_rest(alloc: Global, text: &[u8]) -> Result<Ids, NameFault>
 }
 
 /// Reads `/tests/` and what `read_test_and_rest` reads.
-#[tactic(auto, unfolding(crate::specs::ArtifactNames::test_artifact_tail_fault, crate::specs::Sequences::behind))]
+#[tactic(auto, unfolding(crate::specs::ArtifactNames::test_artifact_tail_fault, name_parts::specs::Sequences::behind))]
 fn read_test_tail(alloc: Global, text: &[u8]) -> Result<Ids, NameFault>
     ensures ok { IfOk result (λ r. text.now ≡ codes "/tests/" ++ (escaped r.test ++ (codes "/results/" ++ (r.result ++ artifact_tail r.artifact)))) }
     ensures test { IfOk result (λ r. IsTestId r.test) }
@@ -219,7 +217,7 @@ fn read_behind_id(
 }
 
 /// Reads what stands behind `invocations/` in the name of an artifact.
-#[tactic(auto, unfolding(crate::specs::ArtifactNames::artifact_parts_fault, crate::specs::Sequences::up_to_slash))]
+#[tactic(auto, unfolding(crate::specs::ArtifactNames::artifact_parts_fault, name_parts::specs::Sequences::up_to_slash))]
 fn read_parts(alloc: Global, text: &[u8]) -> Result<ArtifactName, NameFault>
     ensures ok { IfOk result (λ a. codes "invocations/" ++ text.now ≡ artifact_name a) }
     ensures grammar { IfOk result (λ a. IsArtifactName a (artifact_name a)) }
@@ -239,7 +237,7 @@ fn read_parts(alloc: Global, text: &[u8]) -> Result<ArtifactName, NameFault>
 }
 
 /// Reads the name of an artifact.
-#[tactic(auto, unfolding(crate::specs::ArtifactNames::artifact_named_fault, crate::specs::Sequences::behind))]
+#[tactic(auto, unfolding(crate::specs::ArtifactNames::artifact_named_fault, name_parts::specs::Sequences::behind))]
 fn read_named(alloc: Global, text: &[u8]) -> Result<ArtifactName, NameFault>
     ensures ok { IfOk result (λ a. text.now ≡ artifact_name a) }
     ensures grammar { IfOk result (λ a. IsArtifactName a (artifact_name a)) }

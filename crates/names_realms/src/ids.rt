@@ -2,11 +2,7 @@
 ghost use Rattle.std.specs.Prelude.{◌≡◌, ◌≢◌, ◌++◌, ◌↔◌, IfOk, IfErr, OnOk, OnErr, IsTrue, Some, ℕ, List};
 ghost use Rattle.names_realms.specs.Names.{IsArtifactId, IsInvocationId, IsInvocationName, IsResultId, IsTestId, artifact_id_fault, invocation_id_fault, invocation_name_fault, result_id_fault, test_id_fault};
 
-use crate::NameFault;
-use crate::alphabets::Alphabet;
-use crate::parts::{PartForm, read_part};
-use crate::sequences::read_name;
-use crate::texts::{append, same};
+use name_parts::{Alphabet, NameFault, PartForm, append, read_name, read_part, same};
 use std::alloc::{AllocError, Global};
 use std::marker::Model;
 

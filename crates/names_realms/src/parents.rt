@@ -1,15 +1,12 @@
 //! What holds artifacts.
 ghost use Rattle.std.specs.Prelude.{◌≡◌, ◌≢◌, ◌≤◌, ◌++◌, List, ℕ, codes, length, IfOk, IfErr, OnOk, OnErr, Some};
-ghost use Rattle.names_realms.specs.Parts.{place_of};
+ghost use Rattle.name_parts.specs.Parts.{place_of};
 ghost use Rattle.names_realms.specs.declared.parents.Parent.{Parent};
 ghost use Rattle.names_realms.specs.Parents.{IsParentName, parent_fault, parent_name, parent_named_fault, parent_parts_fault};
 
-use crate::NameFault;
 use crate::ids::InvocationId;
-use crate::parts::moved;
 use crate::result_names::{ResultName, push_result_name, read_all_parts, read_invocation};
-use crate::sequences::rest_behind;
-use crate::texts::{append, len_before};
+use name_parts::{NameFault, append, len_before, moved, rest_behind};
 use std::alloc::{AllocError, Global};
 
 /// What holds artifacts: an invocation, or a result.
@@ -40,7 +37,7 @@ fn read_parts(alloc: Global, text: &[u8]) -> Result<Parent, NameFault>
 }
 
 /// Reads a parent's name.
-#[tactic(auto, unfolding(crate::specs::Parents::parent_named_fault, crate::specs::Sequences::behind))]
+#[tactic(auto, unfolding(crate::specs::Parents::parent_named_fault, name_parts::specs::Sequences::behind))]
 fn read_named(alloc: Global, text: &[u8]) -> Result<Parent, NameFault>
     ensures ok { IfOk result (λ p. IsParentName p text.now) }
     ensures fault { IfErr result (λ f. f ≢ NameFault.Memory → parent_named_fault text.now ≡ Some f) }

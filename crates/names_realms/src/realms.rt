@@ -2,10 +2,10 @@
 ghost use Rattle.std.specs.Prelude.{◌≡◌, ◌≢◌, ◌+◌, ◌^◌, ◌<◌, ◌≤◌, ◌++◌, ◌↔◌, length, IfOk, IfErr, IfSome, OnOk, OnErr, IsTrue, Some};
 ghost use Rattle.names_realms.specs.Realms.{IsRealm, bad_subrealm_place, colon_fault, realm_fault};
 
-use crate::NameFault;
-use crate::alphabets::Alphabet;
-use crate::parts::{PartForm, fault_unless_empty, first_bad, limited, shifted_fault};
-use crate::texts::{append, bad_in_literal, len_before, owned_text, same};
+use name_parts::{
+    Alphabet, NameFault, PartForm, append, bad_in_literal, fault_unless_empty, first_bad,
+    len_before, limited, owned_text, same, shifted_fault,
+};
 use std::alloc::{AllocError, Global};
 use std::marker::Model;
 

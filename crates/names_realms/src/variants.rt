@@ -8,8 +8,8 @@ ghost use Rattle.sha2.specs.Hashers.{Holds256};
 ghost use Rattle.names_realms.specs.declared.pairs.Pair.{Pair};
 ghost use Rattle.names_realms.specs.Variants.{BeginsAfter, EndsBefore, IsAscending, IsFirstRepeat, label_of, pair_bytes};
 
-use crate::NameFault;
 use crate::pairs::Pair;
+use name_parts::NameFault;
 use sha2::{Digest, Sha256};
 use std::alloc::Global;
 use std::cmp::Ordering;

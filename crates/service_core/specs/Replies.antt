@@ -2,7 +2,7 @@
 use Rattle.std.specs.Prelude.{ℕ, List, ◌++◌, codes, None}
 use Rattle.serde_json.specs.Data.{Data, string, object, no_members, member}
 use Rattle.serde_json.specs.Written.{compact_text}
-use Rattle.names_realms.specs.Moments.{moment_text, IsInYears}
+use Rattle.moments_spans.specs.Moments.{moment_text, IsInYears}
 use Rattle.names_realms.specs.declared.states.State.{State}
 use Rattle.names_realms.specs.declared.states.State.TheVariants.{Active, Finalizing, Finalized}
 use Rattle.service_core.specs.declared.forms.Answer.{Answer}

@@ -2,7 +2,7 @@
 ghost use Rattle.std.specs.Prelude.{◌≡◌, ◌++◌, codes, IfOk, OnOk};
 ghost use Rattle.serde_json.specs.Data.{string, put};
 ghost use Rattle.serde_json.specs.View.{view, members_view};
-ghost use Rattle.names_realms.specs.Moments.{moment_text, IsInYears};
+ghost use Rattle.moments_spans.specs.Moments.{moment_text, IsInYears};
 ghost use Rattle.service_core.specs.Replies.{state_text, invocation_data, invocation_text, invocation_answer, IsPrintable, IsPrintableReply, reply_text};
 
 use crate::forms::Answer;

@@ -1,4 +1,4 @@
-use Rattle.names_realms.proofs.SequenceLemmas.{IsInvocationName-fault}
+use Rattle.names_realms.proofs.InvocationNameLemmas.{IsInvocationName-fault}
 use Rattle.names_realms.proofs.ids.InvocationId.parse_name.Goals as goal
 
 pub returns-in-Err-clause-refused : goal.returns-in-Err-clause-refused

@@ -3,7 +3,7 @@ use Rattle.std.specs.Prelude.{IsPermutation}
 use Rattle.std.specs.List.{insert}
 use Rattle.std.proofs.lemmas.List.{take_at}
 use Rattle.std.proofs.lemmas.List.Sorted.{IsPermutation-to_front, IsPermutation-cons, IsPermutation-insert, IsPermutation-trans, length_permutation}
-use Rattle.names_realms.specs.declared.faults.NameFault.TheVariants.{NotCanonical}
+use Rattle.name_parts.specs.declared.faults.NameFault.TheVariants.{NotCanonical}
 use Rattle.names_realms.specs.declared.pairs.Pair.{Pair}
 use Rattle.names_realms.specs.Variants.{IsAscending, EndsBefore, BeginsAfter}
 use Rattle.names_realms.proofs.VariantLemmas.{ascending-insert, get_behind}

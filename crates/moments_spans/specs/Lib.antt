@@ -1,0 +1,5 @@
+pub mod Civil
+pub mod Moments
+pub mod MomentReading
+pub mod Spans
+pub mod Laws

@@ -1,0 +1,4 @@
+pub mod Alphabets
+pub mod Parts
+pub mod Escapes
+pub mod Sequences
