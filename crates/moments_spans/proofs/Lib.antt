@@ -4,3 +4,11 @@ pub mod DigitLaws
 pub mod CalendarLaws
 pub mod MomentLaws
 pub mod SpanLaws
+pub mod ReaderLaws
+pub mod MomentReaders
+pub mod ClockReaders
+pub mod ZoneReaders
+pub mod WholeTexts
+pub mod MomentTexts
+pub mod SpanTexts
+pub mod SaidLaws

@@ -1,9 +1,27 @@
--- Laws of texts: what is printed is read as the value that was printed.
+-- Laws of texts: one text says one value, and what is printed says the value that was printed, and is read as it.
 use Rattle.std.specs.Prelude.{◌≡◌, ◌≢◌, ◌↔◌, ℕ, ◌≤◌, ◌<◌, ◌%◌, ℤ, Ok, List, [], ◌∷◌, ◌++◌, length, false}
 use Rattle.std.specs.Char.{is_ascii_digit}
 use Rattle.moments_spans.specs.Moments.{decimals, moment_text, IsInYears}
 use Rattle.moments_spans.specs.MomentReading.{decimals_from, moment_of}
+use Rattle.moments_spans.specs.MomentGrammar.{IsMomentText}
 use Rattle.moments_spans.specs.Spans.{most_span, span_of, span_text}
+use Rattle.moments_spans.specs.SpanGrammar.{IsSpanText}
+
+-- One text says at most one moment.
+abbrev pub OneMomentSaid : Type 0
+OneMomentSaid = (text : List ℕ) (micros other : ℤ) → IsMomentText text micros → IsMomentText text other → micros ≡ other
+
+-- One text says at most one span.
+abbrev pub OneSpanSaid : Type 0
+OneSpanSaid = (text : List ℕ) (micros other : ℕ) → IsSpanText text micros → IsSpanText text other → micros ≡ other
+
+-- Every moment that is printed is said by its text.
+abbrev pub PrintedMomentIsSaid : Type 0
+PrintedMomentIsSaid = (micros : ℤ) → IsInYears micros → IsMomentText (moment_text micros) micros
+
+-- Every span that is printed is said by its text.
+abbrev pub PrintedSpanIsSaid : Type 0
+PrintedSpanIsSaid = (micros : ℕ) → micros ≤ most_span → IsSpanText (span_text micros) micros
 
 -- Every moment that is printed is read as itself.
 abbrev pub PrintedMomentIsRead : Type 0

@@ -2,4 +2,6 @@ pub mod Civil
 pub mod Moments
 pub mod MomentReading
 pub mod Spans
+pub mod MomentGrammar
+pub mod SpanGrammar
 pub mod Laws

@@ -3,6 +3,7 @@ ghost use Rattle.std.specs.Prelude.{◌≡◌, ◌++◌, ◌≤◌, ◌<◌, ◌
 ghost use Rattle.std.specs.Int.{IsInRange, int_div_euclid, int_rem_euclid};
 ghost use Rattle.jiff.specs.Words.{IsBetween};
 ghost use Rattle.moments_spans.specs.MomentReading.{is_in_years, moment_judged, moment_of};
+ghost use Rattle.moments_spans.specs.MomentGrammar.{IsMomentFault, IsMomentText};
 ghost use Rattle.moments_spans.specs.Moments.{IsInYears, clock_text, date_text, decimals, four_digits, moment_text, text_of_day_and_clock, three_digits, two_digits};
 
 use crate::civil::{CivilDate, date_of};
@@ -159,6 +160,18 @@ fn judged(len: usize, read: Result<i64, usize>) -> Result<Moment, NameFault>
     }
 }
 
+/// Reads a moment from left to right.
+fn read(text: &[u8]) -> Result<Moment, NameFault>
+    ensures ok { IfOk result (λ m. moment_of text.now ≡ Ok m.micros) }
+    ensures range { IfOk result (λ m. IsInYears m.micros) }
+    ensures fault { IfErr result (λ f. moment_of text.now ≡ Err f) }
+{
+    if text.is_empty() {
+        return Err(NameFault::Empty);
+    }
+    judged(text.len(), moment(text))
+}
+
 impl Moment {
     /// Reads a moment of RFC 3339, all of the text: `YYYY-MM-DDTHH:MM:SS`, where there are decimals a point and one to nine digits,
     /// and `Z` or an offset as `+HH:MM`. What decimals say below a microsecond is dropped. `OutOfRange` where the moment is before the
@@ -166,13 +179,12 @@ impl Moment {
     pub fn parse(alloc: Global, text: &[u8]) -> Result<Moment, NameFault>
         ensures ok { IfOk result (λ m. moment_of text.now ≡ Ok m.micros) }
         ensures range { IfOk result (λ m. IsInYears m.micros) }
+        ensures said { IfOk result (λ m. IsMomentText text.now m.micros) }
         ensures fault { IfErr result (λ f. moment_of text.now ≡ Err f) }
+        ensures wrong { IfErr result (IsMomentFault text.now) }
     {
         let _ = alloc;
-        if text.is_empty() {
-            return Err(NameFault::Empty);
-        }
-        judged(text.len(), moment(text))
+        read(text)
     }
 
     /// The text of the moment, as `write_to` appends it. The moment must be of a year from 1 to 9999.

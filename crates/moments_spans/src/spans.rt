@@ -1,6 +1,7 @@
 //! Spans of time, and their one text.
 ghost use Rattle.std.specs.Prelude.{string_bytes, ◌≡◌, ◌≤◌, ◌<◌, ◌++◌, ◌+◌, ℕ, List, length, Ok, Err, IfOk, IfErr, OnOk, OnErr};
 ghost use Rattle.moments_spans.specs.MomentReading.{seen};
+ghost use Rattle.moments_spans.specs.SpanGrammar.{IsSpanFault, IsSpanText};
 ghost use Rattle.moments_spans.specs.Spans.{most_span, seconds_from, span_from, span_judged, span_of, span_text, whole_from};
 
 use crate::moment_reading::{byte, decimals};
@@ -97,6 +98,18 @@ fn push_span(alloc: Global, out: &mut String, micros: u64) -> Result<(), AllocEr
     out.push('s')
 }
 
+/// Reads a span from left to right.
+fn read(text: &[u8]) -> Result<Span, NameFault>
+    ensures ok { IfOk result (λ s. span_of text.now ≡ Ok s.micros) }
+    ensures range { IfOk result (λ s. s.micros ≤ most_span) }
+    ensures fault { IfErr result (λ f. span_of text.now ≡ Err f) }
+{
+    if text.is_empty() {
+        return Err(NameFault::Empty);
+    }
+    judged(text.len(), span_micros(text))
+}
+
 impl Span {
     /// Reads a span, all of the text: 1 to 12 digits, where there are decimals a point and one to nine digits, and `s`. What decimals
     /// say below a microsecond is dropped. `OutOfRange` where it is more than 315,576,000,000 seconds. Takes no memory, and so never
@@ -104,13 +117,12 @@ impl Span {
     pub fn parse(alloc: Global, text: &[u8]) -> Result<Span, NameFault>
         ensures ok { IfOk result (λ s. span_of text.now ≡ Ok s.micros) }
         ensures range { IfOk result (λ s. s.micros ≤ most_span) }
+        ensures said { IfOk result (λ s. IsSpanText text.now s.micros) }
         ensures fault { IfErr result (λ f. span_of text.now ≡ Err f) }
+        ensures wrong { IfErr result (IsSpanFault text.now) }
     {
         let _ = alloc;
-        if text.is_empty() {
-            return Err(NameFault::Empty);
-        }
-        judged(text.len(), span_micros(text))
+        read(text)
     }
 
     /// The text of the span, as `write_to` appends it.

@@ -5,3 +5,4 @@ pub mod CutLemmas
 pub mod SequenceLemmas
 pub mod EscapeLemmas
 pub mod ByteLemmas
+pub mod PlaceLaws

@@ -7,6 +7,7 @@
 mod alphabets;
 mod escapes;
 mod faults;
+pub mod laws;
 mod lists;
 mod parts;
 mod sequences;

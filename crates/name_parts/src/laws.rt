@@ -1,0 +1,13 @@
+//! Laws of the definitions that the contracts cite. These functions do nothing: what each of them ensures is the law.
+ghost use Rattle.name_parts.specs.Laws.{KeysBreakFirst, LettersBreakFirst};
+
+/// The bad place of a text is the first that breaks the grammar of its alphabet: some text of the grammar begins as it does up to
+/// there, and none with the byte there too.
+pub fn letters_break_first()
+    ensures { LettersBreakFirst }
+{}
+
+/// The bad place of a text is the first that breaks the grammar of keys.
+pub fn keys_break_first()
+    ensures { KeysBreakFirst }
+{}
