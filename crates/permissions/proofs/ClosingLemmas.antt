@@ -7,12 +7,13 @@ use Rattle.std.specs.List.{list_all}
 use Rattle.std.proofs.Math.ListN.{set}
 use Rattle.std.proofs.lemmas.Bool.{cases_Bool, eqb-true, and_parts}
 use Rattle.std.proofs.lemmas.List.{get_or-set_same, get_or-set_other, length-map}
-use Rattle.permissions.specs.declared.permission.Permission.{Permission}
+use Rattle.policy_checks.specs.declared.permission.Permission.{Permission}
 use Rattle.permissions.specs.declared.grants.Grant.{Grant}
-use Rattle.permissions.specs.declared.tables.PolicyTables.{PolicyTables}
+use Rattle.policy_tables.specs.declared.tables.PolicyTables.{PolicyTables}
 use Rattle.permissions.specs.Closing.{is_done, IsDone, IsFilled}
 use Rattle.permissions.specs.Cycle.{HasNoCycle}
-use Rattle.permissions.specs.Grants.{has_bit, granted, grants_at, IsGrantedFrom, IsGrantedRow, AreGrantedRows, AreGrants, AreRows}
+use Rattle.permissions.specs.Grants.{granted, grants_at, IsGrantedFrom, IsGrantedRow, AreGrantedRows, AreGrants, AreRows}
+use Rattle.permissions.specs.Masks.{has_bit}
 use Rattle.permissions.specs.Graph.{has, edges, IsGraph, IsWalkOn, ReachesOn}
 use Rattle.permissions.specs.Reach.{graph_of}
 use Rattle.permissions.proofs.GrantLemmas.{has_bit-or}

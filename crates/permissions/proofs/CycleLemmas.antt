@@ -7,15 +7,16 @@ use Rattle.std.specs.Cmp.{tied_itself}
 use Rattle.std.specs.Cmp.Lexicographic.{slice_cmp, nat_list_cmp_total}
 use Rattle.std.proofs.lemmas.Bool.{cases_Bool, eqb-true}
 use Rattle.std.proofs.lemmas.List.{length-map}
-use Rattle.permissions.specs.declared.findings.Finding.{Finding}
-use Rattle.permissions.specs.declared.tables.RealmTable.{RealmTable}
-use Rattle.permissions.specs.declared.tables.PolicyTables.{PolicyTables}
-use Rattle.permissions.specs.Findings.{at, lesser}
+use Rattle.policy_tables.specs.declared.findings.Finding.{Finding}
+use Rattle.policy_tables.specs.declared.tables.RealmTable.{RealmTable}
+use Rattle.policy_tables.specs.declared.tables.PolicyTables.{PolicyTables}
+use Rattle.policy_tables.specs.Findings.{at, lesser}
 use Rattle.permissions.specs.Graph.{ReachesOn}
-use Rattle.permissions.specs.Checks.{realm_names}
+use Rattle.policy_checks.specs.Checks.{realm_names}
 use Rattle.permissions.specs.Reach.{graph_of, ReachesItself}
 use Rattle.permissions.specs.Cycle.{HasNoCycle, IsLeastCycle, name_at, IsStep, IsLeastNamed, IsLeastBefore}
-use Rattle.permissions.proofs.ReachLemmas.{place_of-within, place_of-name, reached-name, itself_over_places, itself_over_names}
+use Rattle.policy_checks.proofs.PlaceLemmas.{place_of-within, place_of-name}
+use Rattle.permissions.proofs.ReachLemmas.{reached-name, itself_over_places, itself_over_names}
 
 less : (o : Ordering) → is_lt o ≡ true → o ≡ Less
 less Less e = refl

@@ -2,7 +2,7 @@
 use Rattle.std.proofs.Common.{◌≡◌, Option, Some, ap}
 use Rattle.std.specs.Option.{option_or}
 use Rattle.permissions.specs.declared.faults.PolicyFault.{PolicyFault}
-use Rattle.permissions.specs.declared.tables.PolicyTables.{PolicyTables}
+use Rattle.policy_tables.specs.declared.tables.PolicyTables.{PolicyTables}
 use Rattle.permissions.specs.Faults.{entries_fault, text_fault}
 
 or_first : (o p : Option PolicyFault) (f : PolicyFault) → o ≡ Some f → option_or o p ≡ Some f

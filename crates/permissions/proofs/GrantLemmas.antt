@@ -1,23 +1,19 @@
--- Bits of permissions, and what stands at the place of a name.
-use Rattle.std.proofs.Common.{◌≡◌, ℕ, ◌<◌, ◌^◌, ◌/◌, max, bit_and, true, false, ◌||◌, List, [], ◌∷◌, map, bit_or, Some, None, refl, sym, ap, ◌∙◌, inl, inr, arith, eq-eqb}
+-- Bits of permissions, and the bindings at the place of a name.
+use Rattle.std.proofs.Common.{◌≡◌, ℕ, ◌<◌, ◌^◌, ◌/◌, max, bit_and, true, false, ◌||◌, List, [], ◌∷◌, map, bit_or, Some, None, sym, ap, ◌∙◌, inl, inr, arith, eq-eqb}
 use Rattle.std.specs.Prelude.{◌==◌, ◌≢◌}
 use Rattle.std.specs.Int.{bit_at}
 use Rattle.std.specs.Str.{bytes_eq}
 use Rattle.std.proofs.lemmas.Bool.{cases_Bool, eqb-true}
 use Rattle.std.proofs.lemmas.Bool.Decides.{nat_tests}
 use Rattle.std.proofs.lemmas.Nat.Bits.{bit_at_or, bit_at-lt, bit_at-zero, bit_at-pow_same, bit_at-pow_other, shr_and_one}
-use Rattle.permissions.specs.declared.permission.Permission.{Permission}
-use Rattle.permissions.specs.declared.tables.Group.{Group}
-use Rattle.permissions.specs.declared.tables.Role.{Role}
-use Rattle.permissions.specs.declared.tables.RealmTable.{RealmTable}
-use Rattle.permissions.specs.Allows.{role_at, group_at}
-use Rattle.permissions.specs.Grants.{has_bit, bindings_at}
-use Rattle.permissions.specs.Index.{place_of}
-use Rattle.permissions.specs.Permissions.{permission_number}
-use Rattle.permissions.specs.Places.{role_texts_at, members_at_place}
+use Rattle.policy_checks.specs.declared.permission.Permission.{Permission}
+use Rattle.policy_tables.specs.declared.tables.RealmTable.{RealmTable}
+use Rattle.permissions.specs.Grants.{bindings_at}
+use Rattle.permissions.specs.Masks.{has_bit}
+use Rattle.policy_checks.specs.Index.{place_of}
+use Rattle.permissions.specs.Masks.{permission_number}
 use Rattle.permissions.specs.Reach.{realm_at}
-use Rattle.permissions.proofs.IndexLemmas.{not_there}
-use Rattle.permissions.proofs.ReachLemmas.{place_step}
+use Rattle.policy_checks.proofs.PlaceLemmas.{place_step}
 
 pub has_bit-zero : (p : Permission) → has_bit 0 p ≡ false
 unfolding has_bit
@@ -43,29 +39,7 @@ pub has_bit-pow : (q p : Permission) → has_bit (2 ^ permission_number q) p ≡
 unfolding has_bit
 has_bit-pow q p = one_bit (permission_number q) (permission_number p)
 
--- what stands at the place of a name is that of the name
-pub role_place : (name : List ℕ) (roles : List Role) (p : ℕ) → place_of name (map (λ r. r.name) roles) ≡ Some p → role_texts_at roles p ≡ (role_at name roles).permissions
-role_place name [] p e = let no : None ≡ Some p = e in cc
-role_place name (r ∷ rs) p e = elim (place_step (bytes_eq name r.name) (place_of name (map (λ r. r.name) rs)) p e) [
-  | inl h ↦ ap (λ (i : ℕ). role_texts_at (r ∷ rs) i) h.1 ∙ rw h.0
-  | inr h ↦ let (q, is, next) = h.1 in ap (λ (i : ℕ). role_texts_at (r ∷ rs) i) next ∙ role_place name rs q is ∙ rw h.0
-]
-
-pub role_none : (name : List ℕ) (roles : List Role) → place_of name (map (λ r. r.name) roles) ≡ None → [] ≡ (role_at name roles).permissions
-role_none name [] e = refl
-role_none name (r ∷ rs) e = let none = not_there (bytes_eq name r.name) (place_of name (map (λ r. r.name) rs)) e in rw none.0 (role_none name rs none.1)
-
-pub group_place : (name : List ℕ) (groups : List Group) (p : ℕ) → place_of name (map (λ g. g.name) groups) ≡ Some p → members_at_place groups p ≡ (group_at name groups).members
-group_place name [] p e = let no : None ≡ Some p = e in cc
-group_place name (r ∷ rs) p e = elim (place_step (bytes_eq name r.name) (place_of name (map (λ g. g.name) rs)) p e) [
-  | inl h ↦ ap (λ (i : ℕ). members_at_place (r ∷ rs) i) h.1 ∙ rw h.0
-  | inr h ↦ let (q, is, next) = h.1 in ap (λ (i : ℕ). members_at_place (r ∷ rs) i) next ∙ group_place name rs q is ∙ rw h.0
-]
-
-pub group_none : (name : List ℕ) (groups : List Group) → place_of name (map (λ g. g.name) groups) ≡ None → [] ≡ (group_at name groups).members
-group_none name [] e = refl
-group_none name (r ∷ rs) e = let none = not_there (bytes_eq name r.name) (place_of name (map (λ g. g.name) rs)) e in rw none.0 (group_none name rs none.1)
-
+-- the bindings at the place of a name are those of the name
 pub realm_place : (name : List ℕ) (realms : List RealmTable) (p : ℕ) → place_of name (map (λ r. r.name) realms) ≡ Some p → bindings_at realms p ≡ (realm_at name realms).bindings
 realm_place name [] p e = let no : None ≡ Some p = e in cc
 realm_place name (r ∷ rs) p e = elim (place_step (bytes_eq name r.name) (place_of name (map (λ r. r.name) rs)) p e) [

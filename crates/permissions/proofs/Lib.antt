@@ -2,11 +2,8 @@ pub mod BitLemmas
 pub mod ClosingLemmas
 pub mod CycleLemmas
 pub mod FaultLemmas
-pub mod FormLemmas
 pub mod GrantLemmas
 pub mod GraphLemmas
-pub mod IndexLemmas
 pub mod ReachLemmas
 pub mod RootLemmas
 pub mod RowLemmas
-pub mod SpotLemmas

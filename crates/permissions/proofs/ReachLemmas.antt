@@ -5,34 +5,15 @@ use Rattle.std.proofs.lemmas.List.{length-map}
 use Rattle.std.specs.Str.{bytes_eq}
 use Rattle.std.specs.Cmp.Lexicographic.{bytes_decides}
 use Rattle.std.proofs.lemmas.Bool.{cases_Bool, eqb-true}
-use Rattle.permissions.specs.declared.tables.RealmTable.{RealmTable}
-use Rattle.permissions.specs.declared.tables.PolicyTables.{PolicyTables}
-use Rattle.permissions.specs.Document.{with_entry}
-use Rattle.permissions.specs.Index.{place_of}
-use Rattle.permissions.specs.Checks.{is_there, realm_names}
-use Rattle.permissions.proofs.IndexLemmas.{not_there}
+use Rattle.policy_tables.specs.declared.tables.RealmTable.{RealmTable}
+use Rattle.policy_tables.specs.declared.tables.PolicyTables.{PolicyTables}
+use Rattle.policy_tables.specs.Document.{with_entry}
+use Rattle.policy_checks.specs.Index.{place_of}
+use Rattle.policy_checks.specs.Checks.{is_there, realm_names}
+use Rattle.policy_checks.proofs.IndexLemmas.{not_there}
+use Rattle.policy_checks.proofs.PlaceLemmas.{place_step, place_of-within, place_of-name}
 use Rattle.permissions.specs.Graph.{has, edges, IsGraph, IsWalkOn, ReachesOn}
 use Rattle.permissions.specs.Reach.{realm_at, extended, IsWalk, ReachesItself, places_in, graph_from, graph_of}
-
--- the first place is within, and has the name
-pub place_step : (t : Bool) (o : Option ℕ) (q : ℕ) → cond t (Some 0) (option_map suc o) ≡ Some q → ((t ≡ true) × (q ≡ 0)) ⊎ ((t ≡ false) × ((r : ℕ) × (o ≡ Some r) × (q ≡ suc r)))
-place_step true o q e = inl (refl, cc)
-place_step false None q e = let no : None ≡ Some q = e in cc
-place_step false (Some r) q e = let is : Some (suc r) ≡ Some q = e in inr (refl, (r, refl, cc))
-
-pub place_of-within : (x : List ℕ) (names : List (List ℕ)) (q : ℕ) → place_of x names ≡ Some q → q < length names
-place_of-within x [] q e = let no : None ≡ Some q = e in cc
-place_of-within x (n ∷ ns) q e = elim (place_step (bytes_eq x n) (place_of x ns) q e) [
-  | inl h ↦ omega (arith, h.1)
-  | inr h ↦ let (r, is, next) = h.1 in omega (arith, next, place_of-within x ns r is)
-]
-
-pub place_of-name : (x : List ℕ) (names : List (List ℕ)) (q : ℕ) → place_of x names ≡ Some q → get_or names q [] ≡ x
-place_of-name x [] q e = let no : None ≡ Some q = e in cc
-place_of-name x (n ∷ ns) q e = elim (place_step (bytes_eq x n) (place_of x ns) q e) [
-  | inl h ↦ ap (λ (i : ℕ). get_or (n ∷ ns) i []) h.1 ∙ sym ((bytes_decides x n).0 h.0)
-  | inr h ↦ let (r, is, next) = h.1 in ap (λ (i : ℕ). get_or (n ∷ ns) i []) next ∙ place_of-name x ns r is
-]
 
 -- the places that a place leads to are those that its realm extends
 edges_from : (names : List (List ℕ)) (a : List ℕ) (realms : List RealmTable) (p : ℕ) → place_of a (map (λ r. r.name) realms) ≡ Some p

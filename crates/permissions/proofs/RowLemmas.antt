@@ -5,17 +5,19 @@ use Rattle.std.specs.List.{list_any}
 use Rattle.std.proofs.Math.ListN.{set}
 use Rattle.std.proofs.lemmas.Bool.{cases_Bool, eqb-true}
 use Rattle.std.proofs.lemmas.List.{get_or-set_same, get_or-set_other, length-map}
-use Rattle.permissions.specs.declared.permission.Permission.{Permission}
+use Rattle.policy_checks.specs.declared.permission.Permission.{Permission}
 use Rattle.permissions.specs.declared.grants.Grant.{Grant}
-use Rattle.permissions.specs.declared.tables.PolicyTables.{PolicyTables}
+use Rattle.policy_tables.specs.declared.tables.PolicyTables.{PolicyTables}
 use Rattle.permissions.specs.Allows.{binds_in, binds, root_of, Allows}
-use Rattle.permissions.specs.Checks.{realm_names}
-use Rattle.permissions.specs.Grants.{has_bit, granted, grants_at, bindings_at, AreGrants, IsGrantedRow, AreGrantedRows, IsBoundFrom, IsRow, AreRows, IsBoundByName}
+use Rattle.policy_checks.specs.Checks.{realm_names}
+use Rattle.permissions.specs.Grants.{granted, grants_at, bindings_at, AreGrants, IsGrantedRow, AreGrantedRows, IsBoundFrom, IsRow, AreRows, IsBoundByName}
+use Rattle.permissions.specs.Masks.{has_bit}
 use Rattle.permissions.specs.Graph.{has, ReachesOn}
-use Rattle.permissions.specs.Index.{place_of}
+use Rattle.policy_checks.specs.Index.{place_of}
 use Rattle.permissions.specs.Reach.{IsWalk, graph_of}
 use Rattle.permissions.proofs.GrantLemmas.{has_bit-zero, has_bit-or, realm_place}
-use Rattle.permissions.proofs.ReachLemmas.{PlacesWalk, walk_over_places, walk_over_names, not_there-extended, no_walk, place_of-within}
+use Rattle.permissions.proofs.ReachLemmas.{PlacesWalk, walk_over_places, walk_over_names, not_there-extended, no_walk}
+use Rattle.policy_checks.proofs.PlaceLemmas.{place_of-within}
 
 or_false : (b : Bool) → b ≡ (b || false)
 or_false true = refl

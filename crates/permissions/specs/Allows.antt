@@ -1,27 +1,16 @@
 -- Who may do what.
-use Rattle.std.specs.Prelude.{◌≡◌, ◌⊎◌, ℕ, Bool, true, false, ◌&&◌, ◌||◌, ◌==◌, List, [], ◌∷◌, ◌++◌, take, Option, Some, None, codes, if◌then◌else◌}
+use Rattle.std.specs.Prelude.{◌≡◌, ◌⊎◌, ℕ, Bool, true, false, ◌&&◌, ◌||◌, ◌==◌, List, ◌++◌, take, Option, Some, None, codes}
 use Rattle.std.specs.List.{list_any}
-use Rattle.std.specs.Str.{bytes_eq}
 use Rattle.names_realms.specs.Realms.{project_len}
-use Rattle.permissions.specs.declared.permission.Permission.{Permission}
-use Rattle.permissions.specs.declared.tables.Group.{Group}
-use Rattle.permissions.specs.declared.tables.Role.{Role}
-use Rattle.permissions.specs.declared.tables.Binding.{Binding}
-use Rattle.permissions.specs.declared.tables.PolicyTables.{PolicyTables}
-use Rattle.permissions.specs.Index.{place_of}
-use Rattle.permissions.specs.Checks.{user_names, behind}
-use Rattle.permissions.specs.Permissions.{permission_number, permission_of}
+use Rattle.policy_checks.specs.declared.permission.Permission.{Permission}
+use Rattle.policy_tables.specs.declared.tables.Binding.{Binding}
+use Rattle.policy_tables.specs.declared.tables.PolicyTables.{PolicyTables}
+use Rattle.policy_checks.specs.Index.{place_of}
+use Rattle.policy_checks.specs.Checks.{user_names, behind}
+use Rattle.policy_checks.specs.Permissions.{permission_of}
+use Rattle.policy_checks.specs.Places.{role_at, group_at}
+use Rattle.permissions.specs.Masks.{permission_number}
 use Rattle.permissions.specs.Reach.{realm_at, Reaches}
-
--- the role of a name; one that isn't there holds nothing
-abbrev pub role_at : List ℕ → List Role → Role
-role_at name [] = record { name = name; permissions = [] }
-role_at name (r ∷ rs) = if bytes_eq name r.name then r else role_at name rs
-
--- the group of a name; one that isn't there has no members
-abbrev pub group_at : List ℕ → List Group → Group
-group_at name [] = record { name = name; members = [] }
-group_at name (g ∷ gs) = if bytes_eq name g.name then g else group_at name gs
 
 -- the permission of a text is this one
 abbrev pub is_permission : Permission → Option Permission → Bool

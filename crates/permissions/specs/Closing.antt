@@ -1,10 +1,11 @@
 -- Rows that are made in an order.
 use Rattle.std.specs.Prelude.{◌≡◌, ◌<◌, ◌||◌, ℕ, Bool, true, false, List, [], length, slice_index_or}
 use Rattle.std.specs.List.{list_any}
-use Rattle.permissions.specs.declared.permission.Permission.{Permission}
+use Rattle.policy_checks.specs.declared.permission.Permission.{Permission}
 use Rattle.permissions.specs.declared.grants.Grant.{Grant}
 use Rattle.permissions.specs.Graph.{has, edges, ReachesOn}
-use Rattle.permissions.specs.Grants.{has_bit, granted, grants_at, IsGrantedRow}
+use Rattle.permissions.specs.Grants.{granted, grants_at, IsGrantedRow}
+use Rattle.permissions.specs.Masks.{has_bit}
 
 -- the place is done
 abbrev pub is_done : List Bool → ℕ → Bool

@@ -2,10 +2,10 @@
 use Rattle.std.specs.Prelude.{◌≡◌, ◌⊎◌, ◌<◌, ℕ, false, List, [], Option, Some, None, map, slice_index_or}
 use Rattle.std.specs.Ordering.{nat_cmp, is_lt}
 use Rattle.std.specs.Cmp.Lexicographic.{slice_cmp}
-use Rattle.permissions.specs.declared.findings.Finding.{Finding}
-use Rattle.permissions.specs.declared.tables.RealmTable.{RealmTable}
-use Rattle.permissions.specs.declared.tables.PolicyTables.{PolicyTables}
-use Rattle.permissions.specs.Findings.{at, lesser}
+use Rattle.policy_tables.specs.declared.findings.Finding.{Finding}
+use Rattle.policy_tables.specs.declared.tables.RealmTable.{RealmTable}
+use Rattle.policy_tables.specs.declared.tables.PolicyTables.{PolicyTables}
+use Rattle.policy_tables.specs.Findings.{at, lesser}
 use Rattle.permissions.specs.Graph.{ReachesOn}
 use Rattle.permissions.specs.Reach.{ReachesItself}
 

@@ -3,17 +3,17 @@ use Rattle.std.specs.Prelude.{◌≡◌, ◌≢◌, ◌<◌, ◌≤◌, ℕ, ◌
 use Rattle.std.specs.Option.{option_or}
 use Rattle.toml.specs.Data.{Members}
 use Rattle.toml.specs.Parse.{parse_document}
-use Rattle.permissions.specs.declared.findings.Finding.{Finding}
+use Rattle.policy_tables.specs.declared.findings.Finding.{Finding}
 use Rattle.permissions.specs.declared.faults.PolicyFault.{PolicyFault}
 use Rattle.permissions.specs.declared.faults.PolicyFault.TheVariants.{NotToml, BadName, UnknownRole, UnknownRealm, RealmCycle, TwoOwners, TooMany, BadShape, UnknownPrincipal, Memory}
-use Rattle.permissions.specs.declared.tables.User.{User}
-use Rattle.permissions.specs.declared.tables.PolicyTables.{PolicyTables}
-use Rattle.permissions.specs.declared.texts.Check.{Check}
-use Rattle.permissions.specs.declared.texts.Check.TheVariants.{Form, Roles, Realms, Principals}
-use Rattle.permissions.specs.Findings.{at, least_of}
-use Rattle.permissions.specs.Document.{shape_findings, tables_of}
-use Rattle.permissions.specs.Checks.{is_there}
-use Rattle.permissions.specs.Spots.{failing, all_spots}
+use Rattle.policy_tables.specs.declared.tables.User.{User}
+use Rattle.policy_tables.specs.declared.tables.PolicyTables.{PolicyTables}
+use Rattle.policy_checks.specs.declared.texts.Check.{Check}
+use Rattle.policy_checks.specs.declared.texts.Check.TheVariants.{Form, Roles, Realms, Principals}
+use Rattle.policy_tables.specs.Findings.{at, least_of}
+use Rattle.policy_tables.specs.Document.{shape_findings, tables_of}
+use Rattle.policy_checks.specs.Checks.{is_there}
+use Rattle.policy_checks.specs.Spots.{failing, all_spots}
 use Rattle.permissions.specs.Cycle.{HasNoCycle, IsLeastCycle}
 
 abbrev pub fault_number : PolicyFault → ℕ

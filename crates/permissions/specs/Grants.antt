@@ -1,20 +1,15 @@
 -- What realms grant, by places.
 use Rattle.std.specs.Prelude.{◌≡◌, ◌⊎◌, ◌↔◌, ◌<◌, ℕ, Bool, true, ◌&&◌, ◌==◌, List, [], length, map, slice_index_or}
-use Rattle.std.specs.Int.{bit_at}
 use Rattle.std.specs.List.{list_any}
-use Rattle.permissions.specs.declared.permission.Permission.{Permission}
+use Rattle.policy_checks.specs.declared.permission.Permission.{Permission}
 use Rattle.permissions.specs.declared.grants.Grant.{Grant}
-use Rattle.permissions.specs.declared.tables.Binding.{Binding}
-use Rattle.permissions.specs.declared.tables.RealmTable.{RealmTable}
-use Rattle.permissions.specs.declared.tables.PolicyTables.{PolicyTables}
+use Rattle.policy_tables.specs.declared.tables.Binding.{Binding}
+use Rattle.policy_tables.specs.declared.tables.RealmTable.{RealmTable}
+use Rattle.policy_tables.specs.declared.tables.PolicyTables.{PolicyTables}
 use Rattle.permissions.specs.Allows.{binds_in, binds}
-use Rattle.permissions.specs.Permissions.{permission_number}
+use Rattle.permissions.specs.Masks.{has_bit}
 use Rattle.permissions.specs.Graph.{ReachesOn}
 use Rattle.permissions.specs.Reach.{graph_of, Reaches}
-
--- the permission's bit is set
-unfoldable pub has_bit : ℕ → Permission → Bool
-has_bit mask p = bit_at mask (permission_number p) == 1
 
 -- a grant gives the permission to the user
 abbrev pub granted : ℕ → Permission → List Grant → Bool

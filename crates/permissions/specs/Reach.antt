@@ -1,11 +1,11 @@
 -- Which realms are reached from which.
 use Rattle.std.specs.Prelude.{◌≡◌, ℕ, true, List, [], ◌∷◌, map, if◌then◌else◌}
 use Rattle.std.specs.Str.{bytes_eq}
-use Rattle.permissions.specs.declared.tables.RealmTable.{RealmTable}
-use Rattle.permissions.specs.declared.tables.PolicyTables.{PolicyTables}
-use Rattle.permissions.specs.Document.{with_entry}
-use Rattle.permissions.specs.Index.{place_of}
-use Rattle.permissions.specs.Checks.{is_there, realm_names}
+use Rattle.policy_tables.specs.declared.tables.RealmTable.{RealmTable}
+use Rattle.policy_tables.specs.declared.tables.PolicyTables.{PolicyTables}
+use Rattle.policy_tables.specs.Document.{with_entry}
+use Rattle.policy_checks.specs.Index.{place_of}
+use Rattle.policy_checks.specs.Checks.{is_there, realm_names}
 
 -- the realm of a name; one that isn't configured extends none, and has no bindings
 abbrev pub realm_at : List ℕ → List RealmTable → RealmTable

@@ -1,16 +1,14 @@
 //! The realm that reaches itself, of several the one with the least name.
 ghost use Rattle.std.specs.Prelude.{◌≡◌, ◌↔◌, ◌⊎◌, ◌<◌, ℕ, true, List, [], None, Some, OnOk, IfOk, MatchOption, length, slice_index_or};
-ghost use Rattle.permissions.specs.Checks.{realm_names};
-ghost use Rattle.permissions.specs.Findings.{at, lesser};
+ghost use Rattle.policy_checks.specs.Checks.{realm_names};
+ghost use Rattle.policy_tables.specs.Findings.{at, lesser};
 ghost use Rattle.permissions.specs.Graph.{IsGraph, ReachesOn, has};
 ghost use Rattle.permissions.specs.Cycle.{IsStep, IsLeastBefore, IsLeastCycle, HasNoCycle};
 ghost use Rattle.permissions.specs.Reach.{graph_of};
 
-use crate::book::Book;
-use crate::findings::{Finding, note_path};
 use crate::graph::reached_from;
-use crate::listed::Listed;
-use crate::tables::RealmTable;
+use policy_checks::Book;
+use policy_tables::{Finding, Listed, RealmTable, note_path};
 use std::alloc::{AllocError, Global};
 
 /// Whether a place is one of these.

@@ -2,7 +2,7 @@
 ghost use Rattle.std.specs.Prelude.{◌≡◌};
 ghost use Rattle.permissions.specs.Faults.{fault_number, fault_name};
 
-use names_realms::Bytes;
+use name_parts::Bytes;
 use std::alloc::{AllocError, AllocFailed};
 
 /// Why a configuration is refused. A path is keys joined by points, with places in lists in decimal from 0.

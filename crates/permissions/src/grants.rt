@@ -1,17 +1,16 @@
 //! What a realm's own bindings grant.
 ghost use Rattle.std.specs.Prelude.{◌≡◌, ◌<◌, ℕ, true, false, ◌&&◌, ◌||◌, ◌==◌, List, [], OnOk, IfOk, length, option_map, slice_index_or};
 ghost use Rattle.std.specs.List.{list_any};
-ghost use Rattle.permissions.specs.declared.permission.Permission.{Permission as PermissionOf};
-ghost use Rattle.permissions.specs.Permissions.{permission_number, permission_of};
+ghost use Rattle.policy_checks.specs.declared.permission.Permission.{Permission as PermissionOf};
+ghost use Rattle.policy_checks.specs.Permissions.{permission_of};
 ghost use Rattle.permissions.specs.Allows.{is_permission, holds, is_user, is_this_user, has_this_user, gives, binds_in};
-ghost use Rattle.permissions.specs.Grants.{has_bit, granted, grants_at, AreGrants};
+ghost use Rattle.permissions.specs.Masks.{has_bit};
+ghost use Rattle.permissions.specs.Grants.{granted, grants_at, AreGrants};
 
-use crate::book::{Book, members_of, role_texts};
-use crate::check::rest_behind;
-use crate::listed::Listed;
-use crate::permission::Permission;
-use crate::tables::{Binding, RealmTable};
-use names_realms::Bytes;
+use crate::masks::bit_of;
+use name_parts::Bytes;
+use policy_checks::{Book, Permission, members_of, rest_behind, role_texts};
+use policy_tables::{Binding, Listed};
 use std::alloc::{AllocError, Global};
 
 /// Permissions that a user has: a bit for each.
@@ -26,7 +25,7 @@ fn with_text(mask: u16, text: &[u8]) -> u16
     ensures { (p : PermissionOf) → has_bit result p ≡ (has_bit mask p || is_permission p (permission_of text.now)) }
 {
     match Permission::from_text(text) {
-        Some(permission) => mask | permission.bit(),
+        Some(permission) => mask | bit_of(permission),
         None => mask,
     }
 }

@@ -2,7 +2,7 @@
 ghost use Rattle.std.specs.Prelude.{◌≡◌, ◌↔◌, ◌<◌, ◌||◌, ◌==◌, ℕ, Bool, true, false, List, [], IfOk, OnOk, length, take, slice_index_or};
 ghost use Rattle.permissions.specs.Graph.{has, edges, IsGraph, IsMarked, ReachesOn};
 
-use crate::listed::Listed;
+use policy_tables::Listed;
 use std::alloc::{AllocError, Global};
 
 /// The places that a place leads to.

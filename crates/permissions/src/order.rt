@@ -1,6 +1,6 @@
 //! An order in which each realm stands behind those that it extends, where there is one. What is made of it checks the order.
 use crate::graph::edges_of;
-use crate::listed::Listed;
+use policy_tables::Listed;
 use std::alloc::{AllocError, Global};
 
 /// A step of the walk that finds the order.

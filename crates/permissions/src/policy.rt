@@ -3,27 +3,26 @@ ghost use Rattle.std.specs.Prelude.{◌≡◌, ◌≢◌, ◌<◌, ◌≤◌, �
 ghost use Rattle.std.specs.List.{position};
 ghost use Rattle.hex.specs.Hex.{decode_of};
 ghost use Rattle.toml.specs.View.{table_view};
-ghost use Rattle.permissions.specs.Checks.{user_names};
+ghost use Rattle.policy_checks.specs.Checks.{user_names};
 ghost use Rattle.permissions.specs.Allows.{Allows, root_of};
 ghost use Rattle.permissions.specs.Cycle.{HasNoCycle};
-ghost use Rattle.permissions.specs.Grants.{has_bit, AreRows, IsBoundByName};
+ghost use Rattle.permissions.specs.Grants.{AreRows, IsBoundByName};
 ghost use Rattle.permissions.specs.Reach.{graph_of};
 ghost use Rattle.names_realms.specs.Realms.{IsRealm, project_len};
 ghost use Rattle.permissions.specs.Faults.{most_bytes, IsToml, IsFirstFault, IsTablesFault, IsPolicyOf, IsSound, text_fault};
-ghost use Rattle.permissions.specs.Index.{place_of, IsIndexOf};
+ghost use Rattle.policy_checks.specs.Index.{place_of, IsIndexOf};
 
 use crate::PolicyFault;
-use crate::book::Book;
 use crate::caller::CallerId;
 use crate::hash::write_front;
-use crate::index::NameIndex;
-use crate::listed::Listed;
-use crate::permission::Permission;
+use crate::masks::is_in;
 use crate::realms::read_graph;
 use crate::rows::{close_rows, mask_at, row_at};
 use crate::stages::{check_entries, check_size, check_texts, check_tokens, read_shaped, read_toml};
-use crate::tables::PolicyTables;
-use names_realms::{Bytes, Realm};
+use name_parts::Bytes;
+use names_realms::Realm;
+use policy_checks::{Book, NameIndex, Permission};
+use policy_tables::{Listed, PolicyTables};
 use std::alloc::Global;
 use std::marker::Model;
 
@@ -39,7 +38,7 @@ pub struct Policy {
 impl Model for Policy {
     ghost use Rattle.std.specs.Prelude.{◌≡◌, Ok, map};
     ghost use Rattle.hex.specs.Hex.{decode_of};
-    ghost use Rattle.permissions.specs.declared.tables.PolicyTables.{PolicyTables};
+    ghost use Rattle.policy_tables.specs.declared.tables.PolicyTables.{PolicyTables};
     ghost use Rattle.permissions.specs.Policy.{IsKept};
 
     ghost Value = { PolicyTables };
@@ -172,10 +171,10 @@ impl Policy {
         ensures { (result ≡ true) ↔ IsBoundByName self.now name.now caller permission }
     {
         match self.book.realm(name) {
-            Some(place) => permission.is_in(mask_at(
-                row_at(self.rows.as_slice(), place),
-                caller.place(),
-            )),
+            Some(place) => {
+                let mask = mask_at(row_at(self.rows.as_slice(), place), caller.place());
+                is_in(mask, permission)
+            }
             None => false,
         }
     }

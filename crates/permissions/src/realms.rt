@@ -1,15 +1,14 @@
 //! The realms by their places, with the places that each extends.
 ghost use Rattle.std.specs.Prelude.{◌≡◌, ◌++◌, [], IfOk, OnOk};
-ghost use Rattle.permissions.specs.Index.{place_of};
-ghost use Rattle.permissions.specs.Checks.{realm_names};
-ghost use Rattle.permissions.specs.Document.{with_entry};
+ghost use Rattle.policy_checks.specs.Index.{place_of};
+ghost use Rattle.policy_checks.specs.Checks.{realm_names};
+ghost use Rattle.policy_tables.specs.Document.{with_entry};
 ghost use Rattle.permissions.specs.Graph.{IsGraph};
 ghost use Rattle.permissions.specs.Reach.{places_in, graph_from, graph_of};
 
-use crate::book::Book;
-use crate::listed::Listed;
-use crate::tables::RealmTable;
-use names_realms::Bytes;
+use name_parts::Bytes;
+use policy_checks::Book;
+use policy_tables::{Listed, RealmTable};
 use std::alloc::{AllocError, Global};
 
 /// Appends the place of a realm, where it is there.

@@ -1,21 +1,21 @@
 //! Each user's permissions from each realm, closed over what the realm reaches.
 ghost use Rattle.std.specs.Prelude.{◌≡◌, ◌↔◌, ◌<◌, ◌||◌, ◌&&◌, ◌==◌, ℕ, true, List, [], ◌≢◌, IfOk, IfErr, IfSome, OnOk, length, slice_index_or};
 ghost use Rattle.std.specs.List.{list_any};
-ghost use Rattle.permissions.specs.declared.permission.Permission.{Permission as PermissionOf};
+ghost use Rattle.policy_checks.specs.declared.permission.Permission.{Permission as PermissionOf};
 ghost use Rattle.permissions.specs.Cycle.{HasNoCycle, IsLeastCycle};
 ghost use Rattle.permissions.specs.Graph.{IsGraph};
-ghost use Rattle.permissions.specs.Grants.{has_bit, granted, grants_at, AreGrants, IsGrantedFrom, IsGrantedRow, AreGrantedRows, AreRows};
+ghost use Rattle.permissions.specs.Masks.{has_bit};
+ghost use Rattle.permissions.specs.Grants.{granted, grants_at, AreGrants, IsGrantedFrom, IsGrantedRow, AreGrantedRows, AreRows};
 ghost use Rattle.permissions.specs.Reach.{graph_of};
 
 use crate::PolicyFault;
-use crate::book::Book;
 use crate::closing::close_in_order;
 use crate::grants::{Grant, grants_of};
 use crate::graph::reached_from;
-use crate::listed::Listed;
 use crate::order::order_of;
 use crate::stages::check_cycle;
-use crate::tables::RealmTable;
+use policy_checks::Book;
+use policy_tables::{Listed, RealmTable};
 use std::alloc::{AllocError, Global};
 
 /// Gives its user what a grant gives.

@@ -2,24 +2,18 @@
 ghost use Rattle.std.specs.Prelude.{◌≡◌, ◌≢◌, ◌<◌, ◌≤◌, ℕ, ◌+◌, List, [], ◌∷◌, ◌++◌, None, Some, Ok, length, map, min, sum_by, IfOk, IfErr, OnOk, option_map, if◌then◌else◌};
 ghost use Rattle.toml.specs.Data.{Members};
 ghost use Rattle.toml.specs.View.{table_view};
-ghost use Rattle.permissions.specs.Findings.{at, least_with, least_of};
-ghost use Rattle.permissions.specs.Document.{shape_findings, tables_of};
-ghost use Rattle.permissions.specs.Checks.{is_there};
-ghost use Rattle.permissions.specs.Index.{IsIndexOf};
+ghost use Rattle.policy_tables.specs.Findings.{at, least_with, least_of};
+ghost use Rattle.policy_tables.specs.Document.{shape_findings, tables_of};
+ghost use Rattle.policy_checks.specs.Checks.{is_there};
+ghost use Rattle.policy_checks.specs.Index.{IsIndexOf};
 ghost use Rattle.permissions.specs.Cycle.{HasNoCycle, IsLeastCycle};
 ghost use Rattle.permissions.specs.Reach.{graph_of};
 ghost use Rattle.permissions.specs.Faults.{most_bytes, IsToml, shape_fault, capped, entries, entries_fault, check_fault, checked, text_fault, repeated, owners_fault, Answers};
 
 use crate::PolicyFault;
-use crate::book::Book;
 use crate::cycle::first_cycle;
-use crate::entries::read_tables;
-use crate::findings::{Finding, note_path};
-use crate::index::NameIndex;
-use crate::listed::Listed;
-use crate::tables::{PolicyTables, RealmTable, User};
-use crate::texts::Check;
-use crate::walk::first_failing;
+use policy_checks::{Book, Check, NameIndex, first_failing};
+use policy_tables::{Finding, Listed, PolicyTables, RealmTable, User, note_path, read_tables};
 use std::alloc::{AllocError, Global};
 use toml::Table;
 

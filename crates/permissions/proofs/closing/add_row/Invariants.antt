@@ -1,6 +1,6 @@
 use Rattle.std.proofs.Common.{◌≡◌, ℕ, ◌<◌, ◌≤◌, ◌||◌, length, get_or}
-use Rattle.permissions.specs.declared.permission.Permission.{Permission}
-use Rattle.permissions.specs.Grants.{has_bit}
+use Rattle.policy_checks.specs.declared.permission.Permission.{Permission}
+use Rattle.permissions.specs.Masks.{has_bit}
 use Rattle.permissions.proofs.closing.add_row.Given as goal
 
 abbrev pub invariant-loop-user : goal.invariant-loop-user

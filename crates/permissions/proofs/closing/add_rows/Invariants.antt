@@ -1,7 +1,7 @@
 use Rattle.std.proofs.Common.{◌≡◌, ℕ, ◌<◌, ◌||◌, [], length, take, get_or}
 use Rattle.std.specs.List.{list_any}
-use Rattle.permissions.specs.declared.permission.Permission.{Permission}
-use Rattle.permissions.specs.Grants.{has_bit}
+use Rattle.policy_checks.specs.declared.permission.Permission.{Permission}
+use Rattle.permissions.specs.Masks.{has_bit}
 use Rattle.permissions.proofs.closing.add_rows.Given as goal
 
 abbrev pub invariant-loop-place : goal.invariant-loop-place

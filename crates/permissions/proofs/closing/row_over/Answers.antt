@@ -2,7 +2,8 @@ use Rattle.std.proofs.Common.{◌≡◌, ℕ, List, [], ◌||◌, length, get_or
 use Rattle.std.specs.List.{list_any}
 use Rattle.std.proofs.lemmas.List.{take_at}
 use Rattle.permissions.specs.Closing.{IsFilled}
-use Rattle.permissions.specs.Grants.{has_bit, granted, grants_at}
+use Rattle.permissions.specs.Grants.{granted, grants_at}
+use Rattle.permissions.specs.Masks.{has_bit}
 use Rattle.permissions.proofs.GrantLemmas.{has_bit-zero}
 use Rattle.permissions.proofs.RowLemmas.{zeros_are}
 use Rattle.permissions.proofs.closing.row_over.Goals as goal

@@ -1,6 +1,6 @@
 use Rattle.std.proofs.Common.{◌≡◌, ℕ, take}
 use Rattle.std.specs.List.{list_any}
-use Rattle.permissions.specs.declared.permission.Permission.{Permission}
+use Rattle.policy_checks.specs.declared.permission.Permission.{Permission}
 use Rattle.permissions.specs.Allows.{binds_in}
 use Rattle.permissions.specs.Grants.{granted}
 use Rattle.permissions.proofs.grants.grants_of.Given as goal

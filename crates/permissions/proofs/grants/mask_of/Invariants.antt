@@ -1,9 +1,9 @@
 use Rattle.std.proofs.Common.{◌≡◌, take}
 use Rattle.std.specs.List.{list_any}
-use Rattle.permissions.specs.declared.permission.Permission.{Permission}
-use Rattle.permissions.specs.Permissions.{permission_of}
+use Rattle.policy_checks.specs.declared.permission.Permission.{Permission}
+use Rattle.policy_checks.specs.Permissions.{permission_of}
 use Rattle.permissions.specs.Allows.{is_permission}
-use Rattle.permissions.specs.Grants.{has_bit}
+use Rattle.permissions.specs.Masks.{has_bit}
 use Rattle.permissions.proofs.grants.mask_of.Given as goal
 
 abbrev pub invariant-loop-text : goal.invariant-loop-text

@@ -1,8 +1,9 @@
 use Rattle.std.proofs.Common.{◌≡◌, ℕ, ◌||◌, ◌&&◌, take}
 use Rattle.std.specs.List.{list_any}
-use Rattle.permissions.specs.declared.permission.Permission.{Permission}
+use Rattle.policy_checks.specs.declared.permission.Permission.{Permission}
 use Rattle.permissions.specs.Allows.{gives}
-use Rattle.permissions.specs.Grants.{has_bit, granted}
+use Rattle.permissions.specs.Grants.{granted}
+use Rattle.permissions.specs.Masks.{has_bit}
 use Rattle.permissions.proofs.grants.push_principals.Given as goal
 
 abbrev pub invariant-loop-text : goal.invariant-loop-text

@@ -1,8 +1,9 @@
 use Rattle.std.proofs.Common.{sym, ap, ◌∙◌}
 use Rattle.std.specs.List.{list_any}
-use Rattle.permissions.specs.Permissions.{permission_of}
+use Rattle.policy_checks.specs.Permissions.{permission_of}
 use Rattle.permissions.specs.Allows.{is_permission}
-use Rattle.permissions.proofs.GrantLemmas.{has_bit-zero, role_place, role_none}
+use Rattle.permissions.proofs.GrantLemmas.{has_bit-zero}
+use Rattle.policy_checks.proofs.PlaceLemmas.{role_place, role_none}
 use Rattle.permissions.proofs.grants.role_mask.Goals as goal
 
 pub returns-in-Some : goal.returns-in-Some

@@ -1,5 +1,5 @@
 use Rattle.std.proofs.Common.{◌≡◌, ◌++◌, drop}
-use Rattle.permissions.specs.Checks.{realm_names}
+use Rattle.policy_checks.specs.Checks.{realm_names}
 use Rattle.permissions.specs.Reach.{graph_from}
 use Rattle.permissions.proofs.realms.all_places.Given as goal
 

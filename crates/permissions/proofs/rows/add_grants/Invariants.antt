@@ -1,6 +1,7 @@
 use Rattle.std.proofs.Common.{◌≡◌, ℕ, ◌<◌, ◌||◌, length, take, get_or}
-use Rattle.permissions.specs.declared.permission.Permission.{Permission}
-use Rattle.permissions.specs.Grants.{has_bit, granted}
+use Rattle.policy_checks.specs.declared.permission.Permission.{Permission}
+use Rattle.permissions.specs.Grants.{granted}
+use Rattle.permissions.specs.Masks.{has_bit}
 use Rattle.permissions.proofs.rows.add_grants.Given as goal
 
 abbrev pub invariant-loop-grant : goal.invariant-loop-grant

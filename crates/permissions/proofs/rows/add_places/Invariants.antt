@@ -1,7 +1,8 @@
 use Rattle.std.proofs.Common.{◌≡◌, ℕ, ◌<◌, ◌||◌, length, take, get_or}
 use Rattle.std.specs.List.{list_any}
-use Rattle.permissions.specs.declared.permission.Permission.{Permission}
-use Rattle.permissions.specs.Grants.{has_bit, granted, grants_at}
+use Rattle.policy_checks.specs.declared.permission.Permission.{Permission}
+use Rattle.permissions.specs.Grants.{granted, grants_at}
+use Rattle.permissions.specs.Masks.{has_bit}
 use Rattle.permissions.proofs.rows.add_places.Given as goal
 
 abbrev pub invariant-loop-place : goal.invariant-loop-place

@@ -1,6 +1,6 @@
 use Rattle.std.proofs.Common.{◌≡◌, length, List, ap, subst, ◌∙◌}
 use Rattle.std.proofs.lemmas.Result.{IfOk-weaker}
-use Rattle.permissions.specs.declared.tables.RealmTable.{RealmTable}
+use Rattle.policy_tables.specs.declared.tables.RealmTable.{RealmTable}
 use Rattle.permissions.specs.Grants.{AreGrants}
 use Rattle.permissions.proofs.rows.own_grants.Goals as goal
 

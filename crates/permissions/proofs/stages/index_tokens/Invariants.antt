@@ -1,6 +1,6 @@
 use Rattle.std.proofs.Common.{◌≡◌, [], map, take, drop}
-use Rattle.permissions.specs.Findings.{least_with}
-use Rattle.permissions.specs.Index.{IsIndexOf}
+use Rattle.policy_tables.specs.Findings.{least_with}
+use Rattle.policy_checks.specs.Index.{IsIndexOf}
 use Rattle.permissions.specs.Faults.{repeated}
 use Rattle.permissions.proofs.stages.index_tokens.Given as goal
 

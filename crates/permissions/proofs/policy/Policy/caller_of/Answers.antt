@@ -1,6 +1,6 @@
 use Rattle.std.proofs.Common.{◌<◌, length, map, sym, ap, arith}
 use Rattle.std.proofs.lemmas.List.{length-map}
-use Rattle.permissions.proofs.ReachLemmas.{place_of-within}
+use Rattle.policy_checks.proofs.PlaceLemmas.{place_of-within}
 use Rattle.permissions.proofs.policy.Policy.caller_of.Goals as goal
 
 pub returns-in-Some-clause-there : goal.returns-in-Some-clause-there

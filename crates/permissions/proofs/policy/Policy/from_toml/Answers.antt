@@ -1,7 +1,7 @@
 use Rattle.std.proofs.Common.{subst}
 use Rattle.std.proofs.lemmas.Result.{err_from_is_err_and, IfErr-weaker}
 use Rattle.toml.specs.View.{table_view}
-use Rattle.permissions.specs.declared.tables.PolicyTables.{PolicyTables}
+use Rattle.policy_tables.specs.declared.tables.PolicyTables.{PolicyTables}
 use Rattle.permissions.specs.Faults.{IsTablesFault, size, toml, shape, tables}
 use Rattle.permissions.proofs.policy.Policy.from_toml.Goals as goal
 

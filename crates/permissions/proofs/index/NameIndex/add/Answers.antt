@@ -1,7 +1,0 @@
-use Rattle.std.proofs.Common.{sym, ◌∙◌}
-use Rattle.permissions.proofs.IndexLemmas.{place_of-again}
-use Rattle.permissions.proofs.index.NameIndex.add.Goals as goal
-
-pub returns-in-Some : goal.returns-in-Some
-returns-in-Some c = λ names is at q.
-    is q ∙ place_of-again c.args.name.now q names c.in-Some.field-0 (sym (c.in-Some.ensures names is))

@@ -1,0 +1,4 @@
+pub mod FormLemmas
+pub mod IndexLemmas
+pub mod PlaceLemmas
+pub mod SpotLemmas

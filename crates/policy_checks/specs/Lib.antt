@@ -1,0 +1,5 @@
+pub mod Checks
+pub mod Index
+pub mod Permissions
+pub mod Places
+pub mod Spots

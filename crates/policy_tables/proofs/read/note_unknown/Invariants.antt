@@ -1,0 +1,11 @@
+use Rattle.std.proofs.Common.{◌≡◌}
+use Rattle.toml.specs.View.{table_view, members_view}
+use Rattle.policy_tables.specs.Findings.{least_with}
+use Rattle.policy_tables.specs.Document.{unknown_keys}
+use Rattle.policy_tables.proofs.read.note_unknown.Given as goal
+
+-- what is noted so far, and what the keys to come will add, is what all keys add
+abbrev pub invariant-loop-key : goal.invariant-loop-key
+invariant-loop-key l =
+    least_with l.least (unknown_keys l.shape l.at (members_view l.key-iterator))
+    ≡ least_with l.initial.least (unknown_keys l.shape l.at (table_view l.table))

@@ -1,0 +1,16 @@
+//! The tables of a configuration, read from a TOML document, or the least path at which it isn't of their shape.
+#![tactic(auto)]
+
+mod entries;
+mod findings;
+mod listed;
+mod read;
+mod shape;
+mod tables;
+#[cfg(test)]
+mod tests;
+
+pub use entries::read_tables;
+pub use findings::{Finding, note_path, note_text, path_of_key, path_of_place};
+pub use listed::Listed;
+pub use tables::{Binding, Group, PolicyTables, RealmTable, Role, User};
