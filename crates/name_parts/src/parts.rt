@@ -108,7 +108,8 @@ pub fn shifted_fault(behind: usize, fault: Option<NameFault>) -> Option<NameFaul
     }
 }
 
-/// What is wrong with a part, where an empty one has a bad byte at its end: that it is too long, or else its first bad place.
+/// What is wrong with a part, where it is no fault of its own to be empty: that it is too long, else its first bad place, which is 0
+/// where it is empty.
 pub fn fault_unless_empty(form: PartForm, text: &[u8]) -> Option<NameFault>
     ensures value { result ≡ unempty_fault form text.now }
     ensures within { IfSome result (λ f. place_of f ≤ length text.now) }
