@@ -1,18 +1,18 @@
 -- The faults of a configuration, in the order in which they are looked for.
-use Rattle.std.specs.Prelude.{◌≡◌, ◌≢◌, ◌<◌, ◌≤◌, ℕ, ◌+◌, ◌-◌, ◌^◌, min, List, [], ◌∷◌, ◌++◌, length, sum_by, Option, Some, None, option_map, IsUtf8, codes, nat_lt, if◌then◌else◌, Result, MatchResult}
+use Rattle.std.specs.Prelude.{◌≡◌, ◌≢◌, ◌<◌, ◌≤◌, ℕ, List, [], length, Option, Some, None, option_map, IsUtf8, codes, nat_lt, if◌then◌else◌, Result, MatchResult}
 use Rattle.std.specs.Option.{option_or}
 use Rattle.toml.specs.Data.{Members}
 use Rattle.toml.specs.Parse.{parse_document}
 use Rattle.policy_tables.specs.declared.findings.Finding.{Finding}
 use Rattle.permissions.specs.declared.faults.PolicyFault.{PolicyFault}
 use Rattle.permissions.specs.declared.faults.PolicyFault.TheVariants.{NotToml, BadName, UnknownRole, UnknownRealm, RealmCycle, TwoOwners, TooMany, BadShape, UnknownPrincipal, Memory}
-use Rattle.policy_tables.specs.declared.tables.User.{User}
 use Rattle.policy_tables.specs.declared.tables.PolicyTables.{PolicyTables}
 use Rattle.policy_checks.specs.declared.texts.Check.{Check}
 use Rattle.policy_checks.specs.declared.texts.Check.TheVariants.{Form, Roles, Realms, Principals}
 use Rattle.policy_tables.specs.Findings.{at, least_of}
 use Rattle.policy_tables.specs.Document.{shape_findings, tables_of}
-use Rattle.policy_checks.specs.Checks.{is_there}
+use Rattle.policy_tables.specs.Entries.{entries}
+use Rattle.policy_checks.specs.Owners.{repeated}
 use Rattle.policy_checks.specs.Spots.{failing, all_spots}
 use Rattle.permissions.specs.Cycle.{HasNoCycle, IsLeastCycle}
 
@@ -55,13 +55,7 @@ IsToml text t = IsUtf8 text × (parse_document text ≡ Some t)
 unfoldable pub shape_fault : Members → Option PolicyFault
 shape_fault t = option_map (λ f. BadShape f.path) (least_of (shape_findings t))
 
--- the entries of the four tables, and all bindings, up to the greatest number that a count holds
-abbrev pub capped : ℕ → ℕ
-capped n = min n (2 ^ 64 - 1)
-
-abbrev pub entries : PolicyTables → ℕ
-entries t = capped (length t.users + length t.groups + length t.roles + length t.realms + sum_by (λ r. length r.bindings) t.realms)
-
+-- too many entries and bindings
 abbrev pub entries_fault : PolicyTables → Option PolicyFault
 entries_fault t = if nat_lt most_entries (entries t) then Some (TooMany (entries t)) else None
 
@@ -78,11 +72,6 @@ checked t check = option_map (check_fault check) (least_of (failing t check (all
 -- the first fault in the tables' texts: their number, their forms, then the names that aren't there
 abbrev pub text_fault : PolicyTables → Option PolicyFault
 text_fault t = option_or (entries_fault t) (option_or (checked t Form) (option_or (checked t Roles) (option_or (checked t Realms) (checked t Principals))))
-
--- each token that a user before has too, where users before have these
-abbrev pub repeated : List (List ℕ) → List User → List Finding
-repeated seen [] = []
-repeated seen (u ∷ us) = (if is_there u.token seen then at u.token ∷ [] else []) ++ repeated (seen ++ u.token ∷ []) us
 
 -- the least token that two users have
 unfoldable pub owners_fault : PolicyTables → Option PolicyFault

@@ -1,10 +1,10 @@
 //! Rows of permissions in an order: each is made of the rows of the places that it leads to.
-ghost use Rattle.std.specs.Prelude.{◌≡◌, ◌<◌, ◌||◌, ℕ, true, false, List, [], IfOk, IfSome, OnOk, length, slice_index_or};
+ghost use Rattle.std.specs.Prelude.{◌≡◌, ◌<◌, ◌||◌, ℕ, true, false, [], IfOk, IfSome, OnOk, length, slice_index_or};
 ghost use Rattle.std.specs.List.{list_any, list_all};
 ghost use Rattle.policy_checks.specs.declared.permission.Permission.{Permission as PermissionOf};
-ghost use Rattle.permissions.specs.Graph.{IsGraph, has, edges, ReachesOn};
+ghost use Rattle.permissions.specs.Graph.{IsGraph, ReachesOn};
 ghost use Rattle.permissions.specs.Masks.{has_bit};
-ghost use Rattle.permissions.specs.Grants.{granted, grants_at, IsGrantedRow, AreGrantedRows};
+ghost use Rattle.permissions.specs.Grants.{granted, grants_at, AreGrantedRows};
 ghost use Rattle.permissions.specs.Closing.{is_done, IsDone, IsFilled};
 
 use crate::grants::Grant;

@@ -1,7 +1,5 @@
 //! The realm that reaches itself, of several the one with the least name.
-ghost use Rattle.std.specs.Prelude.{◌≡◌, ◌↔◌, ◌⊎◌, ◌<◌, ℕ, true, List, [], None, Some, OnOk, IfOk, MatchOption, length, slice_index_or};
-ghost use Rattle.policy_checks.specs.Checks.{realm_names};
-ghost use Rattle.policy_tables.specs.Findings.{at, lesser};
+ghost use Rattle.std.specs.Prelude.{◌≡◌, ◌↔◌, ◌<◌, true, None, OnOk, IfOk, MatchOption, length};
 ghost use Rattle.permissions.specs.Graph.{IsGraph, ReachesOn, has};
 ghost use Rattle.permissions.specs.Cycle.{IsStep, IsLeastBefore, IsLeastCycle, HasNoCycle};
 ghost use Rattle.permissions.specs.Reach.{graph_of};

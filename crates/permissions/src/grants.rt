@@ -1,11 +1,11 @@
 //! What a realm's own bindings grant.
-ghost use Rattle.std.specs.Prelude.{◌≡◌, ◌<◌, ℕ, true, false, ◌&&◌, ◌||◌, ◌==◌, List, [], OnOk, IfOk, length, option_map, slice_index_or};
+ghost use Rattle.std.specs.Prelude.{◌≡◌, ◌<◌, ℕ, ◌&&◌, ◌||◌, OnOk, IfOk, option_map};
 ghost use Rattle.std.specs.List.{list_any};
 ghost use Rattle.policy_checks.specs.declared.permission.Permission.{Permission as PermissionOf};
 ghost use Rattle.policy_checks.specs.Permissions.{permission_of};
 ghost use Rattle.permissions.specs.Allows.{is_permission, holds, is_user, is_this_user, has_this_user, gives, binds_in};
 ghost use Rattle.permissions.specs.Masks.{has_bit};
-ghost use Rattle.permissions.specs.Grants.{granted, grants_at, AreGrants};
+ghost use Rattle.permissions.specs.Grants.{granted};
 
 use crate::masks::bit_of;
 use name_parts::Bytes;

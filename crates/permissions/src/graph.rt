@@ -1,5 +1,5 @@
 //! Which realms are reached from which, by places.
-ghost use Rattle.std.specs.Prelude.{◌≡◌, ◌↔◌, ◌<◌, ◌||◌, ◌==◌, ℕ, Bool, true, false, List, [], IfOk, OnOk, length, take, slice_index_or};
+ghost use Rattle.std.specs.Prelude.{◌≡◌, ◌↔◌, ◌<◌, ◌||◌, ◌==◌, ℕ, true, false, [], IfOk, OnOk, length, take};
 ghost use Rattle.permissions.specs.Graph.{has, edges, IsGraph, IsMarked, ReachesOn};
 
 use policy_tables::Listed;

@@ -1,5 +1,5 @@
 //! HMAC-SHA256, and the update tokens that are made with it.
-ghost use Rattle.std.specs.Prelude.{◌≡◌, ℕ, List, ◌++◌, ◌≤◌, length, drop, ◌↔◌, IsTrue};
+ghost use Rattle.std.specs.Prelude.{◌≡◌, ◌++◌, ◌≤◌, length, drop, ◌↔◌, IsTrue};
 ghost use Rattle.sha2.specs.Sha256.{sha256};
 ghost use Rattle.permissions.specs.Hash.{filled_block, key_block, padded_with, hmac, token_text};
 

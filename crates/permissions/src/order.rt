@@ -1,4 +1,5 @@
-//! An order in which each realm stands behind those that it extends, where there is one. What is made of it checks the order.
+//! An order in which each realm stands behind those that it extends, where there is one. No clause says that it is found: what is made
+//! in the order checks it, and has another way where it is none.
 use crate::graph::edges_of;
 use policy_tables::Listed;
 use std::alloc::{AllocError, Global};
@@ -57,7 +58,7 @@ fn walk(
     Ok(())
 }
 
-/// The places, each behind those that it leads to, where no place leads to itself.
+/// The places, each behind those that it leads to, where no place leads to itself. No clause says so.
 pub(crate) fn order_of(alloc: Global, graph: &[Listed<usize>]) -> Result<Vec<usize>, AllocError> {
     let mut seen = vec![in alloc; false; graph.len()]?;
     let mut steps = Vec::new(alloc);

@@ -2,14 +2,12 @@
 ghost use Rattle.std.specs.Prelude.{◌≡◌, ◌≢◌, ◌<◌, ◌≤◌, ◌↔◌, ◌==◌, true, take, Ok, None, [], length, map, IsTrue, IfOk, IfErr, IfSome, slice_index_or};
 ghost use Rattle.std.specs.List.{position};
 ghost use Rattle.hex.specs.Hex.{decode_of};
-ghost use Rattle.toml.specs.View.{table_view};
-ghost use Rattle.policy_checks.specs.Checks.{user_names};
+ghost use Rattle.policy_checks.specs.Checks.{is_hex_text, user_names};
 ghost use Rattle.permissions.specs.Allows.{Allows, root_of};
 ghost use Rattle.permissions.specs.Cycle.{HasNoCycle};
 ghost use Rattle.permissions.specs.Grants.{AreRows, IsBoundByName};
-ghost use Rattle.permissions.specs.Reach.{graph_of};
 ghost use Rattle.names_realms.specs.Realms.{IsRealm, project_len};
-ghost use Rattle.permissions.specs.Faults.{most_bytes, IsToml, IsFirstFault, IsTablesFault, IsPolicyOf, IsSound, text_fault};
+ghost use Rattle.permissions.specs.Faults.{IsFirstFault, IsTablesFault, IsPolicyOf, IsSound, text_fault};
 ghost use Rattle.policy_checks.specs.Index.{place_of, IsIndexOf};
 
 use crate::PolicyFault;
@@ -19,11 +17,12 @@ use crate::masks::is_in;
 use crate::realms::read_graph;
 use crate::rows::{close_rows, mask_at, row_at};
 use crate::stages::{check_entries, check_size, check_texts, check_tokens, read_shaped, read_toml};
+use hex::FromHexError;
 use name_parts::Bytes;
 use names_realms::Realm;
 use policy_checks::{Book, NameIndex, Permission};
 use policy_tables::{Listed, PolicyTables};
-use std::alloc::Global;
+use std::alloc::{AllocError, Global};
 use std::marker::Model;
 
 /// Who may do what, as a configuration says.
@@ -49,13 +48,15 @@ impl Model for Policy {
 }
 
 /// The bytes of a secret, whose digits were checked before.
-fn read_secret(alloc: Global, text: &[u8]) -> Result<Bytes, PolicyFault>
-    ensures ok { IfOk result (λ bytes. decode_of text.now ≡ Ok bytes) }
-    ensures err { IfErr result (λ f. f ≡ PolicyFault.Memory) }
+#[tactic(auto, unfolding(policy_checks::specs::Checks::is_hex_text))]
+fn read_secret(alloc: Global, text: &[u8]) -> Result<Bytes, AllocError>
+    requires { is_hex_text text.now ≡ true }
+    ensures { IfOk result (λ bytes. decode_of text.now ≡ Ok bytes) }
 {
     match hex::decode(alloc, text) {
         Ok(bytes) => Ok(Bytes::new(bytes)),
-        Err(_) => Err(PolicyFault::Memory),
+        Err(FromHexError::OutOfMemory) => Err(AllocError),
+        Err(_) => unreachable!(),
     }
 }
 

@@ -1,11 +1,11 @@
 //! Each user's permissions from each realm, closed over what the realm reaches.
-ghost use Rattle.std.specs.Prelude.{◌≡◌, ◌↔◌, ◌<◌, ◌||◌, ◌&&◌, ◌==◌, ℕ, true, List, [], ◌≢◌, IfOk, IfErr, IfSome, OnOk, length, slice_index_or};
+ghost use Rattle.std.specs.Prelude.{◌≡◌, ◌<◌, ◌||◌, ◌&&◌, ◌==◌, ℕ, List, [], ◌≢◌, IfOk, IfErr, IfSome, length, slice_index_or};
 ghost use Rattle.std.specs.List.{list_any};
 ghost use Rattle.policy_checks.specs.declared.permission.Permission.{Permission as PermissionOf};
 ghost use Rattle.permissions.specs.Cycle.{HasNoCycle, IsLeastCycle};
 ghost use Rattle.permissions.specs.Graph.{IsGraph};
 ghost use Rattle.permissions.specs.Masks.{has_bit};
-ghost use Rattle.permissions.specs.Grants.{granted, grants_at, AreGrants, IsGrantedFrom, IsGrantedRow, AreGrantedRows, AreRows};
+ghost use Rattle.permissions.specs.Grants.{granted, grants_at, AreGrants, IsGrantedRow, AreGrantedRows, AreRows};
 ghost use Rattle.permissions.specs.Reach.{graph_of};
 
 use crate::PolicyFault;
@@ -117,7 +117,7 @@ pub(crate) fn all_grants(
 }
 
 /// Each user's permissions from each realm, made in an order that puts each realm behind those that it extends. None where the order
-/// doesn't, which is where a realm reaches itself.
+/// doesn't: where a realm reaches itself and nowhere else, though no clause says so.
 fn rows_in_order(
     alloc: Global,
     book: &Book,
@@ -162,7 +162,8 @@ fn own_grants(alloc: Global, book: &Book) -> Result<Vec<Listed<Grant>>, AllocErr
     all_grants(alloc, book, tables.realms.as_slice())
 }
 
-/// Each user's permissions from each realm, where no realm reaches itself.
+/// Each user's permissions from each realm, where no realm reaches itself. If the order puts some realm before one that it extends,
+/// a realm that reaches itself is looked for, and without one each row is made on its own.
 pub(crate) fn close_rows(
     alloc: Global,
     book: &Book,

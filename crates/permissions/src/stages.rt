@@ -1,20 +1,18 @@
 //! The stages in which a configuration is read, each with its fault.
-ghost use Rattle.std.specs.Prelude.{◌≡◌, ◌≢◌, ◌<◌, ◌≤◌, ℕ, ◌+◌, List, [], ◌∷◌, ◌++◌, None, Some, Ok, length, map, min, sum_by, IfOk, IfErr, OnOk, option_map, if◌then◌else◌};
+ghost use Rattle.std.specs.Prelude.{◌≡◌, ◌≢◌, ◌<◌, ◌≤◌, ℕ, List, None, Some, Ok, length, map, IfOk, IfErr, OnOk, option_map};
 ghost use Rattle.toml.specs.Data.{Members};
 ghost use Rattle.toml.specs.View.{table_view};
-ghost use Rattle.policy_tables.specs.Findings.{at, least_with, least_of};
-ghost use Rattle.policy_tables.specs.Document.{shape_findings, tables_of};
-ghost use Rattle.policy_checks.specs.Checks.{is_there};
+ghost use Rattle.policy_tables.specs.Document.{tables_of};
 ghost use Rattle.policy_checks.specs.Index.{IsIndexOf};
 ghost use Rattle.permissions.specs.Cycle.{HasNoCycle, IsLeastCycle};
 ghost use Rattle.permissions.specs.Reach.{graph_of};
-ghost use Rattle.permissions.specs.Faults.{most_bytes, IsToml, shape_fault, capped, entries, entries_fault, check_fault, checked, text_fault, repeated, owners_fault, Answers};
+ghost use Rattle.permissions.specs.Faults.{most_bytes, IsToml, shape_fault, entries_fault, check_fault, checked, text_fault, owners_fault, Answers};
 
 use crate::PolicyFault;
 use crate::cycle::first_cycle;
-use policy_checks::{Book, Check, NameIndex, first_failing};
-use policy_tables::{Finding, Listed, PolicyTables, RealmTable, User, note_path, read_tables};
-use std::alloc::{AllocError, Global};
+use policy_checks::{Book, Check, NameIndex, first_failing, index_tokens};
+use policy_tables::{Finding, Listed, PolicyTables, count_entries, read_tables};
+use std::alloc::Global;
 use toml::Table;
 
 /// Refuses a text of more than 4 MiB.
@@ -64,33 +62,6 @@ pub(crate) fn read_shaped(alloc: Global, document: &Table) -> Result<PolicyTable
     let tables = read_tables(alloc, &mut least, document)?;
     no_bad_shape(least)?;
     Ok(tables)
-}
-
-/// How many bindings realms have, up to the greatest count.
-fn count_bindings(realms: &[RealmTable]) -> usize
-    ensures { result ≡ capped (sum_by (λ r. length r.bindings) realms.now) }
-{
-    let mut count = 0usize;
-    for realm in realms {
-        count = count.saturating_add(realm.bindings.as_slice().len());
-    }
-    count
-}
-
-/// How many entries and bindings tables have, up to the greatest count.
-fn count_entries(tables: &PolicyTables) -> usize
-    ensures { result ≡ entries tables.now }
-{
-    let users = tables.users.as_slice().len();
-    let groups = tables.groups.as_slice().len();
-    let roles = tables.roles.as_slice().len();
-    let realms = tables.realms.as_slice();
-    let bindings = count_bindings(realms);
-    users
-        .saturating_add(groups)
-        .saturating_add(roles)
-        .saturating_add(realms.len())
-        .saturating_add(bindings)
 }
 
 /// Refuses more than 65,536 entries.
@@ -159,53 +130,6 @@ pub(crate) fn check_cycle(
         Some(finding) => Err(PolicyFault::RealmCycle { name: finding.path }),
         None => Ok(()),
     }
-}
-
-/// Notes a token that is there already.
-fn note_if(
-    alloc: Global,
-    least: &mut Option<Finding>,
-    there: bool,
-    token: &[u8],
-) -> Result<(), AllocError>
-    ensures { OnOk result (least.new ≡ least_with least.old (if there then at token.now ∷ [] else [])) }
-{
-    if there {
-        return note_path(alloc, least, token);
-    }
-    Ok(())
-}
-
-/// Adds the token of the next user.
-fn add_token(
-    alloc: Global,
-    least: &mut Option<Finding>,
-    index: &mut NameIndex,
-    token: &[u8],
-    place: usize,
-) -> Result<(), AllocError>
-    ensures index { (seen : List (List ℕ)) → IsIndexOf index.old seen → place ≡ length seen → OnOk result (IsIndexOf index.new (seen ++ token.now ∷ [])) }
-    ensures least { (seen : List (List ℕ)) → IsIndexOf index.old seen → OnOk result (least.new ≡ least_with least.old (if is_there token.now seen then at token.now ∷ [] else [])) }
-{
-    let there = index.find(token).is_some();
-    note_if(alloc, least, there, token)?;
-    index.add(alloc, token, place)
-}
-
-/// The index of the users' tokens, with the least token that two of them have.
-fn index_tokens(
-    alloc: Global,
-    least: &mut Option<Finding>,
-    users: &[User],
-) -> Result<NameIndex, AllocError>
-    ensures index { IfOk result (λ index. IsIndexOf index (map (λ u. u.token) users.now)) }
-    ensures least { OnOk result (least.new ≡ least_with least.old (repeated [] users.now)) }
-{
-    let mut index = NameIndex::new(alloc);
-    for (place, user) in users.iter().enumerate() {
-        add_token(alloc, least, &mut index, user.token.as_slice(), place)?;
-    }
-    Ok(index)
 }
 
 /// Refuses a token that two users have.

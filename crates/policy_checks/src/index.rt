@@ -21,7 +21,7 @@ pub(crate) trait Named {
 
 impl NameIndex {
     /// No names.
-    pub fn new(alloc: Global) -> NameIndex
+    pub(crate) fn new(alloc: Global) -> NameIndex
         ensures { IsIndexOf result [] }
     {
         NameIndex {
@@ -46,7 +46,7 @@ impl NameIndex {
     }
 
     /// Adds the name that comes next in the list.
-    pub fn add(&mut self, alloc: Global, name: &[u8], place: usize) -> Result<(), AllocError>
+    pub(crate) fn add(&mut self, alloc: Global, name: &[u8], place: usize) -> Result<(), AllocError>
         ensures { (names : List (List ℕ)) → IsIndexOf self.old names → place ≡ length names → OnOk result (IsIndexOf self.new (names ++ name.now ∷ [])) }
     {
         match self.find(name) {

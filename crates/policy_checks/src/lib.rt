@@ -4,6 +4,7 @@
 mod book;
 mod check;
 mod index;
+mod owners;
 mod permission;
 #[cfg(test)]
 mod tests;
@@ -13,6 +14,7 @@ mod walk;
 pub use book::{Book, members_of, role_texts};
 pub use check::rest_behind;
 pub use index::NameIndex;
+pub use owners::index_tokens;
 pub use permission::Permission;
 pub use texts::Check;
 pub use walk::first_failing;

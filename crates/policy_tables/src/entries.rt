@@ -1,8 +1,8 @@
 //! The entries of a configuration's tables, read with what is wrong in them.
-ghost use Rattle.std.specs.Prelude.{◌≡◌, ℕ, List, [], ◌++◌, IfOk, OnOk, option_map, codes};
+ghost use Rattle.std.specs.Prelude.{◌≡◌, ℕ, List, [], ◌++◌, IfOk, OnOk, option_map};
 ghost use Rattle.toml.specs.Data.{Members, as_table};
 ghost use Rattle.toml.specs.View.{view, table_view, array_view};
-ghost use Rattle.policy_tables.specs.Findings.{joined, least_with};
+ghost use Rattle.policy_tables.specs.Findings.{least_with};
 ghost use Rattle.policy_tables.specs.Document.{table_findings, with_entry, entries_of, entries_findings, section_of, section_findings, item_bindings, item_bindings_findings, bindings_of, bindings_findings, tables_of, shape_findings};
 
 use crate::findings::{Finding, copied, note_path, path_of_key, path_of_place};

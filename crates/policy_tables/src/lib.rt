@@ -13,4 +13,4 @@ mod tests;
 pub use entries::read_tables;
 pub use findings::{Finding, note_path, note_text, path_of_key, path_of_place};
 pub use listed::Listed;
-pub use tables::{Binding, Group, PolicyTables, RealmTable, Role, User};
+pub use tables::{Binding, Group, PolicyTables, RealmTable, Role, User, count_entries};

@@ -1,5 +1,5 @@
 //! What stands at a key of a table, and what is noted where it isn't of its kind.
-ghost use Rattle.std.specs.Prelude.{◌≡◌, ℕ, List, [], IfOk, OnOk, Some, None, option_map, option_and_then, unwrap_or, is_some};
+ghost use Rattle.std.specs.Prelude.{◌≡◌, ℕ, [], IfOk, OnOk, Some, None, option_map, unwrap_or, is_some};
 ghost use Rattle.std.specs.Fmt.{decimal};
 ghost use Rattle.toml.specs.Data.{as_str, as_array, as_table, get_member};
 ghost use Rattle.toml.specs.View.{view, table_view, array_view};

@@ -1,4 +1,7 @@
 //! The tables of a configuration, as plain data.
+ghost use Rattle.std.specs.Prelude.{◌≡◌, length, sum_by};
+ghost use Rattle.policy_tables.specs.Entries.{capped, entries};
+
 use crate::listed::Listed;
 use name_parts::Bytes;
 
@@ -46,4 +49,31 @@ pub struct PolicyTables {
     pub groups: Listed<Group>,
     pub roles: Listed<Role>,
     pub realms: Listed<RealmTable>,
+}
+
+/// How many bindings realms have, up to the greatest count.
+fn count_bindings(realms: &[RealmTable]) -> usize
+    ensures { result ≡ capped (sum_by (λ r. length r.bindings) realms.now) }
+{
+    let mut count = 0usize;
+    for realm in realms {
+        count = count.saturating_add(realm.bindings.as_slice().len());
+    }
+    count
+}
+
+/// How many entries and bindings tables have, up to the greatest count.
+pub fn count_entries(tables: &PolicyTables) -> usize
+    ensures { result ≡ entries tables.now }
+{
+    let users = tables.users.as_slice().len();
+    let groups = tables.groups.as_slice().len();
+    let roles = tables.roles.as_slice().len();
+    let realms = tables.realms.as_slice();
+    let bindings = count_bindings(realms);
+    users
+        .saturating_add(groups)
+        .saturating_add(roles)
+        .saturating_add(realms.len())
+        .saturating_add(bindings)
 }

@@ -1,8 +1,8 @@
 use Rattle.std.proofs.Common.{◌≡◌, [], map, take, drop}
 use Rattle.policy_tables.specs.Findings.{least_with}
 use Rattle.policy_checks.specs.Index.{IsIndexOf}
-use Rattle.permissions.specs.Faults.{repeated}
-use Rattle.permissions.proofs.stages.index_tokens.Given as goal
+use Rattle.policy_checks.specs.Owners.{repeated}
+use Rattle.policy_checks.proofs.owners.index_tokens.Given as goal
 
 -- the tokens so far are indexed, and what is noted, with what is to come, is that of all users
 abbrev pub invariant-loop-place : goal.invariant-loop-place
