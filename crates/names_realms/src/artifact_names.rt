@@ -38,10 +38,7 @@ fn read_artifact_tail(alloc: Global, text: &[u8]) -> Result<ArtifactId, NameFaul
     ensures fault { IfErr result (λ f. f ≢ NameFault.Memory → artifact_tail_fault text.now ≡ Some f) }
     ensures within { IfErr result (λ f. place_of f ≤ length text.now) }
 {
-    let rest = match rest_behind(b"/artifacts/", text) {
-        Ok(rest) => rest,
-        Err(fault) => return Err(fault),
-    };
+    let rest = rest_behind(b"/artifacts/", text)?;
     match read_escaped(alloc, PartForm::Letters(Alphabet::Artifact), rest) {
         Ok(text) => Ok(ArtifactId { text }),
         Err(fault) => Err(moved(11, fault)),
@@ -55,10 +52,8 @@ fn read_result(alloc: Global, text: &[u8]) -> Result<ResultId, NameFault>
     ensures fault { IfErr result (λ f. f ≢ NameFault.Memory → result_id_fault text.now ≡ Some f) }
     ensures within { IfErr result (λ f. place_of f ≤ length text.now) }
 {
-    match read_part(alloc, PartForm::Letters(Alphabet::Outcome), text) {
-        Ok(text) => Ok(ResultId { text }),
-        Err(fault) => Err(fault),
-    }
+    let text = read_part(alloc, PartForm::Letters(Alphabet::Outcome), text)?;
+    Ok(ResultId { text })
 }
 
 /// Reads a result's id, `/artifacts/` and an escaped artifact id.
@@ -71,10 +66,7 @@ fn read_result_and_artifact(alloc: Global, text: &[u8]) -> Result<(ResultId, Art
 {
     let end = len_before(text, b'/');
     let (front, rest) = text.split_at(end);
-    let id = match read_result(alloc, front) {
-        Ok(id) => id,
-        Err(fault) => return Err(fault),
-    };
+    let id = read_result(alloc, front)?;
     match read_artifact_tail(alloc, rest) {
         Ok(artifact) => Ok((id, artifact)),
         Err(fault) => Err(moved(end, fault)),
@@ -89,10 +81,7 @@ fn read_result_tail(alloc: Global, text: &[u8]) -> Result<(ResultId, ArtifactId)
     ensures fault { IfErr result (λ f. f ≢ NameFault.Memory → result_artifact_tail_fault text.now ≡ Some f) }
     ensures within { IfErr result (λ f. place_of f ≤ length text.now) }
 {
-    let rest = match rest_behind(b"/results/", text) {
-        Ok(rest) => rest,
-        Err(fault) => return Err(fault),
-    };
+    let rest = rest_behind(b"/results/", text)?;
     match read_result_and_artifact(alloc, rest) {
         Ok(ids) => Ok(ids),
         Err(fault) => Err(moved(9, fault)),
@@ -110,10 +99,7 @@ fn read_test_and_rest(alloc: Global, text: &[u8]) -> Result<Ids, NameFault>
 {
     let end = len_before(text, b'/');
     let (front, rest) = text.split_at(end);
-    let test = match read_test(alloc, front) {
-        Ok(test) => test,
-        Err(fault) => return Err(fault),
-    };
+    let test = read_test(alloc, front)?;
     match read_result_tail(alloc, rest) {
         Ok((result, artifact)) => Ok(Ids {
             test,
@@ -133,10 +119,7 @@ fn read_test_tail(alloc: Global, text: &[u8]) -> Result<Ids, NameFault>
     ensures fault { IfErr result (λ f. f ≢ NameFault.Memory → test_artifact_tail_fault text.now ≡ Some f) }
     ensures within { IfErr result (λ f. place_of f ≤ length text.now) }
 {
-    let rest = match rest_behind(b"/tests/", text) {
-        Ok(rest) => rest,
-        Err(fault) => return Err(fault),
-    };
+    let rest = rest_behind(b"/tests/", text)?;
     match read_test_and_rest(alloc, rest) {
         Ok(ids) => Ok(ids),
         Err(fault) => Err(moved(7, fault)),
@@ -205,15 +188,11 @@ fn read_behind_id(
     ensures within { IfErr result (λ f. place_of f ≤ length text.now) }
 {
     if is_tests(text) {
-        return match read_test_tail(alloc, text) {
-            Ok(ids) => Ok(of_result(invocation, ids)),
-            Err(fault) => Err(fault),
-        };
+        let ids = read_test_tail(alloc, text)?;
+        return Ok(of_result(invocation, ids));
     }
-    match read_artifact_tail(alloc, text) {
-        Ok(artifact) => Ok(of_invocation(invocation, artifact)),
-        Err(fault) => Err(fault),
-    }
+    let artifact = read_artifact_tail(alloc, text)?;
+    Ok(of_invocation(invocation, artifact))
 }
 
 /// Reads what stands behind `invocations/` in the name of an artifact.
@@ -226,10 +205,7 @@ fn read_parts(alloc: Global, text: &[u8]) -> Result<ArtifactName, NameFault>
 {
     let end = len_before(text, b'/');
     let (front, rest) = text.split_at(end);
-    let invocation = match read_invocation(alloc, front) {
-        Ok(invocation) => invocation,
-        Err(fault) => return Err(fault),
-    };
+    let invocation = read_invocation(alloc, front)?;
     match read_behind_id(alloc, invocation, rest) {
         Ok(name) => Ok(name),
         Err(fault) => Err(moved(end, fault)),
@@ -293,10 +269,7 @@ impl ArtifactName {
         ensures refused { IfErr result (λ f. f ≢ NameFault.Memory → (a : ArtifactName) → ¬ IsArtifactName a text.now) }
         ensures fault { IfErr result (λ f. f ≢ NameFault.Memory → artifact_name_fault text.now ≡ Some f) }
     {
-        match read_whole(alloc, text) {
-            Ok(name) => Ok(name),
-            Err(fault) => Err(fault),
-        }
+        read_whole(alloc, text)
     }
 
     /// Appends the one spelling of the name, all of it or nothing.

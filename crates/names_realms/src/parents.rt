@@ -25,15 +25,11 @@ fn read_parts(alloc: Global, text: &[u8]) -> Result<Parent, NameFault>
     ensures within { IfErr result (λ f. place_of f ≤ length text.now) }
 {
     if len_before(text, b'/') == text.len() {
-        return match read_invocation(alloc, text) {
-            Ok(id) => Ok(Parent::Invocation(id)),
-            Err(fault) => Err(fault),
-        };
+        let id = read_invocation(alloc, text)?;
+        return Ok(Parent::Invocation(id));
     }
-    match read_all_parts(alloc, text) {
-        Ok(name) => Ok(Parent::Result(name)),
-        Err(fault) => Err(fault),
-    }
+    let name = read_all_parts(alloc, text)?;
+    Ok(Parent::Result(name))
 }
 
 /// Reads a parent's name.
@@ -92,10 +88,7 @@ impl Parent {
         ensures refused { IfErr result (λ f. f ≢ NameFault.Memory → (p : Parent) → ¬ IsParentName p text.now) }
         ensures fault { IfErr result (λ f. f ≢ NameFault.Memory → parent_fault text.now ≡ Some f) }
     {
-        match read_whole(alloc, text) {
-            Ok(parent) => Ok(parent),
-            Err(fault) => Err(fault),
-        }
+        read_whole(alloc, text)
     }
 
     /// Appends the one spelling of the name, all of it or nothing.

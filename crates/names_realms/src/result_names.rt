@@ -28,15 +28,13 @@ fn read_result_tail(alloc: Global, text: &[u8]) -> Result<ResultId, NameFault>
     ensures fault { IfErr result (λ f. f ≢ NameFault.Memory → result_tail_fault text.now ≡ Some f) }
     ensures within { IfErr result (λ f. place_of f ≤ length text.now) }
 {
-    match read_behind(
+    let text = read_behind(
         alloc,
         b"/results/",
         PartForm::Letters(Alphabet::Outcome),
         text,
-    ) {
-        Ok(text) => Ok(ResultId { text }),
-        Err(fault) => Err(fault),
-    }
+    )?;
+    Ok(ResultId { text })
 }
 
 /// Reads an escaped test id.
@@ -46,10 +44,8 @@ pub(crate) fn read_test(alloc: Global, text: &[u8]) -> Result<TestId, NameFault>
     ensures fault { IfErr result (λ f. f ≢ NameFault.Memory → escaped_fault PartForm.TestId text.now ≡ Some f) }
     ensures within { IfErr result (λ f. place_of f ≤ length text.now) }
 {
-    match read_escaped(alloc, PartForm::TestId, text) {
-        Ok(text) => Ok(TestId { text }),
-        Err(fault) => Err(fault),
-    }
+    let text = read_escaped(alloc, PartForm::TestId, text)?;
+    Ok(TestId { text })
 }
 
 /// Reads an escaped test id, `/results/` and a result's id.
@@ -62,10 +58,7 @@ fn read_test_and_result(alloc: Global, text: &[u8]) -> Result<(TestId, ResultId)
 {
     let end = len_before(text, b'/');
     let (front, rest) = text.split_at(end);
-    let test = match read_test(alloc, front) {
-        Ok(test) => test,
-        Err(fault) => return Err(fault),
-    };
+    let test = read_test(alloc, front)?;
     match read_result_tail(alloc, rest) {
         Ok(result) => Ok((test, result)),
         Err(fault) => Err(moved(end, fault)),
@@ -80,10 +73,7 @@ fn read_test_tail(alloc: Global, text: &[u8]) -> Result<(TestId, ResultId), Name
     ensures fault { IfErr result (λ f. f ≢ NameFault.Memory → test_tail_fault text.now ≡ Some f) }
     ensures within { IfErr result (λ f. place_of f ≤ length text.now) }
 {
-    let rest = match rest_behind(b"/tests/", text) {
-        Ok(rest) => rest,
-        Err(fault) => return Err(fault),
-    };
+    let rest = rest_behind(b"/tests/", text)?;
     match read_test_and_result(alloc, rest) {
         Ok(ids) => Ok(ids),
         Err(fault) => Err(moved(7, fault)),
@@ -97,10 +87,8 @@ pub(crate) fn read_invocation(alloc: Global, text: &[u8]) -> Result<InvocationId
     ensures fault { IfErr result (λ f. f ≢ NameFault.Memory → invocation_id_fault text.now ≡ Some f) }
     ensures within { IfErr result (λ f. place_of f ≤ length text.now) }
 {
-    match read_part(alloc, PartForm::Letters(Alphabet::Invocation), text) {
-        Ok(text) => Ok(InvocationId { text }),
-        Err(fault) => Err(fault),
-    }
+    let text = read_part(alloc, PartForm::Letters(Alphabet::Invocation), text)?;
+    Ok(InvocationId { text })
 }
 
 /// Reads what stands behind `invocations/` in the name of a result.
@@ -114,10 +102,7 @@ pub(crate) fn read_all_parts(alloc: Global, text: &[u8]) -> Result<ResultName, N
 {
     let end = len_before(text, b'/');
     let (front, rest) = text.split_at(end);
-    let invocation = match read_invocation(alloc, front) {
-        Ok(invocation) => invocation,
-        Err(fault) => return Err(fault),
-    };
+    let invocation = read_invocation(alloc, front)?;
     match read_test_tail(alloc, rest) {
         Ok((test, result)) => Ok(ResultName {
             invocation,
@@ -199,10 +184,7 @@ impl ResultName {
         ensures refused { IfErr result (λ f. f ≢ NameFault.Memory → (r : ResultName) → ¬ IsResultName r text.now) }
         ensures fault { IfErr result (λ f. f ≢ NameFault.Memory → result_name_fault text.now ≡ Some f) }
     {
-        match read_whole(alloc, text) {
-            Ok(name) => Ok(name),
-            Err(fault) => Err(fault),
-        }
+        read_whole(alloc, text)
     }
 
     /// Appends the one spelling of the name, all of it or nothing.

@@ -1,7 +1,9 @@
+use Rattle.std.proofs.lemmas.Result.{IfErr-weaker}
 use Rattle.names_realms.proofs.ParentLemmas.{IsParentName-fault}
 use Rattle.names_realms.proofs.parents.Parent.parse.Goals as goal
 
-pub returns-in-Err-clause-refused : goal.returns-in-Err-clause-refused
-returns-in-Err-clause-refused c real p is =
-    let some = c.in-Err.ensures.fault real in
-    let none = IsParentName-fault p c.args.text.now is in cc
+pub returns-clause-refused : goal.returns-clause-refused
+returns-clause-refused c =
+    IfErr-weaker c.read_whole.result _ _ (λ f fault real name is.
+    let some = fault real in
+    let none = IsParentName-fault name c.args.text.now is in cc) c.read_whole.ensures.fault
