@@ -1,11 +1,11 @@
 -- Rows that are made in an order are those of the definition.
-use Rattle.std.proofs.Common.{◌≡◌, ℕ, zero, suc, ◌+◌, ◌<◌, ◌≤◌, Bool, true, false, ◌||◌, List, [], ◌∷◌, length, get_or, bit_or, refl, sym, ap, subst, ◌∙◌, inl, inr, arith, length-set}
-use Rattle.std.specs.Prelude.{◌==◌, ◌⊎◌, ◌≢◌, Result, Ok, Err, Option, Some, None, IfOk, IfSome}
+use Rattle.std.proofs.Common.{◌≡◌, ℕ, ◌+◌, ◌<◌, ◌≤◌, Bool, true, false, ◌||◌, List, [], ◌∷◌, length, get_or, bit_or, refl, sym, ap, subst, ◌∙◌, inl, inr, arith, length-set, eq-eqb}
+use Rattle.std.specs.Prelude.{◌==◌, ◌⊎◌, ◌≢◌, Result, Ok, Err, IfOk}
 use Rattle.std.proofs.Common.{Vec, Global}
 use Rattle.std.specs.declared.alloc.AllocError.{AllocError}
 use Rattle.std.specs.List.{list_all}
 use Rattle.std.proofs.Math.ListN.{set}
-use Rattle.std.proofs.lemmas.Bool.{cases_Bool, eqb-true, and_parts}
+use Rattle.std.proofs.lemmas.Bool.{cases_Bool, eqb-true, and_parts, and_from}
 use Rattle.std.proofs.lemmas.List.{get_or-set_same, get_or-set_other, length-map}
 use Rattle.policy_checks.specs.declared.permission.Permission.{Permission}
 use Rattle.permissions.specs.declared.grants.Grant.{Grant}
@@ -94,6 +94,10 @@ filled_row graph grants users rows place row f below_rows = record {
   );
 }
 
+pub all_from : (f : ℕ → Bool) (xs : List ℕ) → ((q : ℕ) → has q xs ≡ true → f q ≡ true) → list_all f xs ≡ true
+all_from f [] each = refl
+all_from f (x ∷ xs) each = and_from (f x) _ (each x (left (x == x) (has x xs) (eq-eqb x x refl))) (all_from f xs (λ q there. each q (right (x == q) (has q xs) there)))
+
 walk_done : (graph : List (List ℕ)) (done : List Bool) → ((p q : ℕ) → is_done done p ≡ true → has q (edges graph p) ≡ true → is_done done q ≡ true)
     → (x : ℕ) (xs : List ℕ) (q : ℕ) → is_done done x ≡ true → IsWalkOn graph x xs q → is_done done q ≡ true
 walk_done graph done closed x [] q here w = subst (λ (y : ℕ). is_done done y ≡ true) w here
@@ -153,20 +157,14 @@ module _ (graph : List (List ℕ)) (grants : List (List Grant)) (users : ℕ) (d
     no_cycle = no_cycle_more;
   }
 
-all_at : (xs : List Bool) (p : ℕ) → list_all (λ d. d) xs ≡ true → p < length xs → get_or xs p false ≡ true
-all_at [] p a below = absurd (omega arith)
-all_at (x ∷ xs) zero a below = (and_parts x (list_all (λ d. d) xs) a).0
-all_at (x ∷ xs) (suc p) a below = all_at xs p (and_parts x (list_all (λ d. d) xs) a).1 (omega arith)
-
 -- when all places are done
 pub all_rows : (graph : List (List ℕ)) (grants : List (List Grant)) (users : ℕ) (done : List Bool) (rows : List (List ℕ)) → IsGraph graph → IsDone graph grants users done rows
-    → list_all (λ d. d) done ≡ true → AreGrantedRows graph grants users (length graph) rows × ((p : ℕ) → ReachesOn graph p p → ⊥)
+    → ((p : ℕ) → p < length graph → is_done done p ≡ true) → AreGrantedRows graph grants users (length graph) rows × ((p : ℕ) → ReachesOn graph p p → ⊥)
 all_rows graph grants users done rows is h all = (
-  record { count = h.count; each = λ place below. h.row place (all_at done place all (omega (arith, h.marks))) },
+  record { count = h.count; each = λ place below. h.row place (all place below) },
   λ p w.
       let (r, e) = last_edge graph p w.first w.others p w.walk in
-      let below : p < length graph = is r p e in
-      h.no_cycle p (all_at done p all (omega (arith, below, h.marks))) w,
+      h.no_cycle p (all p (is r p e)) w,
 )
 
 pub none_done : (graph : List (List ℕ)) (grants : List (List Grant)) (users : ℕ) (done : List Bool) (rows : List (List ℕ)) → length done ≡ length graph → length rows ≡ length graph
@@ -188,13 +186,12 @@ no_cycle_of t graph is none = λ name w.
     none p (subst (λ (g : List (List ℕ)). ReachesOn g p p) (sym is) back)
 
 -- the rows that were made in an order are those of the tables
-pub ordered_rows : (t : PolicyTables) (graph : List (List ℕ)) (grants : List (List Grant)) (users : ℕ) (r : Result (Option (Vec (List ℕ) Global)) AllocError) → graph ≡ graph_of t
+pub ordered_rows : (t : PolicyTables) (graph : List (List ℕ)) (grants : List (List Grant)) (users : ℕ) (r : Result (Vec (List ℕ) Global) AllocError) → graph ≡ graph_of t
     → AreGrants t t.realms (length t.realms) grants → users ≡ length t.users
-    → IfOk r (λ found. IfSome found (λ rows. AreGrantedRows graph grants users (length graph) rows.items × ((p : ℕ) → ReachesOn graph p p → ⊥)))
-    → IfOk r (λ found. IfSome found (λ rows. HasNoCycle t × AreRows t rows.items))
+    → IfOk r (λ rows. AreGrantedRows graph grants users (length graph) rows.items × ((p : ℕ) → ReachesOn graph p p → ⊥))
+    → IfOk r (λ rows. HasNoCycle t × AreRows t rows.items)
 ordered_rows t graph grants users (Err e) is are count h = tt
-ordered_rows t graph grants users (Ok None) is are count h = tt
-ordered_rows t graph grants users (Ok (Some rows)) is are count h = (
+ordered_rows t graph grants users (Ok rows) is are count h = (
   no_cycle_of t graph is h.1,
   rows_are t graph grants users rows.items is (ap length is ∙ length-graph_of t ∙ length-map t.realms (λ r. r.name)) are count h.0,
 )

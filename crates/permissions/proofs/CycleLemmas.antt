@@ -14,6 +14,7 @@ use Rattle.policy_tables.specs.Findings.{at, lesser}
 use Rattle.permissions.specs.Graph.{ReachesOn}
 use Rattle.policy_checks.specs.Checks.{realm_names}
 use Rattle.permissions.specs.Reach.{graph_of, ReachesItself}
+use Rattle.permissions.specs.Order.{LeadsBack}
 use Rattle.permissions.specs.Cycle.{HasNoCycle, IsLeastCycle, name_at, IsStep, IsLeastNamed, IsLeastBefore}
 use Rattle.policy_checks.proofs.PlaceLemmas.{place_of-within, place_of-name}
 use Rattle.permissions.proofs.ReachLemmas.{reached-name, itself_over_places, itself_over_names}
@@ -118,3 +119,9 @@ pub named_at : (realms : List RealmTable) (p : ℕ) (r : RealmTable) → p < len
 named_at [] p r below e = absurd (omega arith)
 named_at (x ∷ xs) zero r below e = ap (λ (y : RealmTable). y.name) e
 named_at (x ∷ xs) (suc p) r below e = named_at xs p r (omega arith) e
+
+-- a place that is reached from itself is that of a realm that reaches itself
+pub no_cycle_back : (t : PolicyTables) (graph : List (List ℕ)) → graph ≡ graph_of t → LeadsBack graph → HasNoCycle t → ⊥
+no_cycle_back t graph is back none =
+    let itself : ReachesOn (graph_of t) back.place back.place = subst (λ (g : List (List ℕ)). ReachesOn g back.place back.place) is back.itself in
+    none (get_or (realm_names t) back.place []) (itself_over_names t (get_or (realm_names t) back.place []) back.place (reached-name t back.place back.place itself) itself)

@@ -7,3 +7,4 @@ pub mod GraphLemmas
 pub mod ReachLemmas
 pub mod RootLemmas
 pub mod RowLemmas
+pub mod OrderLemmas

@@ -1,8 +1,9 @@
 //! Rows of permissions in an order: each is made of the rows of the places that it leads to.
-ghost use Rattle.std.specs.Prelude.{◌≡◌, ◌<◌, ◌||◌, ℕ, true, false, [], IfOk, IfSome, OnOk, length, slice_index_or};
+ghost use Rattle.std.specs.Prelude.{◌≡◌, ◌<◌, ◌||◌, ℕ, true, false, [], IfOk, OnOk, length, slice_index_or};
 ghost use Rattle.std.specs.List.{list_any, list_all};
 ghost use Rattle.policy_checks.specs.declared.permission.Permission.{Permission as PermissionOf};
-ghost use Rattle.permissions.specs.Graph.{IsGraph, ReachesOn};
+ghost use Rattle.permissions.specs.Graph.{IsGraph, ReachesOn, edges};
+ghost use Rattle.permissions.specs.Order.{IsOrder};
 ghost use Rattle.permissions.specs.Masks.{has_bit};
 ghost use Rattle.permissions.specs.Grants.{granted, grants_at, AreGrantedRows};
 ghost use Rattle.permissions.specs.Closing.{is_done, IsDone, IsFilled};
@@ -70,16 +71,7 @@ fn row_over(
     Ok(Listed::new(row))
 }
 
-/// Whether each of these places is done.
-fn are_done(done: &[bool], places: &[usize]) -> bool
-    ensures { result ≡ list_all (is_done done.now) places.now }
-{
-    places
-        .iter()
-        .all(|place| done.get(*place).copied().unwrap_or(false))
-}
-
-/// Makes the row of a place, if those of the places that it leads to are done.
+/// Makes the row of a place, where those of the places that it leads to are done.
 fn close_place(
     alloc: Global,
     users: usize,
@@ -89,14 +81,14 @@ fn close_place(
     rows: &mut Vec<Listed<u16>>,
     place: usize,
 ) -> Result<(), AllocError>
-    requires { IsDone graph.now grants.now users done.old.items rows.old.items }
-    ensures { OnOk result (IsDone graph.now grants.now users done.new.items rows.new.items) }
+    requires within { place < length graph.now }
+    requires done { IsDone graph.now grants.now users done.old.items rows.old.items }
+    requires behind { list_all (is_done done.old.items) (edges graph.now place) ≡ true }
+    ensures done { OnOk result (IsDone graph.now grants.now users done.new.items rows.new.items) }
+    ensures place { OnOk result (is_done done.new.items place ≡ true) }
+    ensures kept { OnOk result ((q : ℕ) → is_done done.old.items q ≡ true → is_done done.new.items q ≡ true) }
 {
-    if place >= done.len()
-        || place >= rows.len()
-        || done[place]
-        || !are_done(done.as_slice(), edges_of(graph, place))
-    {
+    if done[place] {
         return Ok(());
     }
     let row = row_over(alloc, users, grants, graph, rows.as_slice(), place)?;
@@ -117,31 +109,22 @@ fn no_rows(alloc: Global, count: usize) -> Result<Vec<Listed<u16>>, AllocError>
     Ok(rows)
 }
 
-/// Whether every place is done.
-fn all_done(done: &[bool]) -> bool
-    ensures { result ≡ list_all (λ d. d) done.now }
-{
-    done.iter().all(|d| *d)
-}
-
-/// The rows of all places, made in this order. None where the order doesn't put each place behind those that it leads to.
+/// The rows of all places, made in an order in which each place stands behind those that it leads to.
 pub(crate) fn close_in_order(
     alloc: Global,
     users: usize,
     grants: &[Listed<Grant>],
     graph: &[Listed<usize>],
     order: &[usize],
-) -> Result<Option<Vec<Listed<u16>>>, AllocError>
-    requires { IsGraph graph.now }
-    ensures { IfOk result (λ found. IfSome found (λ rows. AreGrantedRows graph.now grants.now users (length graph.now) rows.items × ((p : ℕ) → ReachesOn graph.now p p → ⊥))) }
+) -> Result<Vec<Listed<u16>>, AllocError>
+    requires graph { IsGraph graph.now }
+    requires order { IsOrder graph.now order.now }
+    ensures { IfOk result (λ rows. AreGrantedRows graph.now grants.now users (length graph.now) rows.items × ((p : ℕ) → ReachesOn graph.now p p → ⊥)) }
 {
     let mut done = vec![in alloc; false; graph.len()]?;
     let mut rows = no_rows(alloc, graph.len())?;
-    for place in order {
-        close_place(alloc, users, grants, graph, &mut done, &mut rows, *place)?;
+    for i in 0..order.len() {
+        close_place(alloc, users, grants, graph, &mut done, &mut rows, order[i])?;
     }
-    if all_done(done.as_slice()) {
-        return Ok(Some(rows));
-    }
-    Ok(None)
+    Ok(rows)
 }

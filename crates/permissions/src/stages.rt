@@ -4,7 +4,8 @@ ghost use Rattle.toml.specs.Data.{Members};
 ghost use Rattle.toml.specs.View.{table_view};
 ghost use Rattle.policy_tables.specs.Document.{tables_of};
 ghost use Rattle.policy_checks.specs.Index.{IsIndexOf};
-ghost use Rattle.permissions.specs.Cycle.{HasNoCycle, IsLeastCycle};
+ghost use Rattle.permissions.specs.Cycle.{IsLeastCycle};
+ghost use Rattle.permissions.specs.Order.{LeadsBack};
 ghost use Rattle.permissions.specs.Reach.{graph_of};
 ghost use Rattle.permissions.specs.Faults.{most_bytes, IsToml, shape_fault, entries_fault, check_fault, checked, text_fault, owners_fault, Answers};
 
@@ -116,19 +117,16 @@ pub(crate) fn check_texts(alloc: Global, book: &Book) -> Result<(), PolicyFault>
     check_all(alloc, book, Check::Principals)
 }
 
-/// Refuses a realm that reaches itself.
-pub(crate) fn check_cycle(
-    alloc: Global,
-    book: &Book,
-    graph: &[Listed<usize>],
-) -> Result<(), PolicyFault>
-    requires { graph.now ≡ graph_of book.now }
-    ensures ok { OnOk result (HasNoCycle book.now) }
-    ensures err { IfErr result (λ f. f ≢ PolicyFault.Memory → (name : List ℕ) × IsLeastCycle book.now name × (f ≡ PolicyFault.RealmCycle name)) }
+/// The fault of realms of which one reaches itself.
+pub(crate) fn cycle_fault(alloc: Global, book: &Book, graph: &[Listed<usize>]) -> PolicyFault
+    requires graph { graph.now ≡ graph_of book.now }
+    requires back { LeadsBack graph.now }
+    ensures { result ≢ PolicyFault.Memory → (name : List ℕ) × IsLeastCycle book.now name × (result ≡ PolicyFault.RealmCycle name) }
 {
-    match first_cycle(alloc, book, graph)? {
-        Some(finding) => Err(PolicyFault::RealmCycle { name: finding.path }),
-        None => Ok(()),
+    match first_cycle(alloc, book, graph) {
+        Ok(Some(finding)) => PolicyFault::RealmCycle { name: finding.path },
+        Ok(None) => unreachable!(),
+        Err(error) => PolicyFault::from(error),
     }
 }
 

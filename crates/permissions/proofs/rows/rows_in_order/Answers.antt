@@ -4,8 +4,8 @@ use Rattle.permissions.proofs.ReachLemmas.{graph-IsGraph}
 use Rattle.permissions.proofs.ClosingLemmas.{ordered_rows}
 use Rattle.permissions.proofs.rows.rows_in_order.Goals as goal
 
-pub close_in_order-requires : goal.close_in_order-requires
-close_in_order-requires c = subst IsGraph (sym c.requires.graph) (graph-IsGraph c.args.book.now)
+pub close_in_order-requires-clause-graph : goal.close_in_order-requires-clause-graph
+close_in_order-requires-clause-graph c = subst IsGraph (sym c.requires.graph) (graph-IsGraph c.args.book.now)
 
 pub returns : goal.returns
 returns c =
