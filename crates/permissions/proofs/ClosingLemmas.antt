@@ -5,7 +5,7 @@ use Rattle.std.proofs.Common.{Vec, Global}
 use Rattle.std.specs.declared.alloc.AllocError.{AllocError}
 use Rattle.std.specs.List.{list_all}
 use Rattle.std.proofs.Math.ListN.{set}
-use Rattle.std.proofs.lemmas.Bool.{cases_Bool, eqb-true, and_parts, and_from}
+use Rattle.std.proofs.lemmas.Bool.{cases_Bool, eqb-true, and_parts, and_from, or_cases, or_left, or_right}
 use Rattle.std.proofs.lemmas.List.{get_or-set_same, get_or-set_other, length-map}
 use Rattle.policy_checks.specs.declared.permission.Permission.{Permission}
 use Rattle.permissions.specs.declared.grants.Grant.{Grant}
@@ -50,18 +50,6 @@ all_has f (x ∷ xs) q a e =
       | inr is ↦ all_has f xs q parts.1 (sym (ap (λ b. b || has q xs) is) ∙ e)
     ]
 
-either : (a b : Bool) → (a || b) ≡ true → (a ≡ true) ⊎ (b ≡ true)
-either true b e = inl refl
-either false b e = inr e
-
-left : (a b : Bool) → a ≡ true → (a || b) ≡ true
-left true b e = refl
-left false b e = cc
-
-right : (a b : Bool) → b ≡ true → (a || b) ≡ true
-right true b e = refl
-right false b e = e
-
 -- one step before what a place reaches
 step_before : (graph : List (List ℕ)) (place q to : ℕ) → has q (edges graph place) ≡ true → (q ≡ to) ⊎ ReachesOn graph q to → ReachesOn graph place to
 step_before graph place q to there (inl is) = record { first = q; others = []; walk = (there, is) }
@@ -77,7 +65,7 @@ filled_row : (graph : List (List ℕ)) (grants : List (List Grant)) (users : ℕ
 filled_row graph grants users rows place row f below_rows = record {
   count = f.count;
   bits = λ u p below. (
-    λ e. elim (either _ _ (sym (f.bits u p below) ∙ e)) [
+    λ e. elim (or_cases _ _ (sym (f.bits u p below) ∙ e)) [
       | inl here ↦ record { to = place; reached = inl refl; granted_there = here }
       | inr over ↦
           let (q, there, bit) = any_has (λ q. has_bit (get_or (get_or rows q []) u 0) p) (edges graph place) over in
@@ -85,10 +73,10 @@ filled_row graph grants users rows place row f below_rows = record {
           record { to = w.to; reached = inr (step_before graph place q w.to there w.reached); granted_there = w.granted_there }
     ],
     λ w. f.bits u p below ∙ elim w.reached [
-      | inl here ↦ left _ _ (subst (λ (q : ℕ). granted u p (grants_at grants q) ≡ true) (sym here) w.granted_there)
+      | inl here ↦ or_left _ _ (subst (λ (q : ℕ). granted u p (grants_at grants q) ≡ true) (sym here) w.granted_there)
       | inr on ↦
           let over : IsGrantedFrom graph grants on.first u p = record { to = w.to; reached = after_step graph on.first on.others w.to on.walk.1; granted_there = w.granted_there } in
-          right (granted u p (grants_at grants place)) _
+          or_right (granted u p (grants_at grants place)) _
           (has_any (λ q. has_bit (get_or (get_or rows q []) u 0) p) (edges graph place) on.first on.walk.0 (((below_rows on.first on.walk.0).bits u p below).1 over))
     ],
   );
@@ -96,7 +84,7 @@ filled_row graph grants users rows place row f below_rows = record {
 
 pub all_from : (f : ℕ → Bool) (xs : List ℕ) → ((q : ℕ) → has q xs ≡ true → f q ≡ true) → list_all f xs ≡ true
 all_from f [] each = refl
-all_from f (x ∷ xs) each = and_from (f x) _ (each x (left (x == x) (has x xs) (eq-eqb x x refl))) (all_from f xs (λ q there. each q (right (x == q) (has q xs) there)))
+all_from f (x ∷ xs) each = and_from (f x) _ (each x (or_left (x == x) (has x xs) (eq-eqb x x refl))) (all_from f xs (λ q there. each q (or_right (x == q) (has q xs) there)))
 
 walk_done : (graph : List (List ℕ)) (done : List Bool) → ((p q : ℕ) → is_done done p ≡ true → has q (edges graph p) ≡ true → is_done done q ≡ true)
     → (x : ℕ) (xs : List ℕ) (q : ℕ) → is_done done x ≡ true → IsWalkOn graph x xs q → is_done done q ≡ true

@@ -1,11 +1,11 @@
 -- The least name of the realms that reach themselves.
 use Rattle.std.proofs.Common.{◌≡◌, ℕ, zero, suc, ◌+◌, ◌<◌, Bool, true, false, cond, List, [], ◌∷◌, length, get_or, nat_cmp, Ordering, Less, Equal, Greater, Option, Some, None, refl, sym, ap, subst, ◌∙◌, inl, inr, arith}
-use Rattle.std.specs.Prelude.{◌⊎◌, ◌==◌, MatchOption, Result, Ok, Err, IfOk}
+use Rattle.std.specs.Prelude.{MatchOption, Result, Ok, Err, IfOk}
 use Rattle.std.specs.declared.alloc.AllocError.{AllocError}
 use Rattle.std.specs.Ordering.{is_lt}
 use Rattle.std.specs.Cmp.{tied_itself}
 use Rattle.std.specs.Cmp.Lexicographic.{slice_cmp, nat_list_cmp_total}
-use Rattle.std.proofs.lemmas.Bool.{cases_Bool, eqb-true}
+use Rattle.std.proofs.lemmas.Bool.{cases_Bool}
 use Rattle.std.proofs.lemmas.List.{length-map}
 use Rattle.policy_tables.specs.declared.findings.Finding.{Finding}
 use Rattle.policy_tables.specs.declared.tables.RealmTable.{RealmTable}
@@ -17,6 +17,7 @@ use Rattle.permissions.specs.Reach.{graph_of, ReachesItself}
 use Rattle.permissions.specs.Order.{LeadsBack}
 use Rattle.permissions.specs.Cycle.{HasNoCycle, IsLeastCycle, name_at, IsStep, IsLeastNamed, IsLeastBefore}
 use Rattle.policy_checks.proofs.PlaceLemmas.{place_of-within, place_of-name}
+use Rattle.permissions.proofs.GraphLemmas.{below_or_at}
 use Rattle.permissions.proofs.ReachLemmas.{reached-name, itself_over_places, itself_over_names}
 
 less : (o : Ordering) → is_lt o ≡ true → o ≡ Less
@@ -34,9 +35,6 @@ no_less a b c e f = elim (cases_Bool (is_lt (slice_cmp nat_cmp a b))) [
 
 not_below_itself : (a : List ℕ) → is_lt (slice_cmp nat_cmp a a) ≡ false
 not_below_itself a = ap is_lt (tied_itself nat_list_cmp_total a)
-
-below_or_at : (i at : ℕ) → i < at + 1 → (i < at) ⊎ (i ≡ at)
-below_or_at i at below = elim (cases_Bool (i == at)) [ inl e ↦ inr (eqb-true i at e) | inr e ↦ inl (grind arith) ]
 
 module _ (graph : List (List ℕ)) (realms : List RealmTable) (n : ℕ) where
   -- a place that isn't reached from itself changes nothing

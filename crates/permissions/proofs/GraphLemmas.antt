@@ -1,27 +1,15 @@
 -- What a search over a graph finds.
-use Rattle.std.proofs.Common.{◌≡◌, ℕ, suc, ◌+◌, ◌<◌, ◌≤◌, Bool, true, false, ◌||◌, List, [], ◌∷◌, ◌++◌, length, take, get_or, refl, sym, ap, subst, ◌∙◌, inl, inr, arith, eq-eqb}
+use Rattle.std.proofs.Common.{◌≡◌, ℕ, suc, ◌+◌, ◌<◌, ◌≤◌, true, false, ◌||◌, List, [], ◌∷◌, ◌++◌, length, take, get_or, refl, sym, ap, subst, ◌∙◌, inl, inr, arith, eq-eqb}
 use Rattle.std.specs.Prelude.{◌==◌, ◌⊎◌}
-use Rattle.std.proofs.lemmas.Bool.{cases_Bool, eqb-true}
+use Rattle.std.proofs.lemmas.Bool.{cases_Bool, eqb-true, or_cases, or_left, or_right}
 use Rattle.std.proofs.lemmas.List.{get_or-take}
 use Rattle.std.proofs.lemmas.List.Folds.{list_any_at}
 use Rattle.permissions.specs.Graph.{has, edges, IsWalkOn, ReachesOn}
 
-either : (a b : Bool) → (a || b) ≡ true → (a ≡ true) ⊎ (b ≡ true)
-either true b e = inl refl
-either false b e = inr e
-
-or_left : (a b : Bool) → a ≡ true → (a || b) ≡ true
-or_left true b e = refl
-or_left false b e = cc
-
-or_right : (a b : Bool) → b ≡ true → (a || b) ≡ true
-or_right true b e = refl
-or_right false b e = e
-
 -- an element has a place
 pub has_at : (q : ℕ) (xs : List ℕ) → has q xs ≡ true → (i : ℕ) × (i < length xs) × (get_or xs i 0 ≡ q)
 has_at q [] e = let no : false ≡ true = e in cc
-has_at q (x ∷ xs) e = elim (either (x == q) (has q xs) e) [
+has_at q (x ∷ xs) e = elim (or_cases (x == q) (has q xs) e) [
   | inl here ↦ (0, omega arith, eqb-true x q here)
   | inr later ↦ let (i, below, is) = has_at q xs later in (suc i, omega arith, is)
 ]
@@ -62,7 +50,7 @@ all_found graph start found at end closed begun q w =
 front_kept : (old new : List ℕ) (i : ℕ) → take (length old) new ≡ old → i < length old → get_or new i 0 ≡ get_or old i 0
 front_kept old new i kept below = sym (get_or-take (length old) new i 0 below) ∙ ap (λ xs. get_or xs i 0) kept
 
-below_or_at : (i at : ℕ) → i < at + 1 → (i < at) ⊎ (i ≡ at)
+pub below_or_at : (i at : ℕ) → i < at + 1 → (i < at) ⊎ (i ≡ at)
 below_or_at i at below = elim (cases_Bool (i == at)) [ inl e ↦ inr (eqb-true i at e) | inr e ↦ inl (grind arith) ]
 
 -- one place more whose edges are found
@@ -85,7 +73,7 @@ begun_more old new others q found e = found ∙ or_left _ _ e
 pub reached_more : (graph : List (List ℕ)) (start r : ℕ) (old new : List ℕ) → ((q : ℕ) → has q new ≡ (has q old || has q (edges graph r)))
     → ((q : ℕ) → has q old ≡ true → ReachesOn graph start q) → has r old ≡ true → (q : ℕ) → has q new ≡ true → ReachesOn graph start q
 reached_more graph start r old new found reached here q e =
-    elim (either _ _ (sym (found q) ∙ e)) [
+    elim (or_cases _ _ (sym (found q) ∙ e)) [
       | inl before ↦ reached q before
       | inr leads ↦ reaches_on graph start r q (reached r here) leads
     ]

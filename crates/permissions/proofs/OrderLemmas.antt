@@ -1,7 +1,7 @@
 -- A walk that finds an order, step by step.
 use Rattle.std.proofs.Common.{◌≡◌, ℕ, zero, suc, ◌+◌, ◌-◌, ◌<◌, ◌≤◌, Bool, true, false, ◌||◌, List, [], ◌∷◌, ◌++◌, length, take, get_or, set, refl, sym, ap, subst, ◌∙◌, inl, inr, arith, append_assoc, append-nil, length-set, eq-eqb, ltb, take_all, if◌then◌else◌}
 use Rattle.std.specs.Prelude.{◌==◌, ◌⊎◌}
-use Rattle.std.proofs.lemmas.Bool.{cases_Bool, eqb-true, ltb-true}
+use Rattle.std.proofs.lemmas.Bool.{cases_Bool, eqb-true, ltb-true, or_cases, or_left, or_right}
 use Rattle.std.proofs.lemmas.List.{get_or-set_same, get_or-set_other, take_more, take_all, get_or_default}
 use Rattle.permissions.specs.declared.order.Frame.{Frame}
 use Rattle.permissions.specs.declared.order.Mark.{Mark}
@@ -10,18 +10,6 @@ use Rattle.permissions.specs.Graph.{has, edges, IsGraph, ReachesOn}
 use Rattle.permissions.specs.Order.{LeadsBack, IsLaid, places_of, IsPath, mark_of, mark_at, is_unseen, IsWalked, StaysSeen, frames_left, unseen_left, steps_left}
 use Rattle.permissions.proofs.GraphLemmas.{has_of, reaches_on}
 use Rattle.permissions.proofs.RowLemmas.{differ}
-
-either : (a b : Bool) → (a || b) ≡ true → (a ≡ true) ⊎ (b ≡ true)
-either true b e = inl refl
-either false b e = inr e
-
-left : (a b : Bool) → a ≡ true → (a || b) ≡ true
-left true b e = refl
-left false b e = cc
-
-right : (a b : Bool) → b ≡ true → (a || b) ≡ true
-right true b e = refl
-right false b e = e
 
 or_assoc : (a b c : Bool) → (a || (b || c)) ≡ ((a || b) || c)
 or_assoc true b c = refl
@@ -41,19 +29,19 @@ on_snoc q f [] = or_false (f.place == q)
 on_snoc q f (e ∷ fs) = ap (λ b. (e.place == q) || b) (on_snoc q f fs) ∙ or_assoc (e.place == q) (has q (places_of fs)) (f.place == q)
 
 has_here : (q p : ℕ) (xs : List ℕ) → (p == q) ≡ true → has q (xs ++ p ∷ []) ≡ true
-has_here q p xs e = has_snoc q p xs ∙ right (has q xs) (p == q) e
+has_here q p xs e = has_snoc q p xs ∙ or_right (has q xs) (p == q) e
 
 has_before : (q p : ℕ) (xs : List ℕ) → has q xs ≡ true → has q (xs ++ p ∷ []) ≡ true
-has_before q p xs e = has_snoc q p xs ∙ left (has q xs) (p == q) e
+has_before q p xs e = has_snoc q p xs ∙ or_left (has q xs) (p == q) e
 
 has_other : (q p : ℕ) (xs : List ℕ) → (p == q) ≡ false → has q (xs ++ p ∷ []) ≡ has q xs
 has_other q p xs e = has_snoc q p xs ∙ ap (λ b. has q xs || b) e ∙ or_false (has q xs)
 
 on_here : (q : ℕ) (f : Frame) (fs : List Frame) → (f.place == q) ≡ true → has q (places_of (fs ++ f ∷ [])) ≡ true
-on_here q f fs e = on_snoc q f fs ∙ right (has q (places_of fs)) (f.place == q) e
+on_here q f fs e = on_snoc q f fs ∙ or_right (has q (places_of fs)) (f.place == q) e
 
 on_before : (q : ℕ) (f : Frame) (fs : List Frame) → has q (places_of fs) ≡ true → has q (places_of (fs ++ f ∷ [])) ≡ true
-on_before q f fs e = on_snoc q f fs ∙ left (has q (places_of fs)) (f.place == q) e
+on_before q f fs e = on_snoc q f fs ∙ or_left (has q (places_of fs)) (f.place == q) e
 
 on_other : (q : ℕ) (f : Frame) (fs : List Frame) → (f.place == q) ≡ false → has q (places_of (fs ++ f ∷ [])) ≡ has q (places_of fs)
 on_other q f fs e = on_snoc q f fs ∙ ap (λ b. has q (places_of fs) || b) e ∙ or_false (has q (places_of fs))
@@ -82,7 +70,7 @@ next_frame f = record { place = f.place; followed = f.followed + 1 }
 -- what one edge more leads to
 one_edge_more : (es : List ℕ) (i q : ℕ) → i < length es → has q (take (i + 1) es) ≡ true → (has q (take i es) ≡ true) ⊎ (q ≡ get_or es i 0)
 one_edge_more es i q within e =
-    elim (either _ _ (sym (has_snoc q (get_or es i 0) (take i es)) ∙ (sym (ap (has q) (take_more es i 0 within)) ∙ e))) [
+    elim (or_cases _ _ (sym (has_snoc q (get_or es i 0) (take i es)) ∙ (sym (ap (has q) (take_more es i 0 within)) ∙ e))) [
       | inl before ↦ inl before
       | inr here ↦ inr (sym (eqb-true (get_or es i 0) q here))
     ]
@@ -134,13 +122,13 @@ module _ (graph : List (List ℕ)) (order : List ℕ) (f : Frame) where
 
   reaches_last : (fs : List Frame) → IsPath graph order (fs ++ f ∷ []) → (q : ℕ) → has q (places_of (fs ++ f ∷ [])) ≡ true → (q ≡ f.place) ⊎ ReachesOn graph q f.place
   reaches_last [] h q on = inl (sym (eqb-true f.place q (sym (or_false (f.place == q)) ∙ on)))
-  reaches_last (e ∷ []) h q on = elim (either (e.place == q) _ on) [
+  reaches_last (e ∷ []) h q on = elim (or_cases (e.place == q) _ on) [
     | inl here ↦ inr (subst (λ p. ReachesOn graph p f.place) (eqb-true e.place q here) (step_first e.place f.place h.1 (inl refl)))
     | inr later ↦ reaches_last [] h.2 q later
   ]
-  reaches_last (e ∷ g ∷ fs) h q on = elim (either (e.place == q) _ on) [
+  reaches_last (e ∷ g ∷ fs) h q on = elim (or_cases (e.place == q) _ on) [
     | inl here ↦
-        let next = reaches_last (g ∷ fs) h.2 g.place (left (g.place == g.place) _ (is_itself g.place)) in
+        let next = reaches_last (g ∷ fs) h.2 g.place (or_left (g.place == g.place) _ (is_itself g.place)) in
         inr (subst (λ p. ReachesOn graph p f.place) (eqb-true e.place q here) (step_first e.place g.place h.1 next))
     | inr later ↦ reaches_last (g ∷ fs) h.2 q later
   ]
@@ -201,7 +189,7 @@ module _ (graph : List (List ℕ)) (marks : List Mark) (order : List ℕ) where
     linked = path_leave graph order f fs h.linked;
     laid = laid_more graph [] order f.place h.laid
         (λ q e. last_passed graph order f fs h.linked q (subst (λ xs. has q xs ≡ true) (sym (take_all f.followed (edges graph f.place) all)) e));
-    known = λ q there. elim (either _ _ (sym (has_snoc q f.place order) ∙ there)) [
+    known = λ q there. elim (or_cases _ _ (sym (has_snoc q f.place order) ∙ there)) [
       | inl before ↦ h.known q before
       | inr here ↦ subst (λ p. p < length graph) (eqb-true f.place q here) (h.within f.place (on_here f.place f fs (is_itself f.place)))
     ];
@@ -239,7 +227,7 @@ module _ (graph : List (List ℕ)) (marks : List Mark) (order : List ℕ) where
           get_or-set_other marks to q Open Unseen (λ s. differ to q other (sym s)) ∙ marked q b
           ∙ ap (λ b. mark_of b (has q order)) (sym (on_other q f path (subst (λ p. (p == q) ≡ false) (sym is) other)))
     ];
-    within = λ q on. elim (either _ _ (sym (on_snoc q f path) ∙ on)) [
+    within = λ q on. elim (or_cases _ _ (sym (on_snoc q f path) ∙ on)) [
       | inl before ↦ within q before
       | inr here ↦ subst (λ p. p < length graph) (sym is ∙ eqb-true f.place q here) below
     ];

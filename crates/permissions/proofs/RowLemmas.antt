@@ -3,7 +3,7 @@ use Rattle.std.proofs.Common.{◌≡◌, ℕ, zero, suc, ◌<◌, Bool, true, fa
 use Rattle.std.specs.Prelude.{◌==◌, ◌⊎◌, ◌↔◌}
 use Rattle.std.specs.List.{list_any}
 use Rattle.std.proofs.Math.ListN.{set}
-use Rattle.std.proofs.lemmas.Bool.{cases_Bool, eqb-true}
+use Rattle.std.proofs.lemmas.Bool.{cases_Bool, eqb-true, or_cases, or_left, or_right}
 use Rattle.std.proofs.lemmas.List.{get_or-set_same, get_or-set_other, length-map}
 use Rattle.policy_checks.specs.declared.permission.Permission.{Permission}
 use Rattle.permissions.specs.declared.grants.Grant.{Grant}
@@ -176,29 +176,17 @@ unknown_bound t u p name none w = from_path w.reached.path w.reached.walk where
   from_path [] same = none_bound t u p name none (ap (binds t u p) same ∙ w.bound)
   from_path (x ∷ xs) walk = no_walk t name name x xs none walk.0
 
-either : (a b : Bool) → (a || b) ≡ true → (a ≡ true) ⊎ (b ≡ true)
-either true b e = inl refl
-either false b e = inr e
-
-left : (a b : Bool) → a ≡ true → (a || b) ≡ true
-left true b e = refl
-left false b e = cc
-
-right : (a b : Bool) → b ≡ true → (a || b) ≡ true
-right true b e = refl
-right false b e = e
-
 -- the two walks together
 pub allowed : (t : PolicyTables) (u : ℕ) (p : Permission) (realm : List ℕ) (own root : Bool) → ((own ≡ true) ↔ IsBoundByName t realm u p) → ((root ≡ true) ↔ IsBoundByName t (root_of realm) u p)
     → ((own || root) ≡ true) ↔ Allows t u p realm
 allowed t u p realm own root h h' = (
-  λ e. elim (either own root e) [
+  λ e. elim (or_cases own root e) [
     | inl a ↦ let w = h.0 a in record { name = w.to; asked = inl w.reached; bound = w.bound }
     | inr b ↦ let w = h'.0 b in record { name = w.to; asked = inr w.reached; bound = w.bound }
   ],
   λ w. elim w.asked [
-    | inl a ↦ left own root (h.1 (record { to = w.name; reached = a; bound = w.bound }))
-    | inr b ↦ right own root (h'.1 (record { to = w.name; reached = b; bound = w.bound }))
+    | inl a ↦ or_left own root (h.1 (record { to = w.name; reached = a; bound = w.bound }))
+    | inr b ↦ or_right own root (h'.1 (record { to = w.name; reached = b; bound = w.bound }))
   ],
 )
 
