@@ -155,18 +155,6 @@ all_rows graph grants users done rows is h all = (
       h.no_cycle p (all p (is r p e)) w,
 )
 
-pub none_done : (graph : List (List ℕ)) (grants : List (List Grant)) (users : ℕ) (done : List Bool) (rows : List (List ℕ)) → length done ≡ length graph → length rows ≡ length graph
-    → ((p : ℕ) → is_done done p ≡ false) → IsDone graph grants users done rows
-none_done graph grants users done rows marks count none = record {
-  marks = marks;
-  count = count;
-  row = λ p d. let no : false ≡ true = sym (none p) ∙ d in absurd (false_true no);
-  closed = λ p q d there. let no : false ≡ true = sym (none p) ∙ d in cc;
-  no_cycle = λ p d w. let no : false ≡ true = sym (none p) ∙ d in false_true no;
-} where
-  false_true : false ≡ true → ⊥
-  false_true e = cc
-
 -- where no place leads back to itself, no realm does
 pub no_cycle_of : (t : PolicyTables) (graph : List (List ℕ)) → graph ≡ graph_of t → ((p : ℕ) → ReachesOn graph p p → ⊥) → HasNoCycle t
 no_cycle_of t graph is none = λ name w.

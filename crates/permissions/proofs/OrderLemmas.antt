@@ -7,7 +7,7 @@ use Rattle.permissions.specs.declared.order.Frame.{Frame}
 use Rattle.permissions.specs.declared.order.Mark.{Mark}
 use Rattle.permissions.specs.declared.order.Mark.TheVariants.{Unseen, Open, Done}
 use Rattle.permissions.specs.Graph.{has, edges, IsGraph, ReachesOn}
-use Rattle.permissions.specs.Order.{LeadsBack, IsLaid, places_of, IsPath, mark_of, mark_at, is_unseen, IsWalked, StaysSeen, frames_left, unseen_left, steps_left}
+use Rattle.permissions.specs.Order.{LeadsBack, IsLaid, places_of, IsPath, mark_of, mark_at, is_unseen, IsWalked, frames_left, unseen_left, steps_left}
 use Rattle.permissions.proofs.GraphLemmas.{has_of, reaches_on}
 use Rattle.permissions.proofs.RowLemmas.{differ}
 
@@ -165,10 +165,6 @@ seen_on_path true true e = refl
 seen_on_path true false e = refl
 seen_on_path false in_order e = absurd cc
 
-seen_in_order : (in_order : Bool) → is_unseen (mark_of false in_order) ≡ false → in_order ≡ true
-seen_in_order true e = refl
-seen_in_order false e = absurd cc
-
 module _ (graph : List (List ℕ)) (marks : List Mark) (order : List ℕ) where
   -- a place is left
   pub walked_back : (fs : List Frame) (f : Frame) → IsWalked graph marks (fs ++ f ∷ []) order → length (edges graph f.place) ≤ f.followed
@@ -246,9 +242,6 @@ module _ (graph : List (List ℕ)) (marks : List Mark) (order : List ℕ) where
       (λ q on. h.within q (subst (λ ps. has q ps ≡ true) (same_places fs f) on))
       h.count (is f.place to (has_of (edges graph f.place) f.followed within)) refl unseen (path_enter graph order f fs h.linked within) h.laid h.known
 
-  pub walked_from : (p : ℕ) → IsWalked graph marks [] order → p < length graph → mark_at marks p ≡ Unseen → IsWalked graph (set marks p Open) (record { place = p; followed = 0 } ∷ []) order
-  walked_from p h below unseen = walked_in [] (record { place = p; followed = 0 }) p h.marked h.within h.count below refl unseen (λ q e. let no : false ≡ true = e in absurd cc) h.laid h.known
-
   -- an edge to a place of the path
   pub walked_round : (fs : List Frame) (f : Frame) → IsWalked graph marks (fs ++ f ∷ []) order → f.followed < length (edges graph f.place) → IsGraph graph
       → mark_at marks (get_or (edges graph f.place) f.followed 0) ≡ Open → LeadsBack graph
@@ -256,17 +249,6 @@ module _ (graph : List (List ℕ)) (marks : List Mark) (order : List ℕ) where
       let to = get_or (edges graph f.place) f.followed 0 in
       let edge = has_of (edges graph f.place) f.followed within in
       leads_back graph order f fs h.linked to edge (marked_open _ _ (sym (h.marked to (is f.place to edge)) ∙ open_is))
-
-  -- what was seen is in the order, once nothing is left on the path
-  pub seen_is_laid : IsWalked graph marks [] order → (p : ℕ) → p < length graph → is_unseen (mark_at marks p) ≡ false → has p order ≡ true
-  seen_is_laid h p below seen = seen_in_order (has p order) (ap is_unseen (sym (h.marked p below)) ∙ seen)
-
--- seen places stay seen
-pub stays_seen : (marks : List Mark) (p : ℕ) (m : Mark) → p < length marks → is_unseen m ≡ false → StaysSeen marks (set marks p m)
-stays_seen marks p m within is q seen = elim (cases_Bool (p == q)) [
-  | inl here ↦ ap (λ n. is_unseen (mark_at (set marks p m) n)) (sym (eqb-true p q here)) ∙ ap is_unseen (get_or-set_same marks p m Unseen within) ∙ is
-  | inr other ↦ ap is_unseen (get_or-set_other marks p q m Unseen (λ s. differ p q other (sym s))) ∙ seen
-]
 
 -- steps left
 

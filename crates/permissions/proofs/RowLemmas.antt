@@ -1,6 +1,6 @@
 -- Rows of permissions, and the definition of who is allowed what.
 use Rattle.std.proofs.Common.{◌≡◌, ℕ, zero, suc, ◌<◌, Bool, true, false, ◌||◌, ◌&&◌, List, [], ◌∷◌, length, map, get_or, replicate, bit_or, Option, Some, None, refl, sym, ap, subst, ◌∙◌, inl, inr, arith, eq-eqb}
-use Rattle.std.specs.Prelude.{◌==◌, ◌⊎◌, ◌↔◌}
+use Rattle.std.specs.Prelude.{◌==◌, ◌↔◌}
 use Rattle.std.specs.List.{list_any}
 use Rattle.std.proofs.Math.ListN.{set}
 use Rattle.std.proofs.lemmas.Bool.{cases_Bool, eqb-true, or_cases, or_left, or_right}
@@ -10,12 +10,12 @@ use Rattle.permissions.specs.declared.grants.Grant.{Grant}
 use Rattle.policy_tables.specs.declared.tables.PolicyTables.{PolicyTables}
 use Rattle.permissions.specs.Allows.{binds_in, binds, root_of, Allows}
 use Rattle.policy_checks.specs.Checks.{realm_names}
-use Rattle.permissions.specs.Grants.{granted, grants_at, bindings_at, AreGrants, IsGrantedRow, AreGrantedRows, IsBoundFrom, IsRow, AreRows, IsBoundByName}
+use Rattle.permissions.specs.Grants.{bindings_at, AreGrants, IsGrantedRow, AreGrantedRows, IsBoundFrom, IsRow, AreRows, IsBoundByName}
 use Rattle.permissions.specs.Masks.{has_bit}
 use Rattle.permissions.specs.Graph.{has, ReachesOn}
 use Rattle.policy_checks.specs.Index.{place_of}
 use Rattle.permissions.specs.Reach.{IsWalk, graph_of}
-use Rattle.permissions.proofs.GrantLemmas.{has_bit-zero, has_bit-or, realm_place}
+use Rattle.permissions.proofs.GrantLemmas.{has_bit-or, realm_place}
 use Rattle.permissions.proofs.ReachLemmas.{PlacesWalk, walk_over_places, walk_over_names, not_there-extended, no_walk}
 use Rattle.policy_checks.proofs.PlaceLemmas.{place_of-within}
 
@@ -52,56 +52,14 @@ any_has f (x ∷ xs) e = elim (cases_Bool (f x)) [
   | inr h ↦
       let (q, there, is) = any_has f xs (sym (ap (λ b. b || list_any f xs) h) ∙ e) in
       (q, or_right (x == q) (has q xs) there, is)
-] where
-  or_right : (a b : Bool) → b ≡ true → (a || b) ≡ true
-  or_right true b e = refl
-  or_right false b e = e
+]
 
 pub has_any : (f : ℕ → Bool) (xs : List ℕ) (q : ℕ) → has q xs ≡ true → f q ≡ true → list_any f xs ≡ true
 has_any f [] q e h = let no : false ≡ true = e in cc
 has_any f (x ∷ xs) q e h = elim (cases_Bool (x == q)) [
   | inl is ↦ ap (λ b. b || list_any f xs) (ap f (eqb-true x q is) ∙ h)
-  | inr is ↦ later (f x) (list_any f xs) (has_any f xs q (sym (ap (λ b. b || has q xs) is) ∙ e) h)
-] where
-  later : (a b : Bool) → b ≡ true → (a || b) ≡ true
-  later true b e = refl
-  later false b e = e
-
-one_of : (a b c : Bool) → ((a || b) || c) ≡ true → a ≡ false → (b ≡ true) ⊎ (c ≡ true)
-one_of a true c e n = inl refl
-one_of true false c e n = cc
-one_of false false c e n = inr e
-
-first_of_two : (a b c : Bool) → b ≡ true → ((a || b) || c) ≡ true
-first_of_two true b c e = refl
-first_of_two false true c e = refl
-first_of_two false false c e = cc
-
-second_of_two : (a b c : Bool) → c ≡ true → ((a || b) || c) ≡ true
-second_of_two true b c e = refl
-second_of_two false true c e = refl
-second_of_two false false c e = e
-
--- a row that was filled from nothing
-pub granted_row : (graph : List (List ℕ)) (grants : List (List Grant)) (users place : ℕ) (reached old row : List ℕ) → length row ≡ users
-    → ((u : ℕ) → get_or old u 0 ≡ 0)
-    → ((q : ℕ) → (has q reached ≡ true) ↔ ReachesOn graph place q)
-    → ((u : ℕ) (p : Permission) → u < users → has_bit (get_or row u 0) p ≡ ((has_bit (get_or old u 0) p || granted u p (grants_at grants place)) || list_any (λ q. granted u p (grants_at grants q)) reached))
-    → IsGrantedRow graph grants users place row
-granted_row graph grants users place reached old row count zeros found bits = record {
-  count = count;
-  bits = λ u p below.
-      let none : has_bit (get_or old u 0) p ≡ false = ap (λ n. has_bit n p) (zeros u) ∙ has_bit-zero p in (
-        λ e. elim (one_of _ _ _ (sym (bits u p below) ∙ e) none) [
-          | inl here ↦ record { to = place; reached = inl refl; granted_there = here }
-          | inr later ↦ let (q, there, is) = any_has (λ q. granted u p (grants_at grants q)) reached later in record { to = q; reached = inr ((found q).0 there); granted_there = is }
-        ],
-        λ w. bits u p below ∙ elim w.reached [
-          | inl here ↦ first_of_two (has_bit (get_or old u 0) p) _ _ (subst (λ (q : ℕ). granted u p (grants_at grants q) ≡ true) (sym here) w.granted_there)
-          | inr on ↦ second_of_two (has_bit (get_or old u 0) p) (granted u p (grants_at grants place)) _ (has_any (λ q. granted u p (grants_at grants q)) reached w.to ((found w.to).1 on) w.granted_there)
-        ],
-      );
-}
+  | inr is ↦ or_right (f x) (list_any f xs) (has_any f xs q (sym (ap (λ b. b || has q xs) is) ∙ e) h)
+]
 
 some_within : {A : Type 0} (f : A → Bool) (xs : List (List A)) (q : ℕ) → list_any f (get_or xs q []) ≡ true → q < length xs
 some_within f [] q e = let no : false ≡ true = e in cc
