@@ -1,7 +1,7 @@
 -- What a wire holds between two calls, and what a call answers.
 use Rattle.std.specs.Prelude.{◌≡◌, ℕ, ◌≤◌, List, [], ◌++◌, Option, Some, None, Result, Ok, Err, is_ok}
 use Rattle.outside.specs.Bytes.{Gave, IsEnd}
-use Rattle.outside.specs.Causes.{Rose}
+use Rattle.fault_counts.specs.Causes.{Rose}
 use Rattle.http_wire.specs.Stream.{IsMessage, IsCutShort, IsUnread, HasNoMessage}
 use Rattle.http_wire.specs.WireState.{WireState}
 use Rattle.http_wire.specs.declared.message.Message.{Message}

@@ -8,7 +8,6 @@ mod alphabets;
 mod escapes;
 mod faults;
 pub mod laws;
-mod lists;
 mod parts;
 mod sequences;
 #[cfg(test)]

@@ -1,8 +1,5 @@
 //! Parts and their spellings, taken from the formats.
-use crate::{
-    Alphabet, Bytes, NameFault, Numbers, PartForm, append_escaped, read_escaped, read_name,
-    read_part,
-};
+use crate::{Alphabet, NameFault, PartForm, append_escaped, read_escaped, read_name, read_part};
 use std::alloc::Global;
 use std::test::Fail;
 
@@ -101,15 +98,5 @@ fn reads_and_writes_spellings(rt: HostRuntime) -> Result<(), Fail> {
         fault_of(read_name(alloc, b"results/", form, b"results/R"))
             == Some(NameFault::BadByte { at: 8 })
     );
-    Ok(())
-}
-
-#[test]
-fn keeps_lists(rt: HostRuntime) -> Result<(), Fail> {
-    let bytes = Bytes::new(Vec::from_array(rt.alloc(), [1, 2])?);
-    assert!(rt; bytes.len() == 2 && !bytes.is_empty());
-    assert!(rt; bytes.into_vec().as_slice() == [1, 2].as_slice());
-    let numbers = Numbers::new(Vec::from_array(rt.alloc(), [7, 8, 9])?);
-    assert!(rt; numbers.len() == 3 && numbers.as_slice() == [7, 8, 9].as_slice());
     Ok(())
 }

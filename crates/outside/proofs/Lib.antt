@@ -1,4 +1,3 @@
-pub mod CountLaws
 pub mod Taken
 pub mod Progress
 pub mod FirstPiece

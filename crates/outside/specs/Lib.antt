@@ -1,7 +1,5 @@
-pub mod Causes
 pub mod Bytes
 pub mod Whole
-pub mod Calls
 pub mod Incoming
 pub mod Outgoing
 pub mod Memory

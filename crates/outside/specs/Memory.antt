@@ -1,12 +1,12 @@
 -- What contracts see of the ends in memory.
 use Rattle.std.specs.Prelude.{◌≡◌, ℕ, List, min, length, drop, Result, Ok, Err, IfOk}
-use Rattle.outside.specs.Causes.{counted}
-use Rattle.outside.specs.Calls.{Calls, one_call_more}
+use Rattle.fault_counts.specs.Causes.{counted}
+use Rattle.fault_counts.specs.Calls.{Calls, one_call_more}
 use Rattle.outside.specs.Incoming.{pieces_after}
 use Rattle.outside.specs.Outgoing.{Output, output_after}
-use Rattle.outside.specs.declared.Failed.{Failed}
-use Rattle.outside.specs.declared.memory.schedule.Outcome.{Outcome}
-use Rattle.outside.specs.declared.memory.schedule.Outcome.TheVariants.{Works, Fails, Stalls}
+use Rattle.fault_counts.specs.declared.Failed.{Failed}
+use Rattle.fault_counts.specs.declared.schedule.Outcome.{Outcome}
+use Rattle.fault_counts.specs.declared.schedule.Outcome.TheVariants.{Works, Fails, Stalls}
 
 -- A source: its calls, the bytes that are left, and how many reads failed.
 pub record SourceState : Type 0 where

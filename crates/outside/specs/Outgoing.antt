@@ -1,9 +1,9 @@
 -- Bytes that were written to an end in memory.
 use Rattle.std.specs.Prelude.{◌≡◌, ℕ, zero, suc, List, [], ◌∷◌, ◌++◌, take, length, Result, Ok, Err, IfOk}
-use Rattle.outside.specs.Causes.{counted}
-use Rattle.outside.specs.declared.Failed.{Failed}
-use Rattle.outside.specs.declared.memory.schedule.Outcome.{Outcome}
-use Rattle.outside.specs.declared.memory.schedule.Outcome.TheVariants.{Works, Fails, Stalls}
+use Rattle.fault_counts.specs.Causes.{counted}
+use Rattle.fault_counts.specs.declared.Failed.{Failed}
+use Rattle.fault_counts.specs.declared.schedule.Outcome.{Outcome}
+use Rattle.fault_counts.specs.declared.schedule.Outcome.TheVariants.{Works, Fails, Stalls}
 
 -- What was taken so far, and how often a write failed or took nothing.
 pub record Output : Type 0 where

@@ -4,7 +4,6 @@
 #![tactic(auto)]
 
 mod clock;
-mod counts;
 mod link;
 mod memory;
 mod pair;
@@ -15,7 +14,7 @@ mod stream;
 mod whole;
 
 pub use clock::{Clock, ListClock, WallClock};
-pub use counts::counts_add_up;
+pub use fault_counts::{Failed, counts_add_up};
 pub use link::Link;
 pub use memory::{MemoryLink, MemorySink, MemorySource};
 pub use pair::PairLink;
@@ -24,10 +23,6 @@ pub use source::Source;
 pub use standard::{Standard, StdErr, StdIn, StdOut};
 pub use stream::{StreamSink, StreamSource};
 pub use whole::{WriteEnd, put_whole, write_whole};
-
-/// A call on the outside failed. The object that answers it counts it in its `faults`.
-#[derive(Clone, Copy, Debug)]
-pub struct Failed;
 
 #[cfg(test)]
 mod tests;

@@ -2,7 +2,7 @@
 ghost use Rattle.std.specs.Prelude.{ℕ, ◌≡◌, List, Option};
 ghost use Rattle.std.specs.Io.{ReadsAtMost, WritesAtMost};
 ghost use Rattle.std.specs.Borrow.{GName};
-ghost use Rattle.outside.specs.Causes.{HasCause, CountsStall};
+ghost use Rattle.fault_counts.specs.Causes.{HasCause, CountsStall};
 ghost use Rattle.outside.specs.Bytes.{Reads, Writes};
 
 use crate::Failed;

@@ -3,7 +3,6 @@
 mod incoming;
 mod link;
 mod outgoing;
-mod schedule;
 mod sink;
 mod source;
 

@@ -1,7 +1,7 @@
 // Where bytes go to.
 ghost use Rattle.std.specs.Prelude.{ℕ, List, Option};
 ghost use Rattle.std.specs.Io.{WritesAtMost};
-ghost use Rattle.outside.specs.Causes.{HasCause, CountsStall};
+ghost use Rattle.fault_counts.specs.Causes.{HasCause, CountsStall};
 ghost use Rattle.outside.specs.Bytes.{Writes};
 
 use crate::Failed;

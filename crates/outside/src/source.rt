@@ -1,7 +1,7 @@
 // Where bytes come from.
 ghost use Rattle.std.specs.Prelude.{ℕ, List, Option};
 ghost use Rattle.std.specs.Io.{ReadsAtMost};
-ghost use Rattle.outside.specs.Causes.{HasCause};
+ghost use Rattle.fault_counts.specs.Causes.{HasCause};
 ghost use Rattle.outside.specs.Bytes.{Reads};
 
 use crate::Failed;

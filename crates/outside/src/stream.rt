@@ -1,11 +1,11 @@
 // Readers and writers of the system as a source and a sink: one system call a call, and no buffer.
 ghost use Rattle.std.specs.Prelude.{◌≡◌, None, MatchResult};
 ghost use Rattle.std.specs.Io.{ReadsAtMost, WritesAtMost};
-ghost use Rattle.outside.specs.Causes.{HasCause, CountsStall, counted};
+ghost use Rattle.fault_counts.specs.Causes.{HasCause, CountsStall, counted};
 ghost use Rattle.outside.specs.Bytes.{Reads, Writes};
 
-use crate::counts::Count;
 use crate::{Failed, Sink, Source};
+use fault_counts::Count;
 use std::io::{Read, Write};
 use std::marker::Model;
 

@@ -6,12 +6,12 @@ ghost use Rattle.policy_tables.specs.Findings.{least_with};
 ghost use Rattle.policy_tables.specs.Document.{table_findings, with_entry, entries_of, entries_findings, section_of, section_findings, item_bindings, item_bindings_findings, bindings_of, bindings_findings, tables_of, shape_findings};
 
 use crate::findings::{Finding, copied, note_path, path_of_key, path_of_place};
-use crate::listed::Listed;
 use crate::read::{
     find_list, find_table, note_if_there, note_unknown, read_text, read_texts, read_texts_if_there,
 };
 use crate::shape::Shape;
 use crate::tables::{Binding, Group, PolicyTables, RealmTable, Role, User};
+use lists::Listed;
 use std::alloc::{AllocError, Global};
 use toml::value::Array;
 use toml::{Table, Value};

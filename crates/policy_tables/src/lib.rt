@@ -3,7 +3,6 @@
 
 mod entries;
 mod findings;
-mod listed;
 mod read;
 mod shape;
 mod tables;
@@ -12,5 +11,5 @@ mod tests;
 
 pub use entries::read_tables;
 pub use findings::{Finding, note_path, note_text, path_of_key, path_of_place};
-pub use listed::Listed;
+pub use lists::Listed;
 pub use tables::{Binding, Group, PolicyTables, RealmTable, Role, User, count_entries};

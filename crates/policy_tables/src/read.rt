@@ -7,8 +7,8 @@ ghost use Rattle.policy_tables.specs.Findings.{joined, least_with};
 ghost use Rattle.policy_tables.specs.Document.{is_known, unknown_keys, text_at, list_at, text_of, text_findings, missing, item_texts, item_findings, texts_of, texts_findings, wrong_kind, optional_texts_findings, table_at};
 
 use crate::findings::{Finding, copied, note_path, path_of_key, path_of_place};
-use crate::listed::Listed;
 use crate::shape::Shape;
+use lists::Listed;
 use name_parts::Bytes;
 use std::alloc::{AllocError, Global};
 use toml::value::Array;

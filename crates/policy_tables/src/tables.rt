@@ -2,7 +2,7 @@
 ghost use Rattle.std.specs.Prelude.{◌≡◌, length, sum_by};
 ghost use Rattle.policy_tables.specs.Entries.{capped, entries};
 
-use crate::listed::Listed;
+use lists::Listed;
 use name_parts::Bytes;
 
 /// A user: a name, and the token that the user shows.

@@ -1,7 +1,7 @@
 -- What a run's exit status says.
 use Rattle.std.proofs.Common.{◌≡◌, ◌≢◌, ℕ, ℤ, ◌⊎◌, inl, inr, List, Option, refl, ap, arith}
 use Rattle.outside.specs.Bytes.{IsEnd}
-use Rattle.outside.specs.Causes.{Rose}
+use Rattle.fault_counts.specs.Causes.{Rose}
 use Rattle.http_wire.specs.Stream.{Framed}
 use Rattle.http_wire.specs.declared.message.End.{End}
 use Rattle.http_wire.specs.declared.message.End.TheVariants as stream_ends

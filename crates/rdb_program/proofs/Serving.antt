@@ -3,7 +3,7 @@ use Rattle.std.proofs.Common.{◌≡◌, ℕ, ℤ, ◌≤◌, ◌⊎◌, inl, in
 use Rattle.std.proofs.lemmas.List.{map-append, length-map}
 use Rattle.std.specs.List.{AllByRecursion}
 use Rattle.outside.specs.Bytes.{Gave, Took}
-use Rattle.outside.specs.Causes.{Rose}
+use Rattle.fault_counts.specs.Causes.{Rose}
 use Rattle.outside.specs.Whole.{CountsFault, CountsEnd}
 use Rattle.outside.specs.declared.whole.WriteEnd.{WriteEnd}
 use Rattle.outside.specs.declared.whole.WriteEnd.TheVariants as write_ends
@@ -25,7 +25,7 @@ use Rattle.rdb_program.specs.Turn.{Turn, entry_of}
 use Rattle.rdb_program.specs.Closing.{Closes}
 use Rattle.rdb_program.specs.declared.ending.Cause.{Cause}
 use Rattle.rdb_program.specs.declared.ending.Cause.TheVariants as causes
-use Rattle.outside.proofs.CountLaws.{more_then_rose}
+use Rattle.fault_counts.proofs.CountLaws.{more_then_rose}
 use Rattle.outside.proofs.Taken.{gave_nothing, gave_both, took_nothing, took_both}
 use Rattle.http_wire.proofs.StreamLaws.{spells_more}
 use Rattle.rdb_program.proofs.ReplyLaws.{replies_more}

@@ -1,7 +1,7 @@
 -- How a connection is closed after the wire's last answer.
 use Rattle.std.specs.Prelude.{◌≡◌, ℕ, ◌≤◌, ◌⊎◌, List, [], ◌++◌, Option}
 use Rattle.outside.specs.Bytes.{Took}
-use Rattle.outside.specs.Causes.{Rose}
+use Rattle.fault_counts.specs.Causes.{Rose}
 use Rattle.http_wire.specs.Out.{farewell_bytes}
 use Rattle.http_wire.specs.declared.message.WireFault.{WireFault}
 use Rattle.http_wire.specs.declared.message.WireFault.TheVariants as faults

@@ -2,7 +2,7 @@
 use Rattle.std.specs.Prelude.{◌≡◌, ℕ, ℤ, ◌≤◌, ◌⊎◌, List, [], ◌∷◌, ◌++◌, Option, length, map, true}
 use Rattle.std.specs.List.{AllByRecursion}
 use Rattle.outside.specs.Bytes.{Gave, Took, IsEnd}
-use Rattle.outside.specs.Causes.{Rose}
+use Rattle.fault_counts.specs.Causes.{Rose}
 use Rattle.service_core.specs.ReplyBytes.{told_bytes, standin_bytes}
 use Rattle.service_core.specs.World.{World}
 use Rattle.service_core.specs.History.{Entry, IsTimed}

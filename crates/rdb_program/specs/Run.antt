@@ -1,7 +1,7 @@
 -- A run of the program.
 use Rattle.std.specs.Prelude.{◌≡◌, ℕ, ℤ, ◌⊎◌, List, [], ◌++◌, Option}
 use Rattle.outside.specs.Bytes.{Took}
-use Rattle.outside.specs.Causes.{Rose}
+use Rattle.fault_counts.specs.Causes.{Rose}
 use Rattle.service_core.specs.World.{empty_world}
 use Rattle.rdb_program.specs.Words.{IsAnswerWords}
 use Rattle.rdb_program.specs.Ends.{Ends}

@@ -1,7 +1,7 @@
 // The top call: all that the program does, over ends that are handed in.
 ghost use Rattle.std.specs.Prelude.{◌≡◌, ◌≢◌, ℕ, List, None, map, string_bytes};
 ghost use Rattle.outside.specs.Bytes.{IsEnd};
-ghost use Rattle.outside.specs.Causes.{Rose};
+ghost use Rattle.fault_counts.specs.Causes.{Rose};
 ghost use Rattle.rdb_program.specs.Ends.{ends};
 ghost use Rattle.rdb_program.specs.Endings.{line_of};
 ghost use Rattle.rdb_program.specs.Words.{IsAnswerWords};

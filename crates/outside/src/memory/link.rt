@@ -2,18 +2,17 @@
 ghost use Rattle.std.specs.Prelude.{◌≡◌, ℕ, List, [], map, Some, IfOk};
 ghost use Rattle.std.specs.List.{concat};
 ghost use Rattle.std.specs.Io.{ReadsAtMost, WritesAtMost};
-ghost use Rattle.outside.specs.Causes.{HasCause, CountsStall};
+ghost use Rattle.fault_counts.specs.Causes.{HasCause, CountsStall};
 ghost use Rattle.outside.specs.Bytes.{Reads, Writes};
-ghost use Rattle.outside.specs.Calls.{no_call_yet, outcome_of, times_listed};
+ghost use Rattle.fault_counts.specs.Calls.{no_call_yet, outcome_of, times_listed};
 ghost use Rattle.outside.specs.Incoming.{without_empty, first_piece};
 ghost use Rattle.outside.specs.Outgoing.{nothing_written, EndsWrite};
 ghost use Rattle.outside.specs.Memory.{EndsRead, link_after_read, link_after_write};
 
 use super::incoming::Pieces;
 use super::outgoing::Outgoing;
-use super::schedule::{Outcome, Schedule};
-use crate::counts::Count;
 use crate::{Failed, Link};
+use fault_counts::{Count, Outcome, Schedule};
 use std::alloc::{AllocError, Global};
 use std::marker::Model;
 

@@ -1,13 +1,12 @@
 // Bytes that were written.
 ghost use Rattle.std.specs.Prelude.{◌≡◌, [], Some};
 ghost use Rattle.std.specs.Io.{WritesAtMost};
-ghost use Rattle.outside.specs.Causes.{HasCause, CountsStall};
+ghost use Rattle.fault_counts.specs.Causes.{HasCause, CountsStall};
 ghost use Rattle.outside.specs.Bytes.{Writes};
 ghost use Rattle.outside.specs.Outgoing.{nothing_written, EndsWrite, output_after};
 
-use super::schedule::Outcome;
 use crate::Failed;
-use crate::counts::Count;
+use fault_counts::{Count, Outcome};
 use std::alloc::Global;
 use std::marker::Model;
 

@@ -1,15 +1,15 @@
 // A sink in memory.
 ghost use Rattle.std.specs.Prelude.{◌≡◌, ℕ, List, [], Some, IfOk};
 ghost use Rattle.std.specs.Io.{WritesAtMost};
-ghost use Rattle.outside.specs.Causes.{HasCause, CountsStall};
+ghost use Rattle.fault_counts.specs.Causes.{HasCause, CountsStall};
 ghost use Rattle.outside.specs.Bytes.{Writes};
-ghost use Rattle.outside.specs.Calls.{no_call_yet, outcome_of, times_listed};
+ghost use Rattle.fault_counts.specs.Calls.{no_call_yet, outcome_of, times_listed};
 ghost use Rattle.outside.specs.Outgoing.{nothing_written, EndsWrite};
 ghost use Rattle.outside.specs.Memory.{sink_after};
 
 use super::outgoing::Outgoing;
-use super::schedule::Schedule;
 use crate::{Failed, Sink};
+use fault_counts::Schedule;
 use std::alloc::{AllocError, Global};
 use std::marker::Model;
 

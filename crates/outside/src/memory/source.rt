@@ -1,15 +1,14 @@
 // A source in memory.
 ghost use Rattle.std.specs.Prelude.{◌≡◌, ℕ, List, Option, Some, IfOk};
 ghost use Rattle.std.specs.Io.{ReadsAtMost};
-ghost use Rattle.outside.specs.Causes.{HasCause};
+ghost use Rattle.fault_counts.specs.Causes.{HasCause};
 ghost use Rattle.outside.specs.Bytes.{Reads};
-ghost use Rattle.outside.specs.Calls.{no_call_yet, outcome_of, times_listed};
+ghost use Rattle.fault_counts.specs.Calls.{no_call_yet, outcome_of, times_listed};
 ghost use Rattle.outside.specs.Memory.{EndsRead, source_after};
 
 use super::incoming::Unread;
-use super::schedule::{Outcome, Schedule};
-use crate::counts::Count;
 use crate::{Failed, Source};
+use fault_counts::{Count, Outcome, Schedule};
 use std::alloc::{AllocError, Global};
 use std::marker::Model;
 

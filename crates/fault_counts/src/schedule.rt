@@ -1,6 +1,6 @@
 // Which calls on an end in memory are to fail.
 ghost use Rattle.std.specs.Prelude.{◌≡◌};
-ghost use Rattle.outside.specs.Calls.{no_call_yet, one_call_more, times_listed, outcome_of};
+ghost use Rattle.fault_counts.specs.Calls.{no_call_yet, one_call_more, times_listed, outcome_of};
 
 use std::marker::Model;
 
@@ -21,7 +21,7 @@ pub struct Schedule {
 }
 
 impl Model for Schedule {
-    ghost use Rattle.outside.specs.Calls.{Calls};
+    ghost use Rattle.fault_counts.specs.Calls.{Calls};
 
     ghost Value = { Calls };
 

@@ -1,8 +1,8 @@
 -- The calls on an end in memory, and how each of them is to end.
 use Rattle.std.specs.Prelude.{ℕ, zero, suc, ◌==◌, List, count_by}
-use Rattle.outside.specs.Causes.{counted}
-use Rattle.outside.specs.declared.memory.schedule.Outcome.{Outcome}
-use Rattle.outside.specs.declared.memory.schedule.Outcome.TheVariants.{Works, Fails, Stalls}
+use Rattle.fault_counts.specs.Causes.{counted}
+use Rattle.fault_counts.specs.declared.schedule.Outcome.{Outcome}
+use Rattle.fault_counts.specs.declared.schedule.Outcome.TheVariants.{Works, Fails, Stalls}
 
 -- How many calls there were, and the numbers of those that are to fail, counted from 1.
 pub record Calls : Type 0 where

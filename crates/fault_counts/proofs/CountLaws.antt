@@ -1,6 +1,6 @@
 -- Counts that never fall, over several calls.
 use Rattle.std.proofs.Common.{ℕ, ◌≤◌, arith}
-use Rattle.outside.specs.Causes.{Rose}
+use Rattle.fault_counts.specs.Causes.{Rose}
 
 -- What rose stays so, whatever comes after it,
 pub rose_then_more : (before between now : ℕ) → Rose before between → between ≤ now → Rose before now

@@ -1,5 +1,5 @@
 -- Counts of what failed, and the answers that they license.
-use Rattle.std.specs.Prelude.{◌≡◌, ℕ, zero, suc, ◌+◌, ◌-◌, ◌^◌, ◌≤◌, min, List, [], ◌∷◌, Result, Ok, Err, OnErr}
+use Rattle.std.specs.Prelude.{◌≡◌, ℕ, zero, suc, ◌+◌, ◌-◌, ◌^◌, ◌≤◌, min, List, [], ◌∷◌, Result, Ok, Err, OnOk, OnErr}
 
 -- One more, but the greatest u64 stays.
 abbrev pub counted : ℕ → ℕ
@@ -9,9 +9,10 @@ counted n = min (n + 1) (2 ^ 64 - 1)
 abbrev pub Rose : ℕ → ℕ → Type 0
 Rose before now = counted before ≤ now
 
--- The count never falls, and a failed call raised it.
+-- The count never falls. A call that works leaves it as it was, and one that fails raises it.
 pub record HasCause {T E : Type 0} (before now : ℕ) (result : Result T E) : Type 0 where
   pub later : before ≤ now
+  pub kept : OnOk result (now ≡ before)
   pub failed : OnErr result (Rose before now)
 
 -- A write that took nothing of a piece that isn't empty raises the count, and no other call changes it.

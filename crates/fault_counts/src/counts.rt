@@ -1,6 +1,6 @@
 // Counts of what failed.
 ghost use Rattle.std.specs.Prelude.{ℕ, ◌≡◌, ◌≤◌, IfOk};
-ghost use Rattle.outside.specs.Causes.{Rose, HasCause, counted};
+ghost use Rattle.fault_counts.specs.Causes.{Rose, HasCause, counted};
 
 use crate::Failed;
 use std::marker::Model;
