@@ -1,4 +1,4 @@
-// Replies and their texts.
+//! Replies and their texts.
 ghost use Rattle.std.specs.Prelude.{◌≡◌, ◌++◌, codes, IfOk, OnOk};
 ghost use Rattle.serde_json.specs.Data.{string, put};
 ghost use Rattle.serde_json.specs.View.{view, members_view};
@@ -7,7 +7,8 @@ ghost use Rattle.service_core.specs.Replies.{state_text, invocation_data, invoca
 
 use crate::forms::Answer;
 use crate::rows::Invocation;
-use names_realms::{Bytes, Moment, State};
+use lists::Bytes;
+use names_realms::{Moment, State};
 use serde_json::{Map, Value};
 use std::alloc::{AllocError, Global};
 
@@ -21,7 +22,7 @@ fn state_name(state: State) -> &'static str
     }
 }
 
-// Puts a text under a name.
+/// Puts a text under a name.
 fn put_text(
     alloc: Global,
     map: &mut Map<String, Value>,
@@ -34,7 +35,7 @@ fn put_text(
     serde_json::put(map, alloc, name, Value::try_from_str(alloc, text)?)
 }
 
-// Puts a moment's text under a name.
+/// Puts a moment's text under a name.
 fn put_moment(
     alloc: Global,
     map: &mut Map<String, Value>,
@@ -49,7 +50,7 @@ fn put_moment(
     serde_json::put(map, alloc, name, Value::String(text))
 }
 
-// The JSON object of an invocation.
+/// The JSON object of an invocation.
 fn invocation_value(alloc: Global, row: &Invocation) -> Result<Value, AllocError>
     requires { IsPrintable row.now }
     ensures { IfOk result (λ value. view value ≡ invocation_data row.now) }

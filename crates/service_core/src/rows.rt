@@ -1,10 +1,10 @@
-// What the service holds.
+//! What the service holds.
 ghost use Rattle.std.specs.Prelude.{◌≡◌};
 ghost use Rattle.service_core.specs.World.{new_row, IsCallMoment};
 
 use names_realms::{InvocationId, Moment, Realm, State};
 
-// Two days, in microseconds.
+/// Two days, in microseconds.
 const DEFAULT_LIFETIME: i64 = 172_800_000_000;
 
 /// An invocation.

@@ -2,11 +2,12 @@
 use crate::Core;
 use crate::asked::Asked;
 use crate::forms::{Standin, Told};
-use names_realms::{Bytes, State};
+use lists::Bytes;
+use names_realms::State;
 use std::alloc::{AllocError, Global};
 use std::test::Fail;
 
-// 2023-11-14T22:13:20Z
+/// 2023-11-14T22:13:20Z
 const NOW: i64 = 1_700_000_000_000_000;
 
 const NOT_BUILT: &str = "6 BadValue: body NotBuilt\n";
@@ -21,7 +22,7 @@ fn asked(alloc: Global, body: &str) -> Result<Asked, AllocError> {
     })
 }
 
-// The status, the gRPC code and the body of an answer.
+/// The status, the gRPC code and the body of an answer.
 fn shown(told: &Told) -> (u16, u8, &[u8]) {
     match told {
         Told::Made(answer) => (answer.status, answer.code, answer.body.as_slice()),
@@ -29,7 +30,7 @@ fn shown(told: &Told) -> (u16, u8, &[u8]) {
     }
 }
 
-// A body that asks for an id of `u-` and so many times `a`.
+/// A body that asks for an id of `u-` and so many times `a`.
 fn body_of_length(alloc: Global, count: usize) -> Result<String, AllocError> {
     let letters = "a".repeat(alloc, count)?;
     format!(in alloc;
