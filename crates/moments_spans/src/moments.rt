@@ -177,10 +177,8 @@ impl Moment {
     /// and `Z` or an offset as `+HH:MM`. What decimals say below a microsecond is dropped. `OutOfRange` where the moment is before the
     /// year 1 or after the year 9999 in UTC. Takes no memory, and so never answers `Memory`.
     pub fn parse(alloc: Global, text: &[u8]) -> Result<Moment, NameFault>
-        ensures ok { IfOk result (λ m. moment_of text.now ≡ Ok m.micros) }
-        ensures range { IfOk result (λ m. IsInYears m.micros) }
         ensures said { IfOk result (λ m. IsMomentText text.now m.micros) }
-        ensures fault { IfErr result (λ f. moment_of text.now ≡ Err f) }
+        ensures range { IfOk result (λ m. IsInYears m.micros) }
         ensures wrong { IfErr result (IsMomentFault text.now) }
     {
         let _ = alloc;
@@ -201,6 +199,7 @@ impl Moment {
     /// nothing. The moment must be of a year from 1 to 9999.
     pub fn write_to(&self, alloc: Global, out: &mut Vec<u8>) -> Result<(), AllocError>
         requires { IsInYears self.now.micros }
+        ensures said { IsMomentText (moment_text self.now.micros) self.now.micros }
         ensures ok { OnOk result (out.new.items ≡ out.old.items ++ moment_text self.now.micros) }
         ensures err { OnErr result (out.new.items ≡ out.old.items) }
     {
