@@ -1,4 +1,4 @@
-// An end that is one of two.
+//! An end that is one of two.
 
 use crate::{Failed, Sink, Source};
 use either::Either;

@@ -1,4 +1,4 @@
-// A connection's two directions.
+//! A connection's two directions.
 ghost use Rattle.std.specs.Prelude.{◌≡◌, List};
 ghost use Rattle.std.specs.Borrow.{GName};
 ghost use Rattle.outside.specs.Ends.{Ends, OnlyReads, OnlyWrites, ReadsOnce, WritesOnce};
@@ -24,7 +24,8 @@ pub trait Link {
 
     /// Takes a front of `piece`, and answers how many bytes it took. After `Failed` nothing was taken.
     fn write(&mut self, piece: &[u8]) -> Result<usize, Failed>
-        ensures write { WritesOnce (ends self.old).outgoing piece.now result (ends self.new).outgoing }
+        ensures write { WritesOnce (ends self.old).outgoing piece.now result
+            (ends self.new).outgoing }
         ensures only { OnlyWrites (ends self.old) (ends self.new) }
         ensures holds { holds self.new ≡ holds self.old };
 }

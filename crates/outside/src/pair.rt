@@ -1,4 +1,4 @@
-// A connection made of an end that reads and an end that writes.
+//! A connection made of an end that reads and an end that writes.
 ghost use Rattle.std.specs.Prelude.{◌≡◌, [], ◌∷◌};
 
 use crate::{Failed, Link, Sink, Source};

@@ -1,4 +1,4 @@
-// Where bytes go to.
+//! Where bytes go to.
 ghost use Rattle.outside.specs.Ends.{Outgoing, WritesOnce};
 
 use crate::Failed;

@@ -1,4 +1,4 @@
-// Where bytes come from.
+//! Where bytes come from.
 ghost use Rattle.outside.specs.Ends.{Incoming, ReadsOnce};
 
 use crate::Failed;

@@ -1,4 +1,4 @@
-// The program's standard streams.
+//! The program's standard streams.
 use crate::stream::{StreamSink, StreamSource};
 use std::rt;
 

@@ -1,4 +1,4 @@
-// Readers and writers of the system as a source and a sink: one system call a call, and no buffer.
+//! Readers and writers of the system as a source and a sink: one system call a call, and no buffer.
 ghost use Rattle.std.specs.Prelude.{◌≡◌, MatchResult};
 ghost use Rattle.fault_counts.specs.Causes.{counted};
 ghost use Rattle.outside.specs.Ends.{ReadsOnce, WritesOnce};

@@ -1,4 +1,4 @@
-// What the ends give and take, call by call.
+//! What the ends give and take, call by call.
 ghost use Rattle.std.specs.Prelude.{◌≡◌, ℕ, List, [], ◌++◌, length, take, IfOk};
 ghost use Rattle.outside.specs.Whole.{WritesWhole};
 

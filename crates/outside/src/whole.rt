@@ -1,4 +1,4 @@
-// Writes of a whole piece, which go on after a short write.
+//! Writes of a whole piece, which go on after a short write.
 ghost use Rattle.std.specs.Prelude.{◌≡◌, ◌≤◌, length, drop};
 ghost use Rattle.outside.specs.Ends.{OnlyWrites};
 ghost use Rattle.outside.specs.Whole.{WritesWhole};
@@ -30,7 +30,8 @@ impl From<Failed> for WriteEnd {
 ///
 /// After `WriteFault` or `SinkTakesNothing` a front of `bytes` was taken. The link's other direction isn't touched.
 pub fn write_whole<L: Link>(link: &mut L, bytes: &[u8]) -> Result<(), WriteEnd>
-    ensures written { WritesWhole (L.ends link.old).outgoing bytes.now result (L.ends link.new).outgoing }
+    ensures written { WritesWhole (L.ends link.old).outgoing bytes.now result
+        (L.ends link.new).outgoing }
     ensures only { OnlyWrites (L.ends link.old) (L.ends link.new) }
     ensures holds { L.holds link.new ≡ L.holds link.old }
 {

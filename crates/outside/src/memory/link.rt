@@ -1,4 +1,4 @@
-// A link in memory.
+//! A link in memory.
 ghost use Rattle.std.specs.Prelude.{◌≡◌, map, IfOk};
 ghost use Rattle.fault_counts.specs.Calls.{no_call_yet, outcome_of, times_listed};
 ghost use Rattle.outside.specs.Pieces.{without_empty, first_piece};
@@ -46,7 +46,8 @@ impl MemoryLink {
         fails: Vec<u64>,
     ) -> Result<MemoryLink, AllocError>
         ensures calls { IfOk result (λ l. l.calls ≡ no_call_yet fails.items) }
-        ensures pieces { IfOk result (λ l. l.pieces ≡ without_empty (map (λ v. v.items) pieces.items)) }
+        ensures pieces { IfOk result (λ l. l.pieces ≡ without_empty
+            (map (λ v. v.items) pieces.items)) }
         ensures read_faults { IfOk result (λ l. l.read_faults ≡ 0) }
         ensures output { IfOk result (λ l. l.output ≡ nothing_written) }
     {
@@ -97,9 +98,11 @@ impl Link for MemoryLink {
 
     /// Gives as many bytes of the first piece as fit, or fails where the call is listed.
     fn read(&mut self, room: &mut [u8]) -> Result<usize, Failed>
-        ensures read { ReadsOnce (link_ends self.old).incoming room.new result (link_ends self.new).incoming }
+        ensures read { ReadsOnce (link_ends self.old).incoming room.new result
+            (link_ends self.new).incoming }
         ensures only { OnlyReads (link_ends self.old) (link_ends self.new) }
-        ensures ends { EndsRead (outcome_of (times_listed self.old.calls)) (first_piece self.old.pieces) room.new result }
+        ensures ends { EndsRead (outcome_of (times_listed self.old.calls))
+            (first_piece self.old.pieces) room.new result }
         ensures after { self.new ≡ link_after_read self.old result }
     {
         match self.schedule.next_outcome() {
@@ -110,7 +113,8 @@ impl Link for MemoryLink {
 
     /// Takes the whole piece, unless the call is listed or there is no memory for the piece.
     fn write(&mut self, piece: &[u8]) -> Result<usize, Failed>
-        ensures write { WritesOnce (link_ends self.old).outgoing piece.now result (link_ends self.new).outgoing }
+        ensures write { WritesOnce (link_ends self.old).outgoing piece.now result
+            (link_ends self.new).outgoing }
         ensures only { OnlyWrites (link_ends self.old) (link_ends self.new) }
         ensures ends { EndsWrite (outcome_of (times_listed self.old.calls)) piece.now result }
         ensures after { self.new ≡ link_after_write self.old piece.now result }

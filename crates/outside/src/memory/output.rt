@@ -1,4 +1,4 @@
-// Bytes that were written.
+//! Bytes that were written.
 ghost use Rattle.std.specs.Prelude.{◌≡◌};
 ghost use Rattle.outside.specs.Ends.{WritesOnce};
 ghost use Rattle.outside.specs.Output.{nothing_written, output_ends, EndsWrite, output_after};

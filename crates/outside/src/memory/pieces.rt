@@ -1,4 +1,4 @@
-// Bytes that wait to be read.
+//! Bytes that wait to be read.
 ghost use Rattle.std.specs.Prelude.{◌≡◌, ◌≤◌, ℕ, List, ◌∷◌, [], ◌++◌, min, map, length, take, drop, IsTrue, ◌↔◌};
 ghost use Rattle.outside.specs.Pieces.{without_empty, first_piece, pieces_after};
 

@@ -1,4 +1,4 @@
-// A sink in memory.
+//! A sink in memory.
 ghost use Rattle.std.specs.Prelude.{◌≡◌, IfOk};
 ghost use Rattle.fault_counts.specs.Calls.{no_call_yet, outcome_of, times_listed};
 ghost use Rattle.outside.specs.Output.{nothing_written, EndsWrite};

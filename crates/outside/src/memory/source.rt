@@ -1,4 +1,4 @@
-// A source in memory.
+//! A source in memory.
 ghost use Rattle.std.specs.Prelude.{◌≡◌, IfOk};
 ghost use Rattle.fault_counts.specs.Calls.{no_call_yet, outcome_of, times_listed};
 ghost use Rattle.outside.specs.Ends.{ReadsOnce};
@@ -56,7 +56,8 @@ impl Source for MemorySource {
     /// Gives as many bytes as fit, or fails where the call is listed.
     fn read(&mut self, room: &mut [u8]) -> Result<usize, Failed>
         ensures read { ReadsOnce (source_ends self.old) room.new result (source_ends self.new) }
-        ensures ends { EndsRead (outcome_of (times_listed self.old.calls)) self.old.left room.new result }
+        ensures ends { EndsRead (outcome_of (times_listed self.old.calls)) self.old.left room.new
+            result }
         ensures after { self.new ≡ source_after self.old result }
     {
         match self.schedule.next_outcome() {
