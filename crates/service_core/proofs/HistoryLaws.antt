@@ -21,8 +21,8 @@ pub valid-acted : (s : Settings) (w : World) (moment : ℤ) (asked : Asked) (req
     → w.last ≤ℤ moment → IsAccepted s w moment asked request → IsValid (acted w moment request)
 valid-acted s w moment asked (CreateInvocation id realm) valid call later accepted =
     valid-with_row w (new_row moment id realm) valid
-        (λ there. accepted.unbroken (id_taken id) (inr (record { request = CreateInvocation id realm; asks = accepted.asks; takes = (there, refl) })))
-        call later (row-new moment id realm accepted.asks.asks.1 accepted.asks.asks.2 call)
+    (λ there. accepted.unbroken (id_taken id) (inr (record { request = CreateInvocation id realm; asks = accepted.asks; takes = (there, refl) })))
+    call later (row-new moment id realm accepted.asks.asks.1 accepted.asks.asks.2 call)
 
 judged_keeps_valid : (s : Settings) (w : World) (moment : ℤ) (asked : Asked) (answer : Answer) (after : World) → IsCallMoment moment
     → w.last ≤ℤ moment → Refuses s w moment asked after answer ⊎ Performs s w moment asked after answer → IsValid w → IsValid after
@@ -34,7 +34,7 @@ step_keeps_valid : (s : Settings) (w : World) (moment : ℤ) (asked : Asked) (an
     → w.last ≤ℤ moment → Step s w moment asked after answer → IsValid w → IsValid after
 step_keeps_valid s w moment asked answer after call later step valid =
     judged_keeps_valid s w moment asked answer after call later
-        (subst (λ (u : World). Refuses s u moment asked after answer ⊎ Performs s u moment asked after answer) step.advances step.judged) valid
+    (subst (λ (u : World). Refuses s u moment asked after answer ⊎ Performs s u moment asked after answer) step.advances step.judged) valid
 
 tells_keeps_valid : (s : Settings) (w : World) (moment : ℤ) (asked : Asked) (told : Told) (after : World) → IsCallMoment moment
     → w.last ≤ℤ moment → Tells s w moment asked told after → IsValid w → IsValid after
@@ -82,7 +82,7 @@ adds_judged s w moment asked answer after (inr performs) = subst (Adds w) (sym p
 tells_adds : (s : Settings) (w : World) (moment : ℤ) (asked : Asked) (told : Told) (after : World) → Tells s w moment asked told after → Adds w after
 tells_adds s w moment asked (Made answer) after step =
     adds_judged s w moment asked answer after
-        (subst (λ (u : World). Refuses s u moment asked after answer ⊎ Performs s u moment asked after answer) step.advances step.judged)
+    (subst (λ (u : World). Refuses s u moment asked after answer ⊎ Performs s u moment asked after answer) step.advances step.judged)
 tells_adds s w moment asked (Instead Memory) after (inl same) = adds_none w after same
 tells_adds s w moment asked (Instead Memory) after (inr same) = adds_none w after same
 tells_adds s w moment asked (Instead Unavailable) after never = absurd never

@@ -37,6 +37,7 @@ pub prepared_plan : (core : CoreState) (moment : ℤ) (asked : Asked) (request :
     → IsCallMoment moment → core.world.last ≤ℤ moment → 0 < core.spare
     → IsAccepted core.settings core.world moment asked request → IsMade core.world moment request plan
     → IsPlanOf core.settings core.world moment asked plan × Fits core plan
-prepared_plan core moment asked request plan valid call later room accepted made =
-    (plan_of_made core.settings core.world moment asked request plan accepted made,
-    fits_of_made core moment asked request plan valid call later room accepted made)
+prepared_plan core moment asked request plan valid call later room accepted made = (
+  plan_of_made core.settings core.world moment asked request plan accepted made,
+  fits_of_made core moment asked request plan valid call later room accepted made,
+)

@@ -73,7 +73,7 @@ pub accepts : (s : Settings) (w : World) (moment : ℤ) (asked : Asked) (request
 accepts s w moment asked request asks free = record {
   asks = asks;
   unbroken = λ r. λ broken. elim broken as (λ _. ⊥) [
-    inl form ↦ form.0 request asks
+    | inl form ↦ form.0 request asks
     | inr taken ↦ not_taken w taken.request request r (one_request asked.body taken.request request taken.asks asks) taken.takes free
   ];
 }

@@ -49,4 +49,4 @@ pub one_step : StepsAreUnique
 one_step s w moment asked v r x q this that =
     let same = that.advances ∙ sym this.advances in
     one_judged s this.between moment asked v r x q this.judged
-        (subst (λ (u : World). Refuses s u moment asked x q ⊎ Performs s u moment asked x q) same that.judged)
+    (subst (λ (u : World). Refuses s u moment asked x q ⊎ Performs s u moment asked x q) same that.judged)

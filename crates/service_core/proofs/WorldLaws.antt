@@ -42,12 +42,12 @@ row-new moment id realm id_is realm_is call = record {
   state = refl;
 }
 
-pub valid-with_row : (w : World) (row : Invocation) → IsValid w → ¬ HasId w row.id → IsCallMoment row.created.micros → w.last ≤ℤ row.created.micros
-    → IsRow row.created.micros row → IsValid (with_row w row)
+pub valid-with_row : (w : World) (row : Invocation) → IsValid w → ¬ HasId w row.id → IsCallMoment row.created → w.last ≤ℤ row.created
+    → IsRow row.created row → IsValid (with_row w row)
 valid-with_row w row valid free call later is = record {
   ids = subst AreDifferent (sym (ids_of-with_row w row)) (different_more (ids_of w) row.id valid.ids free);
   last = call;
-  rows = All-append (IsRow row.created.micros) w.invocations (row ∷ [])
-      (λ k d within. row_later w.last row.created.micros (get_or w.invocations k d) later (valid.rows k d within))
-      (one_row row.created.micros row is);
+  rows = All-append (IsRow row.created) w.invocations (row ∷ [])
+      (λ k d within. row_later w.last row.created (get_or w.invocations k d) later (valid.rows k d within))
+      (one_row row.created row is);
 }

@@ -28,14 +28,14 @@ abbrev pub new_row : ℤ → List ℕ → List ℕ → Invocation
 new_row moment id realm = record {
   id = id;
   realm = realm;
-  created = record { micros = moment };
-  deadline = record { micros = moment +ℤ default_lifetime };
+  created = moment;
+  deadline = moment +ℤ default_lifetime;
   state = Active;
 }
 
 -- the world with one more row, which was made at its create time
 abbrev pub with_row : World → Invocation → World
-with_row w row = record { invocations = w.invocations ++ row ∷ []; last = row.created.micros }
+with_row w row = record { invocations = w.invocations ++ row ∷ []; last = row.created }
 
 -- 9999-01-01T00:00:00Z
 abbrev pub latest_call : ℤ
@@ -58,8 +58,8 @@ AreDifferent (x ∷ xs) = (¬ Contains xs x) × AreDifferent xs
 pub record IsRow (last : ℤ) (row : Invocation) : Type 0 where
   pub id : IsInvocationId row.id
   pub realm : IsRealm row.realm
-  pub created : (pos 0 ≤ℤ row.created.micros) × (row.created.micros ≤ℤ last)
-  pub deadline : (pos 0 ≤ℤ row.deadline.micros) × (row.deadline.micros ≤ℤ latest_deadline)
+  pub created : (pos 0 ≤ℤ row.created) × (row.created ≤ℤ last)
+  pub deadline : (pos 0 ≤ℤ row.deadline) × (row.deadline ≤ℤ latest_deadline)
   pub state : row.state ≡ Active
 
 -- What is so of the world between two calls.

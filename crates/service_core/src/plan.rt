@@ -24,19 +24,22 @@ impl Model for Plan {
 
     ghost view = { λ p. record {
       request = CreateInvocation p.row.id p.row.realm;
-      moment = p.row.created.micros;
+      moment = p.row.created;
       answer = p.answer;
     } };
 
-    ghost invariant = { λ p. p.row ≡ new_row p.row.created.micros p.row.id p.row.realm };
+    ghost invariant = { λ p. p.row ≡ new_row p.row.created p.row.id p.row.realm };
 }
 
 impl Plan {
     /// The plan that adds a new invocation.
     pub(crate) fn new(row: Invocation, answer: Answer) -> Plan
-        requires { row ≡ new_row row.created.micros row.id row.realm }
-        ensures { result ≡ record { request = CreateInvocation row.id row.realm;
-            moment = row.created.micros; answer = answer } }
+        requires { row ≡ new_row row.created row.id row.realm }
+        ensures { result ≡ record {
+          request = CreateInvocation row.id row.realm;
+          moment = row.created;
+          answer = answer;
+        } }
     {
         Plan { row, answer }
     }

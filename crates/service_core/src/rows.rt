@@ -20,12 +20,10 @@ pub struct Invocation {
 impl Invocation {
     /// A new invocation, which ends by itself two days after this moment.
     pub fn new(moment: Moment, id: InvocationId, realm: Realm) -> Invocation
-        requires { IsCallMoment moment.micros }
-        ensures { result ≡ new_row moment.micros id realm }
+        requires { IsCallMoment moment }
+        ensures { result ≡ new_row moment id realm }
     {
-        let deadline = Moment {
-            micros: moment.micros + DEFAULT_LIFETIME,
-        };
+        let deadline = Moment::new(moment.micros() + DEFAULT_LIFETIME);
         Invocation {
             id,
             realm,

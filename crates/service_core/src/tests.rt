@@ -47,8 +47,8 @@ fn answers_in_turn(rt: HostRuntime) -> Result<(), Fail> {
     let later_reply =
         ")]}'\n{\"createTime\":\"2023-11-14T22:13:20.000001Z\",\"deadline\":\"2023-11-16T22:13:20.000001Z\",\"name\":\"invocations/u-b\",\"realm\":\"proj:@root\",\"state\":\"ACTIVE\"}";
     let mut core = Core::new(rt.alloc())?;
-    assert_eq!(rt; core.moment_of(-5).micros, 0);
-    assert_eq!(rt; core.moment_of(i64::MAX).micros, 253_370_764_800_000_000);
+    assert_eq!(rt; core.moment_of(-5).micros(), 0);
+    assert_eq!(rt; core.moment_of(i64::MAX).micros(), 253_370_764_800_000_000);
     let turns = [
         (NOW, first, 200, 0, reply),
         (NOW, first, 409, 6, "19 Taken: invocations/u-a\n"),
@@ -66,10 +66,10 @@ fn answers_in_turn(rt: HostRuntime) -> Result<(), Fail> {
     let rows = core.invocations();
     assert_eq!(rt; rows.len(), 2);
     assert_eq!(rt; rows[1].id.as_str(), "u-b");
-    assert_eq!(rt; rows[1].deadline.micros, NOW + 172_800_000_001);
+    assert_eq!(rt; rows[1].deadline.micros(), NOW + 172_800_000_001);
     assert!(rt; rows[1].state == State::Active);
     assert_eq!(rt;
-        core.moment_of(NOW).micros,
+        core.moment_of(NOW).micros(),
         NOW + 1,
         "a clock that goes back"
     );

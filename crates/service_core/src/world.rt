@@ -45,11 +45,11 @@ impl Model for Core {
 
     ghost view = { λ c. record {
       settings = open_to_all;
-      world = record { invocations = c.rows.items; last = c.last.micros };
+      world = record { invocations = c.rows.items; last = c.last };
       spare = vec_capacity c.rows - vec_len c.rows;
     } };
 
-    ghost invariant = { λ c. IsValid (record { invocations = c.rows.items; last = c.last.micros }) };
+    ghost invariant = { λ c. IsValid (record { invocations = c.rows.items; last = c.last }) };
 }
 
 impl Core {
@@ -60,7 +60,7 @@ impl Core {
     {
         Ok(Core {
             rows: Vec::new(alloc),
-            last: Moment { micros: 0 },
+            last: Moment::new(0),
         })
     }
 
@@ -75,18 +75,16 @@ impl Core {
     /// The moment of a call: what the clock says, in microseconds since 1970, brought into the years from 1970 to 9998,
     /// and no earlier than the last change.
     pub fn moment_of(&self, now: i64) -> Moment
-        ensures value { result.micros ≡ moment_of self.now.world.last now }
-        ensures in_range { IsCallMoment result.micros }
-        ensures later { self.now.world.last ≤ℤ result.micros }
+        ensures value { result ≡ moment_of self.now.world.last now }
+        ensures in_range { IsCallMoment result }
+        ensures later { self.now.world.last ≤ℤ result }
     {
-        Moment {
-            micros: within_years(now).max(self.last.micros),
-        }
+        Moment::new(later_of(within_years(now), self.last.micros()))
     }
 
     /// The answer of the first rule that a request breaks, or what it asks for.
     fn judge(&self, alloc: Global, moment: Moment, asked: &Asked) -> Result<Judged, AllocError>
-        ensures judged { IfOk result (IsJudged self.now.settings self.now.world moment.micros asked.now) }
+        ensures judged { IfOk result (IsJudged self.now.settings self.now.world moment asked.now) }
         ensures valid { IsValid self.now.world }
     {
         let _ = moment;
@@ -102,14 +100,14 @@ impl Core {
 
     /// The plan of what is asked for, with room for it.
     fn plan(&mut self, alloc: Global, moment: Moment, request: Request) -> Result<Plan, AllocError>
-        requires { IsCallMoment moment.micros }
+        requires { IsCallMoment moment }
         ensures world { self.new.world ≡ self.old.world }
         ensures settings { self.new.settings ≡ self.old.settings }
         ensures spare { self.old.spare ≤ self.new.spare }
         ensures room { OnOk result (0 < self.new.spare) }
         ensures request { IfOk result (λ plan. plan.request ≡ request) }
-        ensures moment { IfOk result (λ plan. plan.moment ≡ moment.micros) }
-        ensures answer { IfOk result (λ plan. plan.answer ≡ reply_to self.old.world moment.micros request) }
+        ensures moment { IfOk result (λ plan. plan.moment ≡ moment) }
+        ensures answer { IfOk result (λ plan. plan.answer ≡ reply_to self.old.world moment request) }
     {
         self.rows.reserve(1)?;
         let Request::CreateInvocation { id, realm } = request;
@@ -126,12 +124,12 @@ impl Core {
         moment: Moment,
         asked: &Asked,
     ) -> Result<Prepared, AllocError>
-        requires in_range { IsCallMoment moment.micros }
-        requires later { self.old.world.last ≤ℤ moment.micros }
+        requires in_range { IsCallMoment moment }
+        requires later { self.old.world.last ≤ℤ moment }
         ensures world { self.new.world ≡ self.old.world }
         ensures settings { self.new.settings ≡ self.old.settings }
         ensures spare { self.old.spare ≤ self.new.spare }
-        ensures prepared { IfOk result (IsPrepared self.new moment.micros asked.now) }
+        ensures prepared { IfOk result (IsPrepared self.new moment asked.now) }
     {
         match self.judge(alloc, moment, asked)? {
             Judged::Refused(answer) => Ok(Prepared::Refused(answer)),
@@ -199,4 +197,14 @@ fn within_years(now: i64) -> i64
     ensures in_range { IsCallMoment result }
 {
     now.min(LATEST_CALL).max(0)
+}
+
+/// The later of two moments that a call may have.
+fn later_of(moment: i64, last: i64) -> i64
+    requires moment { IsCallMoment moment }
+    requires last { IsCallMoment last }
+    ensures value { result ≡ int_max last moment }
+    ensures in_range { IsCallMoment result }
+{
+    moment.max(last)
 }

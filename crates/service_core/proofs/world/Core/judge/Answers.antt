@@ -12,7 +12,7 @@ use Rattle.service_core.proofs.world.Core.judge.Goals as goal
 pub returns-in_default-clause-judged : goal.returns-in_default-clause-judged
 returns-in_default-clause-judged c =
     let read = rw c.in_default.is at c.in_ok-request.ensures in
-    refuses_form c.args.self.now.settings c.args.self.now.world c.args.moment.micros c.args.asked.now _
+    refuses_form c.args.self.now.settings c.args.self.now.world c.args.moment c.args.asked.now _
     (subst AsksNothing c.as_slice.ensures read) c.in_ok-not_built.ensures
 
 pub returns-then-has_id-clause-judged : goal.returns-then-has_id-clause-judged
@@ -21,7 +21,7 @@ returns-then-has_id-clause-judged c =
     let read = rw c.in-Some.is at c.in_ok-request.ensures in
     let rows = c.as_slice-2.ensures.value ∙ ap (λ (s : CoreState). s.world.invocations) c.self.view_is in
     let held = subst (λ (is : List Invocation). Contains (map (λ (i : Invocation). i.id) is) c.id.result.now) rows (c.has_id.ensures.0 c.if-has_id.true) in
-    refuses_held c.args.self.now.settings c.args.self.now.world c.args.moment.micros c.args.asked.now _ request
+    refuses_held c.args.self.now.settings c.args.self.now.world c.args.moment c.args.asked.now _ request
     (subst (λ (body : List ℕ). Asks body request) c.as_slice.ensures read)
     (subst (HasId c.args.self.now.world) c.id.ensures held)
     (c.in_ok-taken.ensures ∙ ap (λ (id : List ℕ). refusal_answer (id_taken id)) c.id-then-has_id.ensures)

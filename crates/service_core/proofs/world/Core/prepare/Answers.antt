@@ -9,7 +9,7 @@ pub returns-in_ok-plan-in-Accepted-clause-prepared :
     goal.returns-in_ok-plan-in-Accepted-clause-prepared
 returns-in_ok-plan-in-Accepted-clause-prepared c =
     let core = c.plan.new.self in
-    let moment = c.args.moment.micros in
+    let moment = c.args.moment in
     let asked = c.args.asked.now in
     let request = c.in-Accepted.request in
     let made = c.in_ok-plan-in-Accepted.ensures in

@@ -15,8 +15,8 @@ returns-in-Ok-Change-clause-serves c =
     let same = c.prepare.ensures.world in
     let fits : FitsSigned w64 c.args.now = c.ranges.now in
     let at = simp to_z-of_z at c.moment_of-moment.ensures.value in
-    let settled = subst (λ (x : Settings). IsPlanOf x c.prepare.new.self.world c.moment_of-moment.result.micros asked plan) c.prepare.ensures.settings prepared.0 in
-    let here = subst (λ (v : World). IsPlanOf s v c.moment_of-moment.result.micros asked plan) same settled in
+    let settled = subst (λ (x : Settings). IsPlanOf x c.prepare.new.self.world c.moment_of-moment.result asked plan) c.prepare.ensures.settings prepared.0 in
+    let here = subst (λ (v : World). IsPlanOf s v c.moment_of-moment.result asked plan) same settled in
     let of_request = subst (λ (t : ℤ). IsPlanOf s w t asked plan) at here in
     serves_step s w c.args.now asked plan.answer c.carry_out.result c.carry_out.new.self.world (planned w plan)
     (subst IsCallMoment at c.moment_of-moment.ensures.in_range) (subst (λ (t : ℤ). w.last ≤ℤ t) at c.moment_of-moment.ensures.later)
