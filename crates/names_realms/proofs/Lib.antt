@@ -4,5 +4,6 @@ pub mod PairLemmas
 pub mod VariantLemmas
 pub mod ResultNameLemmas
 pub mod ParentLemmas
+pub mod WritingLemmas
 pub mod ArtifactNameLemmas
 pub mod NameLaws
