@@ -7,7 +7,7 @@ use Rattle.outside.specs.Bytes.{Gave, IsEnd}
 use Rattle.outside.specs.Ends.{Incoming}
 use Rattle.outside.proofs.Taken.{gave_both, gave_nothing}
 use Rattle.http_wire.specs.Held.{CountsRead}
-use Rattle.http_wire.specs.Reads.{ReadsAt, FillsBody, TakesBody, IsFillAnswer, IsBodyAnswer}
+use Rattle.http_wire.specs.Reads.{ReadsAt, FillsBody, TakesBody}
 use Rattle.http_wire.specs.declared.message.WireFault.{WireFault}
 use Rattle.http_wire.specs.declared.message.WireFault.TheVariants.{CutShort, Unread, ReadFault, Memory}
 
@@ -86,6 +86,14 @@ filled_all start body had left stored head at done f all = record {
   faults = f.faults;
 }
 
+-- a count is the same whatever the call would have answered
+pub counted : (T U : Type 0) (before now : ℕ) (e : WireFault) → CountsRead {T = T} before (Err e) now
+    → CountsRead {T = U} before (Err e) now
+counted T U before now (CutShort have) x = x
+counted T U before now Unread x = x
+counted T U before now ReadFault x = x
+counted T U before now Memory x = x
+
 -- ---- a body taken from a stream
 
 -- a part behind a head and before the rest
@@ -117,74 +125,6 @@ taken_held held now had head len v fits is after =
       needed = omega arith;
       must_read = λ _. refl;
     }
-
--- there was no memory for it
-pub taken_memory : (held : List ℕ) (had : Incoming) (head len : ℕ) (r : Result (Vec ℕ) WireFault) → r ≡ Err Memory
-    → TakesBody held had head len r held had
-taken_memory held had head len r is =
-    subst (λ z. TakesBody held had head len z held had) (sym is)
-    (record { got = []; gave = gave_nothing had.left; answer = tt; faults = refl; needed = omega arith; must_read = λ _. refl })
-
--- what filling the rest leaves of the numbers
-record Lacked (held got start : List ℕ) (head stored len : ℕ) : Type 0 where
-  low : head ≤ length held
-  is : stored ≡ length held - head
-  less : stored < len
-  count : length start ≡ len
-
-whole : {held got start : List ℕ} {head stored len : ℕ} → Lacked held got start head stored len
-    → length (held ++ got) ≡ head + (stored + length got)
-whole {held} {got} n =
-    let low = n.low in
-    let is = n.is in
-    let both = length-append held got in
-    omega (arith, low, is, both)
-
-fault_of : {T : Type 0} (held got start body : List ℕ) (head stored len : ℕ) (left : Option (List ℕ)) (e : WireFault)
-    → Lacked held got start head stored len → IsFillAnswer start got stored head body left {T = T} (Err e)
-    → IsBodyAnswer (held ++ got) head len held left (Err e)
-fault_of held got start body head stored len left (CutShort have) n x =
-    let all = whole n in
-    let count = n.count in
-    let is = x.0 in
-    let less = x.1 in
-    (omega (arith, all, is), omega (arith, all, less, count), x.2)
-fault_of held got start body head stored len left Unread n x = absurd x
-fault_of held got start body head stored len left ReadFault n x =
-    let all = whole n in
-    let count = n.count in
-    omega (arith, all, x, count)
-fault_of held got start body head stored len left Memory n x = absurd x
-
-few : {T : Type 0} (held got start body : List ℕ) (head stored len : ℕ) (left : Option (List ℕ)) (e : WireFault)
-    → Lacked held got start head stored len → IsFillAnswer start got stored head body left {T = T} (Err e)
-    → stored + length got < length start
-few held got start body head stored len left (CutShort have) n x = x.1
-few held got start body head stored len left Unread n x = absurd x
-few held got start body head stored len left ReadFault n x = x
-few held got start body head stored len left Memory n x = absurd x
-
-pub counted : (T U : Type 0) (before now : ℕ) (e : WireFault) → CountsRead {T = T} before (Err e) now
-    → CountsRead {T = U} before (Err e) now
-counted T U before now (CutShort have) x = x
-counted T U before now Unread x = x
-counted T U before now ReadFault x = x
-counted T U before now Memory x = x
-
--- the rest of the body didn't come
-pub taken_fault : {T : Type 0} (held start body : List ℕ) (had left : Incoming) (head stored len : ℕ) (e : WireFault)
-    (r : Result (Vec ℕ) WireFault) → head ≤ length held → stored ≡ length held - head → stored < len → length start ≡ len
-    → FillsBody {T = T} start had stored head (Err e) body left → r ≡ Err e → TakesBody held had head len r held left
-taken_fault {T} held start body had left head stored len e r low is less count f same =
-    let n : Lacked held f.got start head stored len = record { low = low; is = is; less = less; count = count } in
-    subst (λ z. TakesBody held had head len z held left) (sym same) (record {
-      got = f.got;
-      gave = f.gave;
-      answer = fault_of {T = T} held f.got start body head stored len left.left e n f.answer;
-      faults = counted T (Vec ℕ) had.faults left.faults e f.faults;
-      needed = let some = few {T = T} held f.got start body head stored len left.left e n f.answer in omega (arith, some, low, is, count);
-      must_read = λ h. absurd (omega (arith, h, low, is, less));
-    })
 
 -- the rest of the body was read
 pub taken_read : {T : Type 0} (held now start body : List ℕ) (had left : Incoming) (head stored len : ℕ) (done : T) (v : Vec ℕ)

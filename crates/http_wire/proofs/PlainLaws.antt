@@ -51,17 +51,6 @@ unread_where_long stream m p passed is long = inr (record {
         (take-take (length text) (length text + n) (text ++ rest) (omega arith) ∙ take_at text rest (length text) refl)
         ∙ ap (λ z. text ++ z) (drop-take (length text) n (text ++ rest) ∙ ap (λ z. take n z) (drop_at text rest (length text) refl))
 
-pub lacks_body : (stream : List ℕ) (n k len : ℕ) → head_end stream ≡ Some (n, k) → n ≤ head_limit → Announced (take n stream) len → length stream < n + len
-    → IsCutShort stream (length stream)
-lacks_body stream n k len e small a less =
-    let f = front_at stream n k e in
-    let same = append-nil stream in
-    record {
-      some = subst (λ z. z ≢ []) same (some_bytes stream [] n k f);
-      count = refl;
-      inside = inr (subst LacksBody same (lacks stream [] n k len f small a (subst (λ z. length z < n + len) (sym same) less)));
-    }
-
 pub first_message : (stream body : List ℕ) (n k len : ℕ) (m : Message) → head_end stream ≡ Some (n, k) → n ≤ head_limit → Announced (take n stream) len → n + len ≤ length stream
     → body ≡ take len (drop n stream) → m ≡ message_of body → IsMessage (take (n + len) stream) m
 first_message stream body n k len m e small a fits is means =
