@@ -7,7 +7,7 @@ use Rattle.httparse.proofs.GrammarLemmas.{request_unique}
 use Rattle.http_wire.specs.Head.{IsHeadText, HasNoHead, head_limit}
 use Rattle.http_wire.specs.Form.{IsForm}
 use Rattle.http_wire.specs.Scan.{head_end, scan}
-use Rattle.http_wire.specs.Stream.{message_of, Announces, IsMessage, LacksBody, IsOtherHead, IsEndless, IsCutShort, IsUnread, HasFault, HasEnd, IsUndecided, Framed, Spells}
+use Rattle.http_wire.specs.Stream.{message_of, Announces, IsMessage, LacksBody, IsOtherHead, IsEndless, IsUnread, HasFault, HasEnd, IsUndecided, Framed, Spells}
 use Rattle.http_wire.specs.declared.message.Message.{Message}
 use Rattle.http_wire.specs.declared.message.End.{End}
 use Rattle.http_wire.specs.declared.message.End.TheVariants.{Finished, Fault}

@@ -26,11 +26,15 @@ pub struct Wire {
 }
 
 impl Model for Wire {
+    ghost use Rattle.std.specs.Prelude.{◌≤◌, length};
+    ghost use Rattle.http_wire.specs.Head.{head_limit};
     ghost use Rattle.http_wire.specs.WireState.{WireState};
 
     ghost Value = { WireState };
 
     ghost view = { λ w. record { held = w.buffer; is_open = w.is_open } };
+
+    ghost invariant = { λ w. length w.buffer ≤ head_limit };
 }
 
 impl Wire {

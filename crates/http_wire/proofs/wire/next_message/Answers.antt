@@ -1,10 +1,8 @@
-use Rattle.std.proofs.Common.{◌≡◌, ◌≤◌, ◌∙◌, ap, arith, sym, subst, length, take, Some, Err}
+use Rattle.std.proofs.Common.{◌≡◌, ◌∙◌, ap, arith, sym, subst, length, take, Some, Err}
 use Rattle.std.proofs.lemmas.Result.{err_from_is_err_and}
-use Rattle.http_wire.specs.Head.{head_limit}
 use Rattle.http_wire.specs.Scan.{head_end}
 use Rattle.http_wire.specs.Announced.{Announced, NotAnnounced}
-use Rattle.http_wire.specs.Reads.{FindsHead}
-use Rattle.http_wire.proofs.NextLaws.{front_at, front_short, other_head, Framing, framing_at, in_limits, reading_at_head, reading_at_head_fault, reading_at_body_fault, reading_at_no_memory, reading_of_message}
+use Rattle.http_wire.proofs.NextLaws.{front_at, front_short, other_head, framing_at, in_limits, reading_at_head, reading_at_head_fault, reading_at_body_fault, reading_at_no_memory, reading_of_message}
 use Rattle.http_wire.proofs.wire.next_message.Goals as goal
 
 pub returns-in_err-end-clause-reading : goal.returns-in_err-end-clause-reading

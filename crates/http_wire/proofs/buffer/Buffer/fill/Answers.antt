@@ -1,8 +1,8 @@
-use Rattle.std.proofs.Common.{◌≡◌, arith, ◌∙◌, ap, Err, List, ℕ}
+use Rattle.std.proofs.Common.{◌≡◌, arith, ◌∙◌, ap, Err}
 use Rattle.std.specs.Vec.{with_items}
 use Rattle.std.proofs.lemmas.List.{with_items_is}
 use Rattle.std.proofs.lemmas.Result.{err_from_is_err_and}
-use Rattle.http_wire.proofs.BufferLaws.{Rooms, fills_none, fills_some}
+use Rattle.http_wire.proofs.BufferLaws.{fills_none, fills_some}
 use Rattle.http_wire.proofs.buffer.Buffer.fill.Goals as goal
 
 pub returns-clause-filled : goal.returns-clause-filled
