@@ -1,11 +1,12 @@
 -- Bytes in a part of a room.
-use Rattle.std.proofs.Common.{◌≡◌, ℕ, ◌+◌, ◌≤◌, List, ◌++◌, length, take, drop, sym, ap, ◌∙◌, arith, length-append, length-take, length-drop}
+use Rattle.std.proofs.Common.{◌≡◌, ℕ, ◌+◌, ◌≤◌, List, [], ◌++◌, length, take, drop, Ok, Err, refl, sym, ap, ◌∙◌, subst, arith, append-nil, length-take, length-drop}
 use Rattle.std.specs.Prelude.{slice_range}
 use Rattle.std.proofs.lemmas.List.{take-append-drop, take-take, drop-take, drop-append-le, drop-drop}
 use Rattle.std.proofs.lemmas.Slice.{between_is}
-use Rattle.outside.specs.Bytes.{IsEnd, Gave}
-use Rattle.http_wire.specs.Reads.{IsFilled}
-use Rattle.std.specs.Prelude.{Option, Result, Ok, Err, OnErr}
+use Rattle.std.specs.Prelude.{Result}
+use Rattle.outside.specs.Ends.{Incoming}
+use Rattle.http_wire.specs.Reads.{ReadsAt, Fills}
+use Rattle.http_wire.specs.declared.message.WireFault.{WireFault}
 
 -- the first t and the n behind them
 take_both : (t n : ℕ) (xs : List ℕ) → take (t + n) xs ≡ take t xs ++ take n (drop t xs)
@@ -31,31 +32,47 @@ pub shorter_part : (xs : List ℕ) (from to count : ℕ) → slice_range xs (fro
 shorter_part xs from to count =
     between_is xs (from + count) to ∙ sym (drop-drop count from (take to xs)) ∙ ap (λ x. drop count x) (sym (between_is xs from to))
 
--- where the bytes are moved, and nothing is read
-pub moved_part : (items b1 r1 b2 r2 last held : List ℕ) (from to f t : ℕ)
-    → slice_range items from to ≡ held → b1 ≡ items → slice_range r1 f t ≡ slice_range b1 from to → b2 ≡ r1 → take t r2 ≡ take t b2 → last ≡ r2
-    → slice_range last f t ≡ held
-moved_part items b1 r1 b2 r2 last held from to f t view b1_is same b2_is kept last_is =
-    ap (λ x. slice_range x f t) last_is ∙ same_part r2 b2 f t kept ∙ ap (λ x. slice_range x f t) b2_is ∙ same
-    ∙ ap (λ x. slice_range x from to) b1_is ∙ view
+-- the room's bytes at each step: moved to the front, and read into
+pub record Rooms (items b1 r1 b2 r2 last held : List ℕ) (from to f t : ℕ) : Type 0 where
+  pub view : slice_range items from to ≡ held
+  pub b1_is : b1 ≡ items
+  pub same : slice_range r1 f t ≡ slice_range b1 from to
+  pub b2_is : b2 ≡ r1
+  pub last_is : last ≡ r2
+
+moved : {items b1 r1 b2 r2 last held : List ℕ} {from to f t : ℕ} → Rooms items b1 r1 b2 r2 last held from to f t
+    → slice_range b2 f t ≡ held
+moved {items} {b1} {r1} {b2} {r2} {last} {held} {from} {to} {f} {t} rooms =
+    ap (λ x. slice_range x f t) rooms.b2_is ∙ rooms.same ∙ ap (λ x. slice_range x from to) rooms.b1_is ∙ rooms.view
+
+-- where nothing is read
+pub fills_none : {items b1 r1 b2 r2 last held : List ℕ} {from to f t : ℕ} (had left : Incoming) (e : WireFault)
+    (r : Result ℕ WireFault) → Rooms items b1 r1 b2 r2 last held from to f t → ReadsAt had t b2 (Err e) r2 left → r ≡ Err e
+    → Fills held had r (slice_range last f t) left
+fills_none {items} {b1} {r1} {b2} {r2} {last} {held} {from} {to} {f} {t} had left e r rooms x is =
+    let behind : slice_range last f t ≡ held =
+    ap (λ x. slice_range x f t) rooms.last_is ∙ same_part r2 b2 f t x.kept ∙ moved rooms in
+    subst (λ z. Fills held had z (slice_range last f t) left) (sym is) (record {
+      read = record { got = []; gave = x.gave; behind = behind ∙ sym (append-nil held) };
+      many = refl;
+      at_end = tt;
+      fault = x.fault;
+      faults = x.faults;
+    })
 
 -- where bytes are read behind them
-pub filled_part : (items b1 r1 b2 r2 last held : List ℕ) (from to f t n : ℕ) (had left : Option (List ℕ))
-    → slice_range items from to ≡ held → b1 ≡ items → slice_range r1 f t ≡ slice_range b1 from to → b2 ≡ r1 → take t r2 ≡ take t b2 → last ≡ r2
-    → f ≤ t → t + n ≤ length r2 → Gave had (take n (drop t r2)) left → (n ≡ 0 → IsEnd left)
-    → IsFilled held had n (slice_range last f (t + n)) left
-filled_part items b1 r1 b2 r2 last held from to f t n had left view b1_is same b2_is kept last_is low fits gave at_end =
-    let before = ap (λ x. slice_range x f t) b2_is ∙ same ∙ ap (λ x. slice_range x from to) b1_is ∙ view in
+pub fills_some : {items b1 r1 b2 r2 last held : List ℕ} {from to f t : ℕ} (had left : Incoming) (n : ℕ)
+    → Rooms items b1 r1 b2 r2 last held from to f t → f ≤ t → ReadsAt had t b2 (Ok n) r2 left
+    → Fills held had (Ok n) (slice_range last f (t + n)) left
+fills_some {items} {b1} {r1} {b2} {r2} {last} {held} {from} {to} {f} {t} had left n rooms low x =
+    let fits : t + n ≤ length r2 = x.bound in
     let behind : slice_range last f (t + n) ≡ held ++ take n (drop t r2) =
-    ap (λ x. slice_range x f (t + n)) last_is ∙ longer_part r2 b2 f t n low (omega arith) kept ∙ ap (λ x. x ++ take n (drop t r2)) before in
-    let count : length (take n (drop t r2)) ≡ n = simp (length-take, length-drop) (omega arith) in
+    ap (λ x. slice_range x f (t + n)) rooms.last_is ∙ longer_part r2 b2 f t n low (omega arith) x.kept
+    ∙ ap (λ x. x ++ take n (drop t r2)) (moved rooms) in
     record {
-      read = record { got = take n (drop t r2); gave = gave; behind = behind };
-      many = ap length behind ∙ length-append held (take n (drop t r2)) ∙ ap (λ m. length held + m) count;
-      at_end = at_end;
+      read = record { got = take n (drop t r2); gave = x.gave; behind = behind };
+      many = simp (length-take, length-drop) (omega arith);
+      at_end = x.at_end;
+      fault = tt;
+      faults = x.faults;
     }
-
--- what holds anyway holds after an error
-pub on_err : {T E : Type 0} (r : Result T E) (P : Type 0) → P → OnErr r P
-on_err (Ok x) P p = tt
-on_err (Err e) P p = p

@@ -1,18 +1,20 @@
 -- What a search that hasn't found the end says of the bytes that it passed.
-use Rattle.std.proofs.Common.{◌≡◌, ◌≢◌, inl, inr, ℕ, ◌+◌, ◌≤◌, List, [], ◌++◌, length, nat_eq, cond, Bool, true, false, Option, Some, None, Result, Ok, Err, refl, sym, ap, ◌∙◌, subst, arith, append-nil, length-append}
-use Rattle.std.proofs.lemmas.List.{nil_from_length}
+use Rattle.std.proofs.Common.{◌≡◌, ◌≢◌, inl, inr, ℕ, ◌<◌, ◌≤◌, List, [], ◌∷◌, ◌++◌, length, take, nat_eq, cond, Bool, true, false, Option, Some, None, Result, Ok, Err, refl, sym, ap, ◌∙◌, subst, arith, append-nil, append_assoc, length-append}
+use Rattle.std.proofs.lemmas.List.{nil_from_length, take_at}
 use Rattle.std.proofs.lemmas.Bool.{eqb-true, eqb-false}
 use Rattle.outside.specs.Bytes.{IsEnd}
+use Rattle.outside.proofs.Taken.{gave_both, gave_nothing}
 use Rattle.http_wire.specs.Head.{HasNoHead, head_limit}
 use Rattle.http_wire.specs.Scan.{head_end, Passed}
-use Rattle.http_wire.specs.Stream.{IsUnread, HasNoMessage}
-use Rattle.http_wire.specs.Reads.{IsFilled, IsHeadAnswer}
+use Rattle.outside.specs.Ends.{Incoming}
+use Rattle.http_wire.specs.Stream.{IsUnread, IsUndecided}
+use Rattle.http_wire.specs.Held.{CountsRead}
+use Rattle.http_wire.specs.Reads.{IsRead, Fills, FindsHead, IsHeadAnswer}
 use Rattle.http_wire.specs.declared.head_scan.Progress.{Progress}
 use Rattle.http_wire.specs.declared.head_scan.HeadEnd.{HeadEnd}
 use Rattle.http_wire.specs.declared.message.WireFault.{WireFault}
 use Rattle.http_wire.specs.declared.message.WireFault.TheVariants.{CutShort, ReadFault}
 use Rattle.http_wire.proofs.ScanLaws.{end_of_head, scan_nothing}
-use Rattle.http_wire.proofs.StreamLaws.{no_message_where_no_head}
 
 pub no_head_passed : (bytes : List ℕ) (p : Progress) → Passed bytes p → HasNoHead bytes
 no_head_passed bytes p passed text rest count e head =
@@ -26,36 +28,116 @@ endless bytes p passed full = inr (record {
   no_head = λ text rest count e short head. no_head_passed bytes p passed text rest count e head;
 })
 
-pub fault_passed : (bytes now : List ℕ) (p : Progress) (left : Option (List ℕ)) (r : Result (Option HeadEnd) WireFault) → Passed bytes p → now ≡ bytes → r ≡ Err ReadFault
-    → IsHeadAnswer now left r
-fault_passed bytes now p left r passed same is =
-    subst (λ x. IsHeadAnswer now left x) (sym is) (subst HasNoMessage (sym same) (no_message_where_no_head bytes (no_head_passed bytes p passed)))
+-- Where the end wasn't found, and the room isn't full, more has to be read.
+pub undecided_passed : (bytes : List ℕ) (p : Progress) → Passed bytes p → p.scanned ≢ head_limit → length bytes ≤ head_limit
+    → IsUndecided bytes
+undecided_passed bytes p passed less short =
+    undecided bytes (no_head_passed bytes p passed)
+    (let scanned = passed.scanned in omega (arith, scanned, less, short))
+  where
+    undecided : (bytes : List ℕ) → HasNoHead bytes → length bytes < head_limit → IsUndecided bytes
+    undecided [] none few = inl refl
+    undecided (b ∷ bs) none few =
+        inr (record { some = λ (e : b ∷ bs ≡ []). cc; count = refl; inside = inl (few, none) })
 
-ended : (bytes : List ℕ) (p : Progress) (left : Option (List ℕ)) (empty : Bool) → nat_eq p.scanned 0 ≡ empty → Passed bytes p → p.scanned ≢ head_limit
-    → length bytes ≤ head_limit → IsEnd left → IsHeadAnswer bytes left (cond empty (Ok None) (Err (CutShort p.scanned)))
-ended bytes p left true e passed less short end =
-    let none : p.scanned ≡ 0 = eqb-true p.scanned 0 e in
+-- What a search has read. It read nothing where what was held decides.
+pub record Searched (held : List ℕ) (had : Incoming) (now : List ℕ) (left : Incoming) : Type 0 where
+  pub read : IsRead held had now left
+  pub faults : left.faults ≡ had.faults
+  pub untouched : ¬ (IsUndecided held) → (now ≡ held) × (left ≡ had)
+
+pub searched_nothing : (held : List ℕ) (had : Incoming) → Searched held had held had
+searched_nothing held had = record {
+  read = record { got = []; gave = gave_nothing had.left; behind = sym (append-nil held) };
+  faults = refl;
+  untouched = λ _. (refl, refl);
+}
+
+both : (held bytes now : List ℕ) (had between left : Incoming) → IsRead held had bytes between → IsRead bytes between now left
+    → IsRead held had now left
+both held bytes now had between left r s = record {
+  got = r.got ++ s.got;
+  gave = gave_both had.left r.got s.got between.left left.left r.gave s.gave;
+  behind = s.behind ∙ ap (λ x. x ++ s.got) r.behind ∙ append_assoc held r.got s.got;
+}
+
+decides : (held bytes : List ℕ) (had between : Incoming) → Searched held had bytes between → IsUndecided bytes
+    → ¬ (IsUndecided held) → ⊥
+decides held bytes had between s undecided h = h (subst IsUndecided (s.untouched h).0 undecided)
+
+pub searched_more : (held bytes now : List ℕ) (had between left : Incoming) (n : ℕ) → Searched held had bytes between
+    → IsUndecided bytes → Fills bytes between (Ok n) now left → Searched held had now left
+searched_more held bytes now had between left n s undecided x = record {
+  read = both held bytes now had between left s.read x.read;
+  faults = x.faults ∙ s.faults;
+  untouched = λ h. absurd (decides held bytes had between s undecided h);
+}
+
+nothing_read : (held now : List ℕ) (had left : Incoming) (r : IsRead held had now left) → length r.got ≡ 0 → now ≡ held
+nothing_read held now had left r none =
+    r.behind ∙ ap (λ x. held ++ x) (nil_from_length r.got none) ∙ append-nil held
+
+at_fault : (held bytes now : List ℕ) (had between left : Incoming) (e : WireFault) → Searched held had bytes between
+    → IsUndecided bytes → Fills bytes between (Err e) now left → length now ≤ head_limit → e ≡ ReadFault
+    → FindsHead held had (Err ReadFault) now left
+at_fault held bytes now had between left e s undecided x short is =
+    let rose : CountsRead {T = ℕ} between.faults (Err ReadFault) left.faults =
+    subst (λ z. CountsRead {T = ℕ} between.faults (Err z) left.faults) is x.faults in
+    record {
+      read = both held bytes now had between left s.read x.read;
+      answer = subst IsUndecided (sym (nothing_read bytes now between left x.read x.many)) undecided;
+      short = short;
+      faults = subst (λ z. CountsRead {T = ℕ} z (Err ReadFault) left.faults) s.faults rose;
+      must_read = λ h. absurd (decides held bytes had between s undecided h);
+    }
+
+pub finds_fault : (held bytes now : List ℕ) (had between left : Incoming) (e : WireFault) (r : Result (Option HeadEnd) WireFault)
+    → Searched held had bytes between → IsUndecided bytes → Fills bytes between (Err e) now left → length now ≤ head_limit
+    → r ≡ Err e → FindsHead held had r now left
+finds_fault held bytes now had between left e r s undecided x short is =
+    subst (λ z. FindsHead held had z now left) (sym (is ∙ ap Err x.fault))
+    (at_fault held bytes now had between left e s undecided x short x.fault)
+
+ended : (bytes : List ℕ) (n : ℕ) (left : Option (List ℕ)) (empty : Bool) → nat_eq n 0 ≡ empty → n ≡ length bytes
+    → IsUndecided bytes → IsEnd left → IsHeadAnswer bytes left (cond empty (Ok None) (Err (CutShort n)))
+ended bytes n left true e many undecided end =
+    (nil_from_length bytes (sym many ∙ eqb-true n 0 e), end)
+ended bytes n left false e many (inl nothing) end = absurd (eqb-false n 0 e (many ∙ ap length nothing))
+ended bytes n left false e many (inr cut) end =
+    (record { some = cut.some; count = many; inside = cut.inside }, end)
+
+stays : (before now n : ℕ) (empty : Bool) → now ≡ before
+    → CountsRead before (cond empty (Ok (let none : Option HeadEnd = None in none)) (Err (CutShort n))) now
+stays before now n true same = same
+stays before now n false same = same
+
+pub finds_end : (held bytes now : List ℕ) (had between left : Incoming) (n count : ℕ) (r : Result (Option HeadEnd) WireFault)
+    → Searched held had bytes between → IsUndecided bytes → Fills bytes between (Ok count) now left → length now ≤ head_limit
+    → n ≡ length bytes → count ≡ 0 → r ≡ cond (nat_eq n 0) (Ok None) (Err (CutShort n)) → FindsHead held had r now left
+finds_end held bytes now had between left n count r s undecided x short many none is =
+    let same : now ≡ bytes = nothing_read bytes now between left x.read (x.many ∙ none) in
+    subst (λ z. FindsHead held had z now left) (sym is) (record {
+      read = both held bytes now had between left s.read x.read;
+      answer = subst (λ z. IsHeadAnswer z left.left (cond (nat_eq n 0) (Ok None) (Err (CutShort n)))) (sym same)
+          (ended bytes n left.left (nat_eq n 0) refl many undecided (x.at_end none));
+      short = short;
+      faults = stays had.faults left.faults n (nat_eq n 0) (x.faults ∙ s.faults);
+      must_read = λ h. absurd (decides held bytes had between s undecided h);
+    })
+
+-- the search has come to an end without a read
+pub finds_held : (held bytes : List ℕ) (had left : Incoming) (r : Result (Option HeadEnd) WireFault) → Searched held had bytes left
+    → IsHeadAnswer bytes left.left r → length bytes ≤ head_limit → CountsRead had.faults r left.faults
+    → FindsHead held had r bytes left
+finds_held held bytes had left r s answer short faults =
+    record { read = s.read; answer = answer; short = short; faults = faults; must_read = s.untouched }
+
+-- what was passed stays so behind a read
+pub passed_more : (bytes now : List ℕ) (between left : Incoming) (p : Progress) → Passed bytes p → IsRead bytes between now left
+    → (p.scanned ≤ length now) × Passed (take p.scanned now) p
+passed_more bytes now between left p passed r =
+    let front : take p.scanned now ≡ bytes =
+    ap (λ n. take n now) passed.scanned ∙ ap (λ x. take (length bytes) x) r.behind ∙ take_at bytes r.got (length bytes) refl in
+    let len = ap length r.behind ∙ length-append bytes r.got in
     let scanned = passed.scanned in
-    (nil_from_length bytes (sym scanned ∙ none), end)
-ended bytes p left false e passed less short end =
-    let scanned = passed.scanned in (
-      record {
-        some = λ nothing. eqb-false p.scanned 0 e (scanned ∙ ap length nothing);
-        count = scanned;
-        inside = inl ((omega (arith, scanned, less, short)), no_head_passed bytes p passed);
-      },
-      end,
-    )
-
-pub ended_passed : (bytes now : List ℕ) (p : Progress) (had left : Option (List ℕ)) (count : ℕ) (r : Result (Option HeadEnd) WireFault) → Passed bytes p → p.scanned ≢ head_limit
-    → length bytes ≤ head_limit → IsFilled bytes had count now left → count ≡ 0 → r ≡ cond (nat_eq p.scanned 0) (Ok None) (Err (CutShort p.scanned))
-    → IsHeadAnswer now left r
-ended_passed bytes now p had left count r passed less short filled none is =
-    let many = filled.many in
-    let nothing : length filled.read.got ≡ 0 =
-    let both : length now ≡ length bytes + length filled.read.got = ap length filled.read.behind ∙ length-append bytes filled.read.got in
-    omega (arith, both, many, none) in
-    let same : now ≡ bytes = filled.read.behind ∙ ap (λ x. bytes ++ x) (nil_from_length filled.read.got nothing) ∙ append-nil bytes in
-    subst (λ x. IsHeadAnswer now left x) (sym is)
-    (subst (λ x. IsHeadAnswer x left (cond (nat_eq p.scanned 0) (Ok None) (Err (CutShort p.scanned)))) (sym same)
-    (ended bytes p left (nat_eq p.scanned 0) refl passed less short (filled.at_end none)))
+    (omega (arith, len, scanned), subst (λ x. Passed x p) (sym front) passed)

@@ -6,13 +6,13 @@ use Rattle.httparse.specs.Grammar.{print_request}
 use Rattle.http_wire.specs.Head.{head_limit}
 use Rattle.http_wire.specs.Scan.{head_end, Passed}
 use Rattle.http_wire.specs.Announced.{Announced}
-use Rattle.http_wire.specs.Stream.{message_of, Announces, IsMessage, LacksBody, IsCutShort, IsUnread, Framed, Spells, Ends}
+use Rattle.http_wire.specs.Stream.{message_of, Announces, IsMessage, IsCutShort, IsUnread, Framed, Spells, HasEnd}
 use Rattle.http_wire.specs.declared.head_scan.Progress.{Progress}
 use Rattle.http_wire.specs.declared.message.Message.{Message}
 use Rattle.http_wire.specs.declared.message.End.{End}
 use Rattle.http_wire.proofs.ScanLaws.{head_at_end, end_of_head}
 use Rattle.http_wire.proofs.HeadSearchLaws.{no_head_passed}
-use Rattle.http_wire.proofs.NextLaws.{Front, front_at, announces, lacks, some_bytes}
+use Rattle.http_wire.proofs.NextLaws.{Front, front_at, announces}
 use Rattle.http_wire.proofs.StreamLaws.{spells_then_framed, no_empty_head, spells_more}
 
 -- the head that ends in a front ends in the whole
@@ -51,17 +51,6 @@ unread_where_long stream m p passed is long = inr (record {
         (take-take (length text) (length text + n) (text ++ rest) (omega arith) ∙ take_at text rest (length text) refl)
         ∙ ap (λ z. text ++ z) (drop-take (length text) n (text ++ rest) ∙ ap (λ z. take n z) (drop_at text rest (length text) refl))
 
-pub lacks_body : (stream : List ℕ) (n k len : ℕ) → head_end stream ≡ Some (n, k) → n ≤ head_limit → Announced (take n stream) len → length stream < n + len
-    → IsCutShort stream (length stream)
-lacks_body stream n k len e small a less =
-    let f = front_at stream n k e in
-    let same = append-nil stream in
-    record {
-      some = subst (λ z. z ≢ []) same (some_bytes stream [] n k f);
-      count = refl;
-      inside = inr (subst LacksBody same (lacks stream [] n k len f small a (subst (λ z. length z < n + len) (sym same) less)));
-    }
-
 pub first_message : (stream body : List ℕ) (n k len : ℕ) (m : Message) → head_end stream ≡ Some (n, k) → n ≤ head_limit → Announced (take n stream) len → n + len ≤ length stream
     → body ≡ take len (drop n stream) → m ≡ message_of body → IsMessage (take (n + len) stream) m
 first_message stream body n k len m e small a fits is means =
@@ -92,7 +81,7 @@ so_far_more stream ms rest m len s x = record {
   parts = s.parts ∙ ap (λ z. s.text ++ z) (sym (take-append-drop len rest)) ∙ sym (append_assoc s.text (take len rest) (drop len rest));
 }
 
-pub so_far_all : (stream : List ℕ) (ms : List Message) (rest : List ℕ) (e : End) → SoFar stream ms rest → Ends rest e → Framed stream ms e
+pub so_far_all : (stream : List ℕ) (ms : List Message) (rest : List ℕ) (e : End) → SoFar stream ms rest → HasEnd rest e → Framed stream ms e
 so_far_all stream ms rest e s x =
     subst (λ z. Framed z ms e) (sym s.parts) (subst (λ z. Framed (s.text ++ rest) z e) (append-nil ms) (spells_then_framed ms [] s.text rest e s.spells x))
 
@@ -105,3 +94,9 @@ some_head stream n k e = above n (front_at stream n k e)
 
 pub not_empty : (xs : List ℕ) (b : Bool) → b ≡ nat_eq (length xs) 0 → b ≡ false → xs ≢ []
 not_empty xs b is no_byte = λ e. eqb-false (length xs) 0 (sym is ∙ no_byte) (ap length e)
+
+-- one message more of those that there are
+pub some_more : (stream rest now : List ℕ) (m : Message) (len : ℕ) → (x : (ms : List Message) × SoFar stream ms rest)
+    → IsMessage (take len rest) m → now ≡ drop len rest → (ms : List Message) × SoFar stream ms now
+some_more stream rest now m len x y is =
+    (x.0 ++ m ∷ [], subst (λ z. SoFar stream (x.0 ++ m ∷ []) z) (sym is) (so_far_more stream x.0 rest m len x.1 y))

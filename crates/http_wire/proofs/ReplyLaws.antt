@@ -1,17 +1,16 @@
--- Phrases of statuses, the constant replies, and writes of two pieces.
-use Rattle.std.proofs.Common.{◌≡◌, ℕ, zero, suc, ◌<◌, ◌≤◌, ◌⊎◌, inl, inr, Bool, true, false, ◌&&◌, nat_le, nat_eq, List, [], length, codes, Option, None, refl, ap, ◌∙◌, arith, append_assoc}
+-- Phrases of statuses, and writes of two pieces.
+use Rattle.std.proofs.Common.{◌≡◌, ℕ, zero, suc, ◌<◌, ◌≤◌, ◌⊎◌, inl, inr, Bool, true, false, ◌&&◌, nat_le, nat_eq, List, [], length, codes, Option, None, refl, sym, ap, ◌∙◌, subst, arith, append_assoc}
 use Rattle.std.proofs.lemmas.Bool.{ne_eqb, leb-true, cases_lt}
 use Rattle.std.proofs.Math.Dec.{lit<, lit≤}
-use Rattle.std.specs.Prelude.{unwrap_or, decimal, ◌++◌, Result, Ok, Err, IsErr}
+use Rattle.std.specs.Prelude.{unwrap_or, decimal, ◌++◌, Result, Ok, Err}
 use Rattle.outside.specs.Bytes.{Took}
-use Rattle.outside.specs.Whole.{TookFront, IsWritten}
-use Rattle.outside.proofs.Taken.{took_both, front_of_second}
+use Rattle.outside.specs.Ends.{Outgoing}
+use Rattle.outside.specs.Whole.{IsWritten, CountsFault, CountsEnd, WritesWhole}
+use Rattle.outside.specs.declared.whole.WriteEnd.{WriteEnd}
+use Rattle.outside.proofs.Taken.{took_both, front_of_first, front_of_second}
 use Rattle.std.proofs.lemmas.Bool.Decides.{Decides-below_and}
-use Rattle.std.specs.Fmt.{digits}
 use Rattle.http.specs.StatusCode.{reason_phrase, IsStatusCode}
 use Rattle.service_core.specs.ReplyBytes.{head_text, line, line_end, content_type, token_line, close_line}
-use Rattle.http_wire.specs.Out.{farewell_bytes}
-use Rattle.http_wire.specs.declared.message.WireFault.TheVariants.{CutShort, Unread, ReadFault, Memory}
 
 abbrev is_short : List ℕ → Bool
 is_short text = nat_le (length text) 31
@@ -32,26 +31,6 @@ phrase_none n h = rw (other 100 (lit≤ tt) (lit< tt), other 101 (lit≤ tt) (li
     other : (k : ℕ) → 100 ≤ k → k < 1000 → nat_eq n k ≡ false
     other k low high = ne_eqb n k (λ e. omega arith)
 
-pub farewell_cut_short : (have : ℕ) → farewell_bytes (CutShort have)
-    ≡ codes "HTTP/1.1 400 Bad Request\r\nContent-Type: text/plain; charset=utf-8\r\nX-Prpc-Grpc-Code: 3\r\nConnection: close\r\nContent-Length: 16\r\n\r\nwire 8 CutShort\n"
-unfolding head_text digits
-farewell_cut_short have = refl
-
-pub farewell_read_fault : farewell_bytes ReadFault
-    ≡ codes "HTTP/1.1 400 Bad Request\r\nContent-Type: text/plain; charset=utf-8\r\nX-Prpc-Grpc-Code: 3\r\nConnection: close\r\nContent-Length: 17\r\n\r\nwire 9 ReadFault\n"
-unfolding head_text digits
-farewell_read_fault = refl
-
-pub farewell_memory : farewell_bytes Memory
-    ≡ codes "HTTP/1.1 400 Bad Request\r\nContent-Type: text/plain; charset=utf-8\r\nX-Prpc-Grpc-Code: 3\r\nConnection: close\r\nContent-Length: 15\r\n\r\nwire 10 Memory\n"
-unfolding head_text digits
-farewell_memory = refl
-
-pub farewell_unread : farewell_bytes Unread
-    ≡ codes "HTTP/1.1 400 Bad Request\r\nContent-Type: text/plain; charset=utf-8\r\nX-Prpc-Grpc-Code: 3\r\nConnection: close\r\nContent-Length: 15\r\n\r\nwire 11 Unread\n"
-unfolding head_text digits
-farewell_unread = refl
-
 short_where : (n : ℕ) → (n < 1000) ⊎ (999 < n) → length (unwrap_or (reason_phrase n) []) ≤ 31
 short_where n (inl h) = phrase_short n h
 short_where n (inr h) =
@@ -68,15 +47,27 @@ not_code n hno =
 pub phrase_any : (n : ℕ) → length (unwrap_or (reason_phrase n) []) ≤ 31
 phrase_any n = short_where n (cases_lt n 1000)
 
-pub written_err : {T E : Type 0} (before : Option (List ℕ)) (bytes : List ℕ) (r : Result T E) (now : Option (List ℕ)) → IsErr r
-    → TookFront before bytes now → IsWritten before bytes r now
-written_err before bytes (Ok x) now h front = absurd (let e : false ≡ true = h in cc)
-written_err before bytes (Err e) now h front = front
+pub written_err : {T : Type 0} (before now : Outgoing) (first second : List ℕ) (e : WriteEnd) (r : Result T WriteEnd)
+    → WritesWhole {T = T} before first (Err e) now → r ≡ Err e → WritesWhole before (first ++ second) r now
+written_err {T} before now first second e r x is =
+    subst (λ z. WritesWhole before (first ++ second) z now) (sym is) (record {
+      written = front_of_first before.written first second now.written x.written;
+      faults = x.faults;
+      stalls = x.stalls;
+    })
 
-pub written_both : {T E : Type 0} (before : Option (List ℕ)) (first second : List ℕ) (between : Option (List ℕ)) (r : Result T E) (now : Option (List ℕ))
+after_both : {T : Type 0} (before : Option (List ℕ)) (first second : List ℕ) (between : Option (List ℕ)) (r : Result T WriteEnd) (now : Option (List ℕ))
     → Took before first between → IsWritten between second r now → IsWritten before (first ++ second) r now
-written_both before first second between (Ok x) now p q = took_both before first second between now p q
-written_both before first second between (Err e) now p q = front_of_second before first second between now p q
+after_both before first second between (Ok x) now p q = took_both before first second between now p q
+after_both before first second between (Err e) now p q = front_of_second before first second between now p q
+
+pub written_both : {T U : Type 0} (before between now : Outgoing) (first second : List ℕ) (done : T) (r : Result U WriteEnd)
+    → WritesWhole before first (Ok done) between → WritesWhole between second r now → WritesWhole before (first ++ second) r now
+written_both {T} {U} before between now first second done r x y = record {
+  written = after_both before.written first second between.written r now.written x.written y.written;
+  faults = let P : ℕ → Type 0 = λ n. CountsFault n r now.faults in subst P x.faults y.faults;
+  stalls = let P : ℕ → Type 0 = λ n. CountsEnd n r now.stalls in subst P x.stalls y.stalls;
+}
 
 regroup : (a b c d e f g : List ℕ) → ((((((a ++ b) ++ c) ++ d) ++ e) ++ f) ++ g) ≡ a ++ (b ++ (c ++ (d ++ (e ++ (f ++ g)))))
 regroup a b c d e f g = simp append_assoc

@@ -7,10 +7,12 @@ use Rattle.httparse.proofs.GrammarLemmas.{request_unique}
 use Rattle.http_wire.specs.Head.{IsHeadText, HasNoHead, head_limit}
 use Rattle.http_wire.specs.Form.{IsForm}
 use Rattle.http_wire.specs.Scan.{head_end, scan}
-use Rattle.http_wire.specs.Stream.{message_of, Announces, IsMessage, LacksBody, IsOtherHead, IsEndless, IsUnread, HasNoMessage, Ends, Framed, Spells}
+use Rattle.http_wire.specs.Stream.{message_of, Announces, IsMessage, LacksBody, IsOtherHead, IsEndless, IsUnread, HasFault, HasEnd, IsUndecided, Framed, Spells}
 use Rattle.http_wire.specs.declared.message.Message.{Message}
 use Rattle.http_wire.specs.declared.message.End.{End}
-use Rattle.http_wire.specs.declared.message.End.TheVariants.{Finished, CutShort, Unread}
+use Rattle.http_wire.specs.declared.message.End.TheVariants.{Finished, Fault}
+use Rattle.http_wire.specs.declared.message.WireFault.{WireFault}
+use Rattle.http_wire.specs.declared.message.WireFault.TheVariants.{CutShort, Unread, ReadFault, Memory}
 use Rattle.http_wire.proofs.ScanLaws.{end_of_head}
 use Rattle.http_wire.proofs.RequestLaws.{request_is_head}
 
@@ -70,6 +72,10 @@ message_bytes a r m x = ap (λ z. z ++ r) x.parts ∙ append_assoc (print_reques
 
 -- ---- where no message stands in front
 
+-- no front of the bytes is a message
+abbrev pub HasNoMessage : List ℕ → Type 0
+HasNoMessage bytes = (front rest : List ℕ) (m : Message) → bytes ≡ front ++ rest → ¬ (IsMessage front m)
+
 pub no_message_where_no_head : (bytes : List ℕ) → HasNoHead bytes → HasNoMessage bytes
 no_message_where_no_head bytes none front rest m e x =
     none (print_request x.h) (x.body ++ rest) (length x.h.fields) (e ∙ message_bytes front rest m x) (announced_head x.h (length x.body) x.announced)
@@ -108,11 +114,21 @@ no_message_in_nothing bytes nothing =
     let empty = nil_from_length text (omega (arith, len)) in
     no_empty_head count (subst (λ x. IsHeadText x count) empty head))
 
+no_message_at_fault : (bytes : List ℕ) (fault : WireFault) → HasFault bytes fault → HasNoMessage bytes
+no_message_at_fault bytes (CutShort have) e = no_message_inside bytes e.inside
+no_message_at_fault bytes Unread e = no_message_where_unread bytes e
+no_message_at_fault bytes ReadFault e = absurd e
+no_message_at_fault bytes Memory e = absurd e
+
 -- An end is no message.
-pub no_message_at_end : (bytes : List ℕ) (end : End) → Ends bytes end → HasNoMessage bytes
+pub no_message_at_end : (bytes : List ℕ) (end : End) → HasEnd bytes end → HasNoMessage bytes
 no_message_at_end bytes Finished e = no_message_in_nothing bytes e
-no_message_at_end bytes (CutShort have) e = no_message_inside bytes e.inside
-no_message_at_end bytes Unread e = no_message_where_unread bytes e
+no_message_at_end bytes (Fault fault) e = no_message_at_fault bytes fault e
+
+-- Where more has to be read no message is whole.
+pub no_message_undecided : (bytes : List ℕ) → IsUndecided bytes → HasNoMessage bytes
+no_message_undecided bytes (inl nothing) = no_message_in_nothing bytes nothing
+no_message_undecided bytes (inr cut) = no_message_inside bytes cut.inside
 
 -- ---- one end
 
@@ -122,7 +138,7 @@ not_empty_unread bytes e (inl o) =
     no_empty_head o.count (subst (λ x. IsHeadText x o.count) (nil_from_length o.text (omega (arith, len))) o.head)
 not_empty_unread bytes e (inr o) = let len : length bytes ≡ 0 = ap length e in let long = o.long in omega (arith, len, long)
 
-not_cut_and_unread : (bytes : List ℕ) → ((length bytes < head_limit) × HasNoHead bytes) ⊎ LacksBody bytes → IsUnread bytes → ⊥
+pub not_cut_and_unread : (bytes : List ℕ) → ((length bytes < head_limit) × HasNoHead bytes) ⊎ LacksBody bytes → IsUnread bytes → ⊥
 not_cut_and_unread bytes (inl x) (inl o) = x.1 o.text o.rest o.count o.parts o.head
 not_cut_and_unread bytes (inl x) (inr o) = let short = x.0 in let long = o.long in omega (arith, short, long)
 not_cut_and_unread bytes (inr x) (inl o) =
@@ -131,16 +147,27 @@ not_cut_and_unread bytes (inr x) (inl o) =
 not_cut_and_unread bytes (inr x) (inr o) =
     o.no_head (print_request x.h) x.body (length x.h.fields) x.parts x.announced.short (announced_head x.h x.len x.announced)
 
-one_end : (bytes : List ℕ) (e f : End) → Ends bytes e → Ends bytes f → e ≡ f
+no_fault_of_nothing : (bytes : List ℕ) (fault : WireFault) → bytes ≡ [] → HasFault bytes fault → ⊥
+no_fault_of_nothing bytes (CutShort have) nothing x = x.some nothing
+no_fault_of_nothing bytes Unread nothing x = not_empty_unread bytes nothing x
+no_fault_of_nothing bytes ReadFault nothing x = x
+no_fault_of_nothing bytes Memory nothing x = x
+
+one_fault : (bytes : List ℕ) (e f : WireFault) → HasFault bytes e → HasFault bytes f → e ≡ f
+one_fault bytes (CutShort have) (CutShort had) x y = ap CutShort (x.count ∙ sym y.count)
+one_fault bytes (CutShort have) Unread x y = absurd (not_cut_and_unread bytes x.inside y)
+one_fault bytes Unread (CutShort had) x y = absurd (not_cut_and_unread bytes y.inside x)
+one_fault bytes Unread Unread x y = refl
+one_fault bytes ReadFault f x y = absurd x
+one_fault bytes Memory f x y = absurd x
+one_fault bytes e ReadFault x y = absurd y
+one_fault bytes e Memory x y = absurd y
+
+one_end : (bytes : List ℕ) (e f : End) → HasEnd bytes e → HasEnd bytes f → e ≡ f
 one_end bytes Finished Finished x y = refl
-one_end bytes Finished (CutShort have) x y = absurd (y.some x)
-one_end bytes Finished Unread x y = absurd (not_empty_unread bytes x y)
-one_end bytes (CutShort have) Finished x y = absurd (x.some y)
-one_end bytes (CutShort have) (CutShort had) x y = ap CutShort (x.count ∙ sym y.count)
-one_end bytes (CutShort have) Unread x y = absurd (not_cut_and_unread bytes x.inside y)
-one_end bytes Unread Finished x y = absurd (not_empty_unread bytes y x)
-one_end bytes Unread (CutShort had) x y = absurd (not_cut_and_unread bytes y.inside x)
-one_end bytes Unread Unread x y = refl
+one_end bytes Finished (Fault f) x y = absurd (no_fault_of_nothing bytes f x y)
+one_end bytes (Fault e) Finished x y = absurd (no_fault_of_nothing bytes e y x)
+one_end bytes (Fault e) (Fault f) x y = ap Fault (one_fault bytes e f x y)
 
 -- ---- one reading
 

@@ -1,4 +1,4 @@
--- What the bytes of a head announce.
+-- The code's own words, which private contracts alone cite: what the bytes of a head announce.
 use Rattle.std.specs.Prelude.{◌≡◌, ℕ, List}
 use Rattle.httparse.specs.Grammar.{RequestHead, IsRequestHead, print_request}
 use Rattle.http_wire.specs.Form.{IsForm}

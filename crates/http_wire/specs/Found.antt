@@ -1,4 +1,4 @@
--- What a head has under a name.
+-- The code's own word, which private contracts alone cite: what a head has under a name.
 use Rattle.std.specs.Prelude.{◌≡◌, ◌≤◌, ℕ, List, [], ◌∷◌, length}
 use Rattle.http_wire.specs.declared.fields.Found.{Found}
 use Rattle.http_wire.specs.declared.fields.Found.TheVariants.{Absent, Once, Again}

@@ -20,9 +20,14 @@ fault_name Unread = codes "Unread"
 fault_name ReadFault = codes "ReadFault"
 fault_name Memory = codes "Memory"
 
--- the reply that says why no more is read
+-- why no more is read
+abbrev pub farewell_text : WireFault → List ℕ
+farewell_text fault =
+    codes "wire " ++ (decimal (fault_number fault) ++ (codes " " ++ (fault_name fault ++ codes "\n")))
+
+-- the reply that says so
 abbrev pub farewell_bytes : WireFault → List ℕ
-farewell_bytes fault = plain_reply 400 3 true (codes "wire " ++ (decimal (fault_number fault) ++ (codes " " ++ (fault_name fault ++ codes "\n"))))
+farewell_bytes fault = plain_reply 400 3 true (farewell_text fault)
 
 -- the replies that were told, each with its message's close flag
 abbrev pub reply_bytes : List Message → List Told → List ℕ

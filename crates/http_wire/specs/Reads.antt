@@ -1,33 +1,61 @@
--- What the steps of reading a message leave and answer.
-use Rattle.std.specs.Prelude.{◌≡◌, ℕ, ◌+◌, ◌<◌, List, [], ◌++◌, length, take, Option, Some, None, Result, Ok, Err}
+-- The code's own words, which private contracts alone cite: what the steps of reading a message leave and answer.
+use Rattle.std.specs.Prelude.{◌≡◌, ℕ, ◌+◌, ◌-◌, ◌<◌, ◌≤◌, List, [], ◌++◌, length, take, drop, Option, Some, None, Result, Ok, Err, IfOk, IfErr}
+use Rattle.std.specs.Result.{result_unwrap_or}
 use Rattle.std.specs.Global.{Vec}
 use Rattle.outside.specs.Bytes.{Gave, IsEnd}
+use Rattle.outside.specs.Ends.{Incoming}
+use Rattle.http_wire.specs.Head.{head_limit}
 use Rattle.http_wire.specs.Scan.{head_end}
-use Rattle.http_wire.specs.Stream.{IsCutShort, IsUnread, HasNoMessage}
+use Rattle.http_wire.specs.Stream.{HasFault, IsUndecided}
+use Rattle.http_wire.specs.Held.{CountsRead}
 use Rattle.http_wire.specs.declared.head_scan.HeadEnd.{HeadEnd}
 use Rattle.http_wire.specs.declared.message.WireFault.{WireFault}
 use Rattle.http_wire.specs.declared.message.WireFault.TheVariants.{CutShort, Unread, ReadFault, Memory}
 
+-- what one read gave into a room from a place on
+abbrev pub given_at : ℕ → Result ℕ WireFault → List ℕ → List ℕ
+given_at at (Ok count) room = take count (drop at room)
+given_at at (Err e) room = []
+
+-- one read into a room from a place on
+pub record ReadsAt (had : Incoming) (at : ℕ) (room : List ℕ) (result : Result ℕ WireFault) (now : List ℕ) (left : Incoming) : Type 0 where
+  pub bound : IfOk result (λ n. at + n ≤ length now)
+  pub kept : take at now ≡ take at room
+  pub gave : Gave had.left (given_at at result now) left.left
+  pub at_end : IfOk result (λ n. n ≡ 0 → IsEnd left.left)
+  pub fault : IfErr result (λ e. e ≡ ReadFault)
+  pub faults : CountsRead had.faults result left.faults
+
 -- bytes were read behind those that were held
-pub record IsRead (held : List ℕ) (had : Option (List ℕ)) (now : List ℕ) (left : Option (List ℕ)) : Type 0 where
+pub record IsRead (held : List ℕ) (had : Incoming) (now : List ℕ) (left : Incoming) : Type 0 where
   pub got : List ℕ
-  pub gave : Gave had got left
+  pub gave : Gave had.left got left.left
   pub behind : now ≡ held ++ got
 
--- one read gave so many bytes
-pub record IsFilled (held : List ℕ) (had : Option (List ℕ)) (count : ℕ) (now : List ℕ) (left : Option (List ℕ)) : Type 0 where
+-- one read, of as many bytes as it answers
+pub record Fills (held : List ℕ) (had : Incoming) (result : Result ℕ WireFault) (now : List ℕ) (left : Incoming) : Type 0 where
   pub read : IsRead held had now left
-  pub many : length now ≡ length held + count
-  pub at_end : count ≡ 0 → IsEnd left
+  pub many : length read.got ≡ result_unwrap_or result 0
+  pub at_end : IfOk result (λ n. n ≡ 0 → IsEnd left.left)
+  pub fault : IfErr result (λ e. e ≡ ReadFault)
+  pub faults : CountsRead had.faults result left.faults
 
 -- what the bytes say of their first head
 abbrev pub IsHeadAnswer : List ℕ → Option (List ℕ) → Result (Option HeadEnd) WireFault → Type 0
 IsHeadAnswer bytes left (Ok (Some end)) = head_end bytes ≡ Some (end.len, end.lines)
 IsHeadAnswer bytes left (Ok None) = (bytes ≡ []) × IsEnd left
-IsHeadAnswer bytes left (Err (CutShort have)) = IsCutShort bytes have × IsEnd left
-IsHeadAnswer bytes left (Err Unread) = IsUnread bytes
-IsHeadAnswer bytes left (Err ReadFault) = HasNoMessage bytes
+IsHeadAnswer bytes left (Err (CutShort have)) = HasFault bytes (CutShort have) × IsEnd left
+IsHeadAnswer bytes left (Err Unread) = HasFault bytes Unread
+IsHeadAnswer bytes left (Err ReadFault) = IsUndecided bytes
 IsHeadAnswer bytes left (Err Memory) = ⊥
+
+-- reads until the head in front has ended, and none where what is held decides
+pub record FindsHead (held : List ℕ) (had : Incoming) (result : Result (Option HeadEnd) WireFault) (now : List ℕ) (left : Incoming) : Type 0 where
+  pub read : IsRead held had now left
+  pub answer : IsHeadAnswer now left.left result
+  pub short : length now ≤ head_limit
+  pub faults : CountsRead had.faults result left.faults
+  pub must_read : ¬ (IsUndecided held) → (now ≡ held) × (left ≡ had)
 
 -- What taking a body of so many bytes from behind a head of so many answers, where the stream is all that is there.
 abbrev pub IsBodyAnswer : List ℕ → ℕ → ℕ → List ℕ → Option (List ℕ) → Result (Vec ℕ) WireFault → Type 0
@@ -37,10 +65,14 @@ IsBodyAnswer stream head len now left (Err Unread) = ⊥
 IsBodyAnswer stream head len now left (Err ReadFault) = length stream < head + len
 IsBodyAnswer stream head len now left (Err Memory) = Unit {0}
 
-pub record BodyTaken (held : List ℕ) (had : Option (List ℕ)) (head len : ℕ) (result : Result (Vec ℕ) WireFault) (now : List ℕ) (left : Option (List ℕ)) : Type 0 where
+-- reads what a body lacks, and nothing where it is held
+pub record TakesBody (held : List ℕ) (had : Incoming) (head len : ℕ) (result : Result (Vec ℕ) WireFault) (now : List ℕ) (left : Incoming) : Type 0 where
   pub got : List ℕ
-  pub gave : Gave had got left
-  pub answer : IsBodyAnswer (held ++ got) head len now left result
+  pub gave : Gave had.left got left.left
+  pub answer : IsBodyAnswer (held ++ got) head len now left.left result
+  pub faults : CountsRead had.faults result left.faults
+  pub needed : length got ≤ head + len - length held
+  pub must_read : head + len ≤ length held → left ≡ had
 
 -- What filling a body answers that lacked all but so many bytes behind a head of so many.
 abbrev pub IsFillAnswer : List ℕ → List ℕ → ℕ → ℕ → List ℕ → Option (List ℕ) → {T : Type 0} → Result T WireFault → Type 0
@@ -50,7 +82,9 @@ IsFillAnswer body got stored head now left (Err Unread) = ⊥
 IsFillAnswer body got stored head now left (Err ReadFault) = stored + length got < length body
 IsFillAnswer body got stored head now left (Err Memory) = ⊥
 
-pub record BodyFilled {T : Type 0} (body : List ℕ) (had : Option (List ℕ)) (stored head : ℕ) (result : Result T WireFault) (now : List ℕ) (left : Option (List ℕ)) : Type 0 where
+-- reads what a body lacks
+pub record FillsBody {T : Type 0} (body : List ℕ) (had : Incoming) (stored head : ℕ) (result : Result T WireFault) (now : List ℕ) (left : Incoming) : Type 0 where
   pub got : List ℕ
-  pub gave : Gave had got left
-  pub answer : IsFillAnswer body got stored head now left result
+  pub gave : Gave had.left got left.left
+  pub answer : IsFillAnswer body got stored head now left.left result
+  pub faults : CountsRead had.faults result left.faults

@@ -1,4 +1,5 @@
--- The search for a head's end, byte by byte, as the code makes it; that it finds the ends of heads is proved in proofs/.
+-- The code's own words, which private contracts alone cite: the search for a head's end, byte by byte. That it finds the
+-- ends of heads is proved in proofs/.
 use Rattle.std.specs.Prelude.{◌≡◌, ℕ, ◌+◌, ◌≤◌, ◌==◌, if◌then◌else◌, List, [], ◌∷◌, ◌++◌, length, Option, Some, None}
 use Rattle.http_wire.specs.declared.head_scan.Place.{Place}
 use Rattle.http_wire.specs.declared.head_scan.Place.TheVariants.{Before, BeforeCr, FirstLine, LineStart, LineCr, HeaderLine}

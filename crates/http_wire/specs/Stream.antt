@@ -5,7 +5,9 @@ use Rattle.http_wire.specs.Head.{IsHeadText, HasNoHead, head_limit}
 use Rattle.http_wire.specs.Form.{IsForm, route_text}
 use Rattle.http_wire.specs.declared.message.Message.{Message}
 use Rattle.http_wire.specs.declared.message.End.{End}
-use Rattle.http_wire.specs.declared.message.End.TheVariants.{Finished, CutShort, Unread}
+use Rattle.http_wire.specs.declared.message.End.TheVariants.{Finished, Fault}
+use Rattle.http_wire.specs.declared.message.WireFault.{WireFault}
+use Rattle.http_wire.specs.declared.message.WireFault.TheVariants.{CutShort, Unread, ReadFault, Memory}
 
 -- the message with this body
 abbrev pub message_of : List ℕ → Message
@@ -69,19 +71,25 @@ pub record IsEndless (bytes : List ℕ) : Type 0 where
 abbrev pub IsUnread : List ℕ → Type 0
 IsUnread bytes = IsOtherHead bytes ⊎ IsEndless bytes
 
--- no front of the bytes is a message
-abbrev pub HasNoMessage : List ℕ → Type 0
-HasNoMessage bytes = (front rest : List ℕ) (m : Message) → bytes ≡ front ++ rest → ¬ (IsMessage front m)
+-- The fault that a stream has by itself. A failed read and want of memory are none.
+abbrev pub HasFault : List ℕ → WireFault → Type 0
+HasFault bytes (CutShort have) = IsCutShort bytes have
+HasFault bytes Unread = IsUnread bytes
+HasFault bytes ReadFault = ⊥
+HasFault bytes Memory = ⊥
 
 -- what stands behind the last message
-abbrev pub Ends : List ℕ → End → Type 0
-Ends bytes Finished = bytes ≡ []
-Ends bytes (CutShort have) = IsCutShort bytes have
-Ends bytes Unread = IsUnread bytes
+abbrev pub HasEnd : List ℕ → End → Type 0
+HasEnd bytes Finished = bytes ≡ []
+HasEnd bytes (Fault fault) = HasFault bytes fault
+
+-- An input that ended here would be nothing left, or cut short.
+abbrev pub IsUndecided : List ℕ → Type 0
+IsUndecided bytes = (bytes ≡ []) ⊎ IsCutShort bytes (length bytes)
 
 -- the bytes are these messages one after the other, and then this end
 abbrev pub Framed : List ℕ → List Message → End → Type 0
-Framed bytes [] end = Ends bytes end
+Framed bytes [] end = HasEnd bytes end
 Framed bytes (m ∷ ms) end = (front : List ℕ) × (rest : List ℕ) × IsMessage front m × (bytes ≡ front ++ rest) × Framed rest ms end
 
 -- the bytes are these messages one after the other, and nothing else

@@ -1,7 +1,7 @@
 //! The body behind a head.
-ghost use Rattle.std.specs.Prelude.{◌≡◌, ◌+◌, ◌<◌, ◌≤◌, ◌++◌, ◌^◌, length, take, drop, IfOk, OnErr};
-ghost use Rattle.http_wire.specs.Held.{CountsRead};
-ghost use Rattle.http_wire.specs.Reads.{BodyTaken, BodyFilled};
+ghost use Rattle.std.specs.Prelude.{◌≡◌, ◌+◌, ◌<◌, ◌≤◌, ◌^◌, length, take, IfOk};
+ghost use Rattle.outside.specs.Ends.{OnlyReads};
+ghost use Rattle.http_wire.specs.Reads.{TakesBody, FillsBody};
 
 use crate::buffer::{Buffer, read_at};
 use crate::message::WireFault;
@@ -20,11 +20,10 @@ pub fn take_body<L: Link>(
 ) -> Result<Vec<u8>, WireFault>
     requires head { head ≤ length buffer.old }
     requires fits { head + len < 2 ^ 64 }
-    ensures taken { BodyTaken buffer.old (L.left link.old) head len result buffer.new (L.left link.new) }
-    ensures faults { CountsRead (L.read_faults link.old) result (L.read_faults link.new) }
-    ensures write_faults { L.write_faults link.new ≡ L.write_faults link.old }
-    ensures stalls { L.stalls link.new ≡ L.stalls link.old }
-    ensures written { L.written link.new ≡ L.written link.old }
+    ensures taken { TakesBody buffer.old (L.ends link.old).incoming head len result buffer.new
+        (L.ends link.new).incoming }
+    ensures short { length buffer.new ≤ length buffer.old }
+    ensures only { OnlyReads (L.ends link.old) (L.ends link.new) }
     ensures holds { L.holds link.new ≡ L.holds link.old }
 {
     let stored = buffer.as_slice().len() - head;
@@ -60,11 +59,9 @@ fn fill_body<L: Link>(
 ) -> Result<(), WireFault>
     requires stored { stored ≤ length body.old }
     requires fits { head + length body.old < 2 ^ 64 }
-    ensures filled { BodyFilled body.old (L.left link.old) stored head result body.new (L.left link.new) }
-    ensures faults { CountsRead (L.read_faults link.old) result (L.read_faults link.new) }
-    ensures write_faults { L.write_faults link.new ≡ L.write_faults link.old }
-    ensures stalls { L.stalls link.new ≡ L.stalls link.old }
-    ensures written { L.written link.new ≡ L.written link.old }
+    ensures filled { FillsBody body.old (L.ends link.old).incoming stored head result body.new
+        (L.ends link.new).incoming }
+    ensures only { OnlyReads (L.ends link.old) (L.ends link.new) }
     ensures holds { L.holds link.new ≡ L.holds link.old }
 {
     let mut at = stored;

@@ -1,9 +1,8 @@
 //! The bytes of a link that were read and aren't used yet.
-ghost use Rattle.std.specs.Prelude.{ℕ, ◌≡◌, ◌+◌, ◌-◌, ◌<◌, ◌≤◌, ◌++◌, [], length, take, drop, slice_range, Ok, IfOk, IfErr, OnErr};
-ghost use Rattle.outside.specs.Bytes.{Gave, IsEnd};
+ghost use Rattle.std.specs.Prelude.{ℕ, ◌≡◌, ◌-◌, ◌<◌, ◌≤◌, [], length, drop, slice_range, IfOk};
+ghost use Rattle.outside.specs.Ends.{OnlyReads};
 ghost use Rattle.http_wire.specs.Head.{head_limit};
-ghost use Rattle.http_wire.specs.Held.{CountsRead};
-ghost use Rattle.http_wire.specs.Reads.{IsFilled};
+ghost use Rattle.http_wire.specs.Reads.{Fills, ReadsAt};
 
 use crate::message::WireFault;
 use outside::Link;
@@ -61,13 +60,10 @@ impl Buffer {
     /// Reads once, behind the bytes that wait, and answers how many bytes came.
     pub fn fill<L: Link>(&mut self, link: &mut L) -> Result<usize, WireFault>
         requires { length self.old < head_limit }
-        ensures filled { IfOk result (λ n. IsFilled self.old (L.left link.old) n self.new (L.left link.new)) }
-        ensures nothing { OnErr result ((self.new ≡ self.old) × (L.left link.new ≡ L.left link.old)) }
-        ensures fault { IfErr result (λ e. e ≡ WireFault.ReadFault) }
-        ensures faults { CountsRead (L.read_faults link.old) result (L.read_faults link.new) }
-        ensures write_faults { L.write_faults link.new ≡ L.write_faults link.old }
-        ensures stalls { L.stalls link.new ≡ L.stalls link.old }
-        ensures written { L.written link.new ≡ L.written link.old }
+        ensures filled { Fills self.old (L.ends link.old).incoming result self.new
+            (L.ends link.new).incoming }
+        ensures short { length self.new ≤ head_limit }
+        ensures only { OnlyReads (L.ends link.old) (L.ends link.new) }
         ensures holds { L.holds link.new ≡ L.holds link.old }
     {
         let (from, to) = with_room_behind(self.room.as_mut_slice(), self.from, self.to);
@@ -101,16 +97,9 @@ fn with_room_behind(room: &mut [u8], from: usize, to: usize) -> (usize, usize)
 /// Reads once into the room from a place on.
 pub fn read_at<L: Link>(link: &mut L, room: &mut [u8], at: usize) -> Result<usize, WireFault>
     requires { at < length room.old }
-    ensures bound { IfOk result (λ n. at + n ≤ length room.new) }
-    ensures kept { take at room.new ≡ take at room.old }
-    ensures gave { IfOk result (λ n. Gave (L.left link.old) (take n (drop at room.new)) (L.left link.new)) }
-    ensures at_end { IfOk result (λ n. n ≡ 0 → IsEnd (L.left link.new)) }
-    ensures nothing { OnErr result (L.left link.new ≡ L.left link.old) }
-    ensures fault { IfErr result (λ e. e ≡ WireFault.ReadFault) }
-    ensures faults { CountsRead (L.read_faults link.old) result (L.read_faults link.new) }
-    ensures write_faults { L.write_faults link.new ≡ L.write_faults link.old }
-    ensures stalls { L.stalls link.new ≡ L.stalls link.old }
-    ensures written { L.written link.new ≡ L.written link.old }
+    ensures read { ReadsAt (L.ends link.old).incoming at room.old result room.new
+        (L.ends link.new).incoming }
+    ensures only { OnlyReads (L.ends link.old) (L.ends link.new) }
     ensures holds { L.holds link.new ≡ L.holds link.old }
 {
     match link.read(&mut room[at..]) {

@@ -1,7 +1,7 @@
 //! The head in front of what a link gives.
 ghost use Rattle.std.specs.Prelude.{◌≡◌, ◌==◌, if◌then◌else◌, Ok, Err, None};
-ghost use Rattle.http_wire.specs.Held.{CountsRead};
-ghost use Rattle.http_wire.specs.Reads.{IsRead, IsHeadAnswer};
+ghost use Rattle.outside.specs.Ends.{OnlyReads};
+ghost use Rattle.http_wire.specs.Reads.{FindsHead};
 
 use crate::buffer::{Buffer, HEAD_LIMIT};
 use crate::head_scan::{HeadEnd, Search, begin, search_on};
@@ -10,12 +10,9 @@ use outside::Link;
 
 /// Reads until the head in front has ended, and answers where; or `None` where nothing is left.
 pub fn find_head<L: Link>(buffer: &mut Buffer, link: &mut L) -> Result<Option<HeadEnd>, WireFault>
-    ensures read { IsRead buffer.old (L.left link.old) buffer.new (L.left link.new) }
-    ensures answer { IsHeadAnswer buffer.new (L.left link.new) result }
-    ensures faults { CountsRead (L.read_faults link.old) result (L.read_faults link.new) }
-    ensures write_faults { L.write_faults link.new ≡ L.write_faults link.old }
-    ensures stalls { L.stalls link.new ≡ L.stalls link.old }
-    ensures written { L.written link.new ≡ L.written link.old }
+    ensures finds { FindsHead buffer.old (L.ends link.old).incoming result buffer.new
+        (L.ends link.new).incoming }
+    ensures only { OnlyReads (L.ends link.old) (L.ends link.new) }
     ensures holds { L.holds link.new ≡ L.holds link.old }
 {
     let mut progress = begin();

@@ -17,7 +17,7 @@ mod reply_head;
 mod request;
 mod wire;
 
-pub use laws::{front_of_reading, one_reading};
+pub use laws::{front_of_reading, one_reading, there_is_a_reading};
 pub use message::{End, Message, WireFault};
 pub use out::{write_farewell, write_response, write_standin};
 pub use plain::read_stream;

@@ -2,7 +2,7 @@
 ghost use Rattle.std.specs.Prelude.{◌≡◌};
 ghost use Rattle.http_wire.specs.Out.{fault_number, fault_name};
 
-use names_realms::Bytes;
+use lists::Bytes;
 use service_core::Asked;
 use std::alloc::{AllocError, AllocFailed};
 
@@ -21,10 +21,8 @@ pub struct Message {
 pub enum End {
     /// Nothing.
     Finished,
-    /// The stream ends inside a message, of which so many bytes are there.
-    CutShort { have: usize },
-    /// A message that isn't of the form that is read.
-    Unread,
+    /// A message that isn't whole, or isn't of the form that is read.
+    Fault(WireFault),
 }
 
 /// Why no more messages come from a wire.

@@ -1,34 +1,32 @@
 //! Replies to a link.
-ghost use Rattle.std.specs.Prelude.{◌≡◌, ◌++◌};
-ghost use Rattle.outside.specs.Whole.{IsWritten, CountsFault, CountsEnd};
+ghost use Rattle.std.specs.Prelude.{◌≡◌, ◌≤◌, ◌++◌, length};
+ghost use Rattle.outside.specs.Ends.{OnlyWrites};
+ghost use Rattle.outside.specs.Whole.{WritesWhole};
 ghost use Rattle.service_core.specs.ReplyBytes.{answer_bytes, standin_bytes};
-ghost use Rattle.http_wire.specs.Out.{farewell_bytes};
+ghost use Rattle.http_wire.specs.Out.{farewell_bytes, farewell_text};
 
 use crate::message::WireFault;
-use crate::reply_head::reply_head;
+use crate::reply_head::{Reply, put, reply_head};
 use outside::{Link, WriteEnd, write_whole};
 use service_core::forms::{Answer, Standin};
 
 /// Writes a reply: its head in one write, and its body in a second one, where the link takes them whole.
 pub fn write_response<L: Link>(link: &mut L, answer: &Answer, close: bool) -> Result<(), WriteEnd>
-    ensures written { IsWritten (L.written link.old) (answer_bytes answer.now close) result (L.written link.new) }
-    ensures faults { CountsFault (L.write_faults link.old) result (L.write_faults link.new) }
-    ensures stalls { CountsEnd (L.stalls link.old) result (L.stalls link.new) }
-    ensures read_faults { L.read_faults link.new ≡ L.read_faults link.old }
-    ensures left { L.left link.new ≡ L.left link.old }
+    ensures written { WritesWhole (L.ends link.old).outgoing (answer_bytes answer.now close) result
+        (L.ends link.new).outgoing }
+    ensures only { OnlyWrites (L.ends link.old) (L.ends link.new) }
     ensures holds { L.holds link.new ≡ L.holds link.old }
 {
-    let head = reply_head(answer, close);
-    write_both(link, head.as_slice(), answer.body.as_slice())
+    let body = answer.body.as_slice();
+    let head = reply_head(answer.status, answer.code, &answer.token, close, body.len());
+    write_both(link, head.as_slice(), body)
 }
 
 /// Writes a stand-in for an answer.
 pub fn write_standin<L: Link>(link: &mut L, which: Standin, close: bool) -> Result<(), WriteEnd>
-    ensures written { IsWritten (L.written link.old) (standin_bytes which close) result (L.written link.new) }
-    ensures faults { CountsFault (L.write_faults link.old) result (L.write_faults link.new) }
-    ensures stalls { CountsEnd (L.stalls link.old) result (L.stalls link.new) }
-    ensures read_faults { L.read_faults link.new ≡ L.read_faults link.old }
-    ensures left { L.left link.new ≡ L.left link.old }
+    ensures written { WritesWhole (L.ends link.old).outgoing (standin_bytes which close) result
+        (L.ends link.new).outgoing }
+    ensures only { OnlyWrites (L.ends link.old) (L.ends link.new) }
     ensures holds { L.holds link.new ≡ L.holds link.old }
 {
     write_whole(link, which.bytes(close))
@@ -36,41 +34,40 @@ pub fn write_standin<L: Link>(link: &mut L, which: Standin, close: bool) -> Resu
 
 /// Writes why no more messages are read.
 pub fn write_farewell<L: Link>(link: &mut L, fault: &WireFault) -> Result<(), WriteEnd>
-    ensures written { IsWritten (L.written link.old) (farewell_bytes fault.now) result (L.written link.new) }
-    ensures faults { CountsFault (L.write_faults link.old) result (L.write_faults link.new) }
-    ensures stalls { CountsEnd (L.stalls link.old) result (L.stalls link.new) }
-    ensures read_faults { L.read_faults link.new ≡ L.read_faults link.old }
-    ensures left { L.left link.new ≡ L.left link.old }
+    ensures written { WritesWhole (L.ends link.old).outgoing (farewell_bytes fault.now) result
+        (L.ends link.new).outgoing }
+    ensures only { OnlyWrites (L.ends link.old) (L.ends link.new) }
     ensures holds { L.holds link.new ≡ L.holds link.old }
 {
-    write_whole(link, farewell(fault).as_bytes())
+    write_whole(link, farewell(fault).as_slice())
 }
 
-fn farewell(fault: &WireFault) -> &'static str
-    ensures { result.now ≡ farewell_bytes fault.now }
+/// The whole reply that says why.
+fn farewell(fault: &WireFault) -> Reply
+    ensures { result.items ≡ farewell_bytes fault.now }
+{
+    let text = farewell_text(fault).as_bytes();
+    let mut reply = reply_head(400, 3, &None, true, text.len());
+    put(&mut reply, text);
+    reply
+}
+
+fn farewell_text(fault: &WireFault) -> &'static str
+    ensures text { result.now ≡ farewell_text fault.now }
+    ensures short { length result.now ≤ 17 }
 {
     match fault {
-        WireFault::CutShort { .. } => {
-            "HTTP/1.1 400 Bad Request\r\nContent-Type: text/plain; charset=utf-8\r\nX-Prpc-Grpc-Code: 3\r\nConnection: close\r\nContent-Length: 16\r\n\r\nwire 8 CutShort\n"
-        }
-        WireFault::ReadFault => {
-            "HTTP/1.1 400 Bad Request\r\nContent-Type: text/plain; charset=utf-8\r\nX-Prpc-Grpc-Code: 3\r\nConnection: close\r\nContent-Length: 17\r\n\r\nwire 9 ReadFault\n"
-        }
-        WireFault::Memory => {
-            "HTTP/1.1 400 Bad Request\r\nContent-Type: text/plain; charset=utf-8\r\nX-Prpc-Grpc-Code: 3\r\nConnection: close\r\nContent-Length: 15\r\n\r\nwire 10 Memory\n"
-        }
-        WireFault::Unread => {
-            "HTTP/1.1 400 Bad Request\r\nContent-Type: text/plain; charset=utf-8\r\nX-Prpc-Grpc-Code: 3\r\nConnection: close\r\nContent-Length: 15\r\n\r\nwire 11 Unread\n"
-        }
+        WireFault::CutShort { .. } => "wire 8 CutShort\n",
+        WireFault::ReadFault => "wire 9 ReadFault\n",
+        WireFault::Memory => "wire 10 Memory\n",
+        WireFault::Unread => "wire 11 Unread\n",
     }
 }
 
 fn write_both<L: Link>(link: &mut L, front: &[u8], rest: &[u8]) -> Result<(), WriteEnd>
-    ensures written { IsWritten (L.written link.old) (front.now ++ rest.now) result (L.written link.new) }
-    ensures faults { CountsFault (L.write_faults link.old) result (L.write_faults link.new) }
-    ensures stalls { CountsEnd (L.stalls link.old) result (L.stalls link.new) }
-    ensures read_faults { L.read_faults link.new ≡ L.read_faults link.old }
-    ensures left { L.left link.new ≡ L.left link.old }
+    ensures written { WritesWhole (L.ends link.old).outgoing (front.now ++ rest.now) result
+        (L.ends link.new).outgoing }
+    ensures only { OnlyWrites (L.ends link.old) (L.ends link.new) }
     ensures holds { L.holds link.new ≡ L.holds link.old }
 {
     write_whole(link, front)?;

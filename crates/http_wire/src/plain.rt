@@ -1,5 +1,5 @@
 //! A reader of whole streams, without a buffer: what a stream's messages are, step by step.
-ghost use Rattle.std.specs.Prelude.{◌≡◌, ◌+◌, ◌<◌, ◌≤◌, length, take, Some, IfOk};
+ghost use Rattle.std.specs.Prelude.{◌≡◌, ◌≤◌, length, Some, IfOk};
 ghost use Rattle.http_wire.specs.Head.{head_limit};
 ghost use Rattle.http_wire.specs.Scan.{head_end};
 ghost use Rattle.http_wire.specs.Stream.{Framed};
@@ -7,16 +7,16 @@ ghost use Rattle.http_wire.specs.First.{IsFirst};
 
 use crate::buffer::HEAD_LIMIT;
 use crate::head_scan::{HeadEnd, Search, begin, search_on};
-use crate::message::{End, Message};
+use crate::message::{End, Message, WireFault};
 use crate::request::announced;
 use crate::wire::message;
 use std::alloc::{AllocError, Global};
 
 /// What stands first in a stream.
-#[derive(Drop)]
+#[derive(Clone, Copy)]
 pub enum First {
-    /// A message, of so many bytes.
-    Message { message: Message, len: usize },
+    /// A message: a head of so many bytes, and a body of so many.
+    Message { head: usize, len: usize },
     /// The end.
     End(End),
 }
@@ -28,47 +28,52 @@ pub fn read_stream(alloc: Global, stream: &[u8]) -> Result<(Vec<Message>, End), 
     let mut messages = Vec::new(alloc);
     let mut rest = stream;
     'messages: loop {
-        match read_first(alloc, rest)? {
-            First::Message { message, len } => {
-                messages.push(message)?;
-                rest = rest.split_at(len).1;
+        match first_of(rest) {
+            First::Message { head, len } => {
+                let (front, others) = rest.split_at(head + len);
+                let body = Vec::from_slice(alloc, front.split_at(head).1)?;
+                messages.push(message(alloc, body)?)?;
+                rest = others;
             }
             First::End(end) => return Ok((messages, end)),
         }
     }
 }
 
-fn read_first(alloc: Global, stream: &[u8]) -> Result<First, AllocError>
-    ensures { IfOk result (IsFirst stream.now) }
+/// What stands first in a stream. It takes no memory.
+pub fn first_of(stream: &[u8]) -> First
+    ensures { IsFirst stream.now result }
 {
     if stream.is_empty() {
-        return Ok(First::End(End::Finished));
+        return First::End(End::Finished);
     }
     let window = &stream[..stream.len().min(HEAD_LIMIT)];
     match search_on(window, begin()) {
-        Search::Found(end) => behind_head(alloc, stream, end),
-        Search::Goes(_) if stream.len() < HEAD_LIMIT => Ok(First::End(End::CutShort {
-            have: stream.len(),
-        })),
-        Search::Goes(_) => Ok(First::End(End::Unread)),
+        Search::Found(end) => behind_head(stream, end),
+        Search::Goes(_) if stream.len() < HEAD_LIMIT => cut_short(stream),
+        Search::Goes(_) => First::End(End::Fault(WireFault::Unread)),
     }
 }
 
-fn behind_head(alloc: Global, stream: &[u8], end: HeadEnd) -> Result<First, AllocError>
+fn behind_head(stream: &[u8], end: HeadEnd) -> First
     requires short { end.len ≤ head_limit }
     requires ends { head_end stream.now ≡ Some (end.len, end.lines) }
-    ensures { IfOk result (IsFirst stream.now) }
+    ensures { IsFirst stream.now result }
 {
     let (head, rest) = stream.split_at(end.len);
     let Some(len) = announced(head, end.lines) else {
-        return Ok(First::End(End::Unread));
+        return First::End(End::Fault(WireFault::Unread));
     };
     if rest.len() < len {
-        return Ok(First::End(End::CutShort { have: stream.len() }));
+        return cut_short(stream);
     }
-    let body = Vec::from_slice(alloc, &rest[..len])?;
-    Ok(First::Message {
-        message: message(alloc, body)?,
-        len: end.len + len,
-    })
+    First::Message { head: end.len, len }
+}
+
+fn cut_short(stream: &[u8]) -> First
+    ensures { result ≡ First.End (End.Fault (WireFault.CutShort (length stream.now))) }
+{
+    First::End(End::Fault(WireFault::CutShort {
+        have: stream.len(),
+    }))
 }

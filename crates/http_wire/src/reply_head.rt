@@ -6,36 +6,44 @@ ghost use Rattle.service_core.specs.ReplyBytes.{line, line_end, content_type, to
 use arrayvec::ArrayVec;
 use http::StatusCode;
 use itoa::Buffer;
-use service_core::forms::Answer;
 
-/// The most bytes that a reply's head has, rounded up.
+/// The most bytes that a reply's head and a short body have, rounded up.
 const ROOM: usize = 320;
 
-type Head = ArrayVec<u8, ROOM>;
+/// A reply, or the front of one.
+pub type Reply = ArrayVec<u8, ROOM>;
 
-/// The head of a reply with this answer.
-pub fn reply_head(answer: &Answer, close: bool) -> Head
-    ensures { result.items ≡ head_text answer.now.status answer.now.code answer.now.token close (length answer.now.body) }
+/// The head of a reply with this status, code and token, and a body of so many bytes.
+pub fn reply_head(
+    status: u16,
+    code: u8,
+    token: &Option<[u8; 64]>,
+    close: bool,
+    len: usize,
+) -> Reply
+    ensures items { result.items ≡ head_text status code token.now close len }
+    ensures short { length result.items ≤ 263 }
 {
-    let mut head = Head::new();
-    put_status_line(&mut head, answer.status);
-    put_type_line(&mut head, answer.status);
-    put_code_line(&mut head, answer.code);
-    put_token_line(&mut head, &answer.token);
+    let mut head = Reply::new();
+    put_status_line(&mut head, status);
+    put_type_line(&mut head, status);
+    put_code_line(&mut head, code);
+    put_token_line(&mut head, token);
     put_close_line(&mut head, close);
-    put_length_line(&mut head, answer.body.as_slice().len());
+    put_length_line(&mut head, len);
     put(&mut head, b"\r\n");
     head
 }
 
-fn put(head: &mut Head, bytes: &[u8])
+/// Puts bytes behind those of a reply.
+pub fn put(head: &mut Reply, bytes: &[u8])
     requires { length head.old.items + length bytes.now ≤ ROOM }
     ensures { head.new.items ≡ head.old.items ++ bytes.now }
 {
     let _ = head.try_extend_from_slice(bytes);
 }
 
-fn put_line(head: &mut Head, name: &[u8], value: &[u8])
+fn put_line(head: &mut Reply, name: &[u8], value: &[u8])
     requires { length head.old.items + length name.now + length value.now + 2 ≤ ROOM }
     ensures items { head.new.items ≡ head.old.items ++ line (name.now ++ value.now) }
     ensures len { length head.new.items ≡ length head.old.items + length name.now + length value.now + 2 }
@@ -45,7 +53,7 @@ fn put_line(head: &mut Head, name: &[u8], value: &[u8])
     put(head, b"\r\n");
 }
 
-fn put_status_line(head: &mut Head, status: u16)
+fn put_status_line(head: &mut Reply, status: u16)
     requires { length head.old.items + 60 ≤ ROOM }
     ensures items { head.new.items ≡ head.old.items ++ line (codes "HTTP/1.1 " ++ (decimal status ++ (codes " " ++ unwrap_or (reason_phrase status) []))) }
     ensures len { length head.new.items ≤ length head.old.items + 60 }
@@ -67,7 +75,7 @@ fn phrase(status: u16) -> &'static str
     }
 }
 
-fn put_type_line(head: &mut Head, status: u16)
+fn put_type_line(head: &mut Reply, status: u16)
     requires { length head.old.items + 41 ≤ ROOM }
     ensures items { head.new.items ≡ head.old.items ++ line (codes "Content-Type: " ++ content_type status) }
     ensures len { length head.new.items ≤ length head.old.items + 41 }
@@ -86,7 +94,7 @@ fn type_text(status: u16) -> &'static str
     }
 }
 
-fn put_code_line(head: &mut Head, code: u8)
+fn put_code_line(head: &mut Reply, code: u8)
     requires { length head.old.items + 23 ≤ ROOM }
     ensures items { head.new.items ≡ head.old.items ++ line (codes "X-Prpc-Grpc-Code: " ++ decimal code) }
     ensures len { length head.new.items ≤ length head.old.items + 23 }
@@ -98,7 +106,7 @@ fn put_code_line(head: &mut Head, code: u8)
     );
 }
 
-fn put_token_line(head: &mut Head, token: &Option<[u8; 64]>)
+fn put_token_line(head: &mut Reply, token: &Option<[u8; 64]>)
     requires { length head.old.items + 80 ≤ ROOM }
     ensures items { head.new.items ≡ head.old.items ++ token_line token.now }
     ensures len { length head.new.items ≤ length head.old.items + 80 }
@@ -115,7 +123,7 @@ fn token_bytes(token: &[u8; 64]) -> &[u8]
     token.as_slice()
 }
 
-fn put_close_line(head: &mut Head, close: bool)
+fn put_close_line(head: &mut Reply, close: bool)
     requires { length head.old.items + 19 ≤ ROOM }
     ensures items { head.new.items ≡ head.old.items ++ close_line close }
     ensures len { length head.new.items ≤ length head.old.items + 19 }
@@ -125,7 +133,7 @@ fn put_close_line(head: &mut Head, close: bool)
     }
 }
 
-fn put_length_line(head: &mut Head, len: usize)
+fn put_length_line(head: &mut Reply, len: usize)
     requires { length head.old.items + 38 ≤ ROOM }
     ensures items { head.new.items ≡ head.old.items ++ line (codes "Content-Length: " ++ decimal len) }
     ensures len { length head.new.items ≤ length head.old.items + 38 }

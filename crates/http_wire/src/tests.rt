@@ -1,6 +1,6 @@
 //! Streams in pieces, and what is written.
 use crate::*;
-use names_realms::Bytes;
+use lists::Bytes;
 use outside::{Link, MemoryLink, WriteEnd};
 use service_core::forms::{Answer, Standin};
 use std::alloc::{AllocError, Global};
@@ -71,10 +71,12 @@ fn check_end(rt: &impl Abort, answer: Result<Option<Message>, WireFault>, end: E
     match answer {
         Ok(None) => assert_eq!(rt; end, End::Finished),
         Ok(Some(_)) => panic!(rt; "a message too many"),
-        Err(WireFault::CutShort { have }) => assert_eq!(rt; end, End::CutShort { have }),
-        Err(WireFault::Unread) => assert_eq!(rt; end, End::Unread),
-        Err(_) => panic!(rt; "another fault"),
+        Err(fault) => assert_eq!(rt; end, End::Fault(fault)),
     }
+}
+
+fn cut_short(have: usize) -> End {
+    End::Fault(WireFault::CutShort { have })
 }
 
 /// Reads a stream that comes in pieces of a size.
@@ -112,6 +114,7 @@ fn check_stream(
     }
     let (messages, found) = read_stream(alloc, stream)?;
     assert_eq!(rt; found, end);
+    assert_eq!(rt; there_is_a_reading(stream), end);
     assert_eq!(rt; messages.len(), bodies.len());
     for (message, body) in messages.iter().zip(bodies.iter()) {
         check_message(rt, message, body);
@@ -139,10 +142,10 @@ fn messages_are_the_same_in_any_cut(rt: HostRuntime) -> Result<(), Fail> {
         alloc,
         behind.as_slice(),
         &[b"{}"],
-        End::CutShort { have: 2 },
+        cut_short(2),
     )?;
     let other = joined(alloc, one, b"GET / HTTP/1.1\r\n\r\n")?;
-    check_stream(&rt, alloc, other.as_slice(), &[b"{}"], End::Unread)?;
+    check_stream(&rt, alloc, other.as_slice(), &[b"{}"], End::Fault(WireFault::Unread))?;
     let full = with_lines(alloc, 64)?;
     check_stream(&rt, alloc, full.as_slice(), &[b""], End::Finished)?;
     Ok(())
@@ -163,19 +166,19 @@ fn other_forms_are_unread(rt: HostRuntime) -> Result<(), Fail> {
         "Content-Length : 2\r\n",
     ] {
         let stream = request(alloc, headers, "{}")?;
-        check_stream(&rt, alloc, stream.as_slice(), &[], End::Unread)?;
+        check_stream(&rt, alloc, stream.as_slice(), &[], End::Fault(WireFault::Unread))?;
     }
     for stream in [
         "GET / HTTP/1.1\r\n\r\n",
         "POST /prpc/luci.resultdb.v1.Recorder/CreateInvocation HTTP/1.0\r\nContent-Length: 0\r\n\r\n",
         "POST /prpc/luci.resultdb.v1.Recorder/GetInvocation HTTP/1.1\r\nContent-Length: 0\r\n\r\n",
     ] {
-        check_stream(&rt, alloc, stream.as_bytes(), &[], End::Unread)?;
+        check_stream(&rt, alloc, stream.as_bytes(), &[], End::Fault(WireFault::Unread))?;
     }
     let many = with_lines(alloc, 65)?;
-    check_stream(&rt, alloc, many.as_slice(), &[], End::Unread)?;
+    check_stream(&rt, alloc, many.as_slice(), &[], End::Fault(WireFault::Unread))?;
     let endless = vec![in alloc; b'a'; 16384]?;
-    check_stream(&rt, alloc, endless.as_slice(), &[], End::Unread)
+    check_stream(&rt, alloc, endless.as_slice(), &[], End::Fault(WireFault::Unread))
 }
 
 #[test]
@@ -183,7 +186,7 @@ fn fronts_are_cut_short(rt: HostRuntime) -> Result<(), Fail> {
     let alloc = rt.alloc();
     let one = ONE.as_bytes();
     for have in 1..one.len() {
-        check_stream(&rt, alloc, &one[..have], &[], End::CutShort { have })?;
+        check_stream(&rt, alloc, &one[..have], &[], cut_short(have))?;
     }
     let large = request(alloc, "Content-Length: 4194304\r\n", "{}")?;
     check_stream(
@@ -191,7 +194,7 @@ fn fronts_are_cut_short(rt: HostRuntime) -> Result<(), Fail> {
         alloc,
         large.as_slice(),
         &[],
-        End::CutShort { have: 93 },
+        cut_short(93),
     )?;
     let long = vec![in alloc; b'a'; 16383]?;
     check_stream(
@@ -199,7 +202,7 @@ fn fronts_are_cut_short(rt: HostRuntime) -> Result<(), Fail> {
         alloc,
         long.as_slice(),
         &[],
-        End::CutShort { have: 16383 },
+        cut_short(16383),
     )
 }
 

@@ -1,6 +1,8 @@
 //! Messages from a link.
-ghost use Rattle.std.specs.Prelude.{◌≡◌, ◌≤◌, [], true, false, None, Ok, IfOk, OnErr};
-ghost use Rattle.http_wire.specs.Held.{Reading, Answered, CountsRead};
+ghost use Rattle.std.specs.Prelude.{◌≡◌, ◌≤◌, [], true, false, length, None, Ok, IfOk, is_ok};
+ghost use Rattle.outside.specs.Ends.{OnlyReads};
+ghost use Rattle.http_wire.specs.Head.{head_limit};
+ghost use Rattle.http_wire.specs.Held.{Reading};
 ghost use Rattle.http_wire.specs.Stream.{message_of};
 
 use crate::body::take_body;
@@ -8,7 +10,7 @@ use crate::buffer::Buffer;
 use crate::head_search::find_head;
 use crate::message::{Message, WireFault};
 use crate::request::announced;
-use names_realms::Bytes;
+use lists::Bytes;
 use outside::Link;
 use service_core::Asked;
 use std::alloc::{AllocError, Global};
@@ -24,11 +26,15 @@ pub struct Wire {
 }
 
 impl Model for Wire {
+    ghost use Rattle.std.specs.Prelude.{◌≤◌, length};
+    ghost use Rattle.http_wire.specs.Head.{head_limit};
     ghost use Rattle.http_wire.specs.WireState.{WireState};
 
     ghost Value = { WireState };
 
     ghost view = { λ w. record { held = w.buffer; is_open = w.is_open } };
+
+    ghost invariant = { λ w. length w.buffer ≤ head_limit };
 }
 
 impl Wire {
@@ -46,6 +52,7 @@ impl Wire {
 
     /// The next message, or `None` where the input ended behind the last one.
     ///
+    /// It reads where what it holds decides nothing yet, and never more than a message has; it holds a head at most.
     /// `CutShort` comes where the input ended inside a message, `Unread` where the next message isn't of the form that is
     /// read, `ReadFault` where a read failed, and `Memory` where memory was wanting. Each of them closes the wire.
     pub fn next<L: Link>(
@@ -54,18 +61,13 @@ impl Wire {
         link: &mut L,
     ) -> Result<Option<Message>, WireFault>
         // A closed wire stays as it is, and touches no link.
-        ensures closed_answer { self.old.is_open ≡ false → result ≡ Ok None }
-        ensures closed_wire { self.old.is_open ≡ false → self.new ≡ self.old }
-        ensures closed_link { self.old.is_open ≡ false → link.new ≡ link.old }
-
-        ensures reading { self.old.is_open ≡ true → Reading self.old (L.left link.old) result (L.left link.new) self.new }
-        ensures faults { CountsRead (L.read_faults link.old) result (L.read_faults link.new) }
-
-        // The other direction isn't touched.
-        ensures write_faults { L.write_faults link.new ≡ L.write_faults link.old }
-        ensures stalls { L.stalls link.new ≡ L.stalls link.old }
-        ensures written { L.written link.new ≡ L.written link.old }
+        ensures closed { self.old.is_open ≡ false → (result ≡ Ok None) × (self.new ≡ self.old)
+            × (link.new ≡ link.old) }
+        ensures reading { self.old.is_open ≡ true → Reading self.old (L.ends link.old).incoming result
+            (L.ends link.new).incoming self.new }
+        ensures only { OnlyReads (L.ends link.old) (L.ends link.new) }
         ensures holds { L.holds link.new ≡ L.holds link.old }
+        ensures bounded { length self.new.held ≤ head_limit }
     {
         if !self.is_open {
             return Ok(None);
@@ -82,12 +84,11 @@ fn next_message<L: Link>(
     buffer: &mut Buffer,
     link: &mut L,
 ) -> Result<Option<Message>, WireFault>
-    ensures answered { Answered buffer.old (L.left link.old) result (L.left link.new) buffer.new }
-    ensures faults { CountsRead (L.read_faults link.old) result (L.read_faults link.new) }
-    ensures write_faults { L.write_faults link.new ≡ L.write_faults link.old }
-    ensures stalls { L.stalls link.new ≡ L.stalls link.old }
-    ensures written { L.written link.new ≡ L.written link.old }
+    ensures reading { Reading record { held = buffer.old; is_open = true } (L.ends link.old).incoming
+        result (L.ends link.new).incoming record { held = buffer.new; is_open = is_ok result } }
+    ensures only { OnlyReads (L.ends link.old) (L.ends link.new) }
     ensures holds { L.holds link.new ≡ L.holds link.old }
+    ensures bounded { length buffer.new ≤ head_limit }
 {
     let Some(end) = find_head(buffer, link)? else {
         return Ok(None);

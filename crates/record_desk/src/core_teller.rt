@@ -1,7 +1,7 @@
 //! A core and its clock as a teller.
 ghost use Rattle.std.specs.Prelude.{◌≡◌, List, [], ◌∷◌, ◌++◌};
 ghost use Rattle.record_desk.specs.Exchange.{Exchange};
-ghost use Rattle.record_desk.specs.Standing.{Moves, Standing};
+ghost use Rattle.record_desk.specs.Standing.{Moves};
 
 use crate::Teller;
 use outside::Clock;
@@ -30,11 +30,10 @@ impl<'a, C: Clock> CoreTeller<'a, C> {
 
 impl<'a, C: Clock> Teller for CoreTeller<'a, C> {
     ghost use Rattle.std.specs.Prelude.{[], ◌∷◌};
-    ghost use Rattle.record_desk.specs.Standing.{Moves, Standing};
+    ghost use Rattle.record_desk.specs.Standing.{Moves};
 
-    ghost stands = { λ first now exchanges. Moves
-        (record { core = first.core.now; tells = C.tells (C.state first.clock.now) }) exchanges
-        (record { core = now.core.now; tells = C.tells (C.state now.clock.now) }) };
+    ghost stands = { λ first now exchanges. Moves first.core.now (C.tells (C.state first.clock.now))
+        exchanges now.core.now (C.tells (C.state now.clock.now)) };
 
     ghost holds = { λ t. t.core.ghost_name ∷ t.clock.ghost_name ∷ [] };
 

@@ -13,7 +13,7 @@ returns-then-len-stored-clause-taken g c =
     let held = c.args.buffer.now in
     let all = ap length c.as_slice.ensures.value in
     let fits : head + len ≤ length held = omega (arith, all) in
-    taken_held held c.advance.new.self (g.L.Link.left c.args.link.now) head len c.in_ok-body.body fits
+    taken_held held c.advance.new.self (g.L.Link.ends c.args.link.now).incoming head len c.in_ok-body.body fits
     (c.in_ok-body.ensures.items ∙ ap (λ x. slice_range x head (head + len)) c.as_slice-then-len-stored.ensures.value) c.advance.ensures
 
 pub returns-clause-taken : goal.returns-clause-taken
@@ -34,5 +34,6 @@ returns-clause-taken g c =
     ap (λ x. take stored x) c.as_mut_slice.ensures.value ∙ ap (λ n. take n c.in_ok-body-2.body.items) (sym count) ∙ kept ∙ part in
     let start = ap length c.as_mut_slice.ensures.value in
     let len : length c.fill_body.new.body ≡ c.args.len = omega (arith, c.in_ok-body-2.ensures.len, start) in
-    taken_read held c.advance-2.new.self c.as_mut_slice.result.now c.fill_body.new.body (g.L.Link.left c.args.link.now) (g.L.Link.left c.fill_body.new.link)
-    head stored c.args.len c.in_ok-fill_body.field-0 v c.requires.head is front len c.in_ok-fill_body.ensures.filled items c.advance-2.ensures
+    taken_read held c.advance-2.new.self c.as_mut_slice.result.now c.fill_body.new.body (g.L.Link.ends c.args.link.now).incoming
+    (g.L.Link.ends c.fill_body.new.link).incoming head stored c.args.len c.in_ok-fill_body.field-0 v c.requires.head is
+    c.if-len-stored.false front len c.in_ok-fill_body.ensures.filled items c.advance-2.ensures

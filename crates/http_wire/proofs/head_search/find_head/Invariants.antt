@@ -1,18 +1,16 @@
 use Rattle.std.proofs.Common.{◌≡◌, ◌≤◌, ◌-◌, take, length}
-use Rattle.http_wire.specs.Reads.{IsRead}
+use Rattle.outside.specs.Ends.{OnlyReads}
 use Rattle.http_wire.specs.Scan.{Passed}
 use Rattle.http_wire.specs.Head.{head_limit}
+use Rattle.http_wire.proofs.HeadSearchLaws.{Searched}
 use Rattle.http_wire.proofs.head_search.find_head.Given as goal
 
 abbrev pub invariant-search : goal.invariant-search
 invariant-search g l = record {
-  read : IsRead l.fn.buffer (g.L.Link.left l.fn.link) l.buffer (g.L.Link.left l.link);
+  searched : Searched l.fn.buffer (g.L.Link.ends l.fn.link).incoming l.buffer (g.L.Link.ends l.link).incoming;
   within : l.progress.scanned ≤ length l.buffer;
   passed : Passed (take l.progress.scanned l.buffer) l.progress;
-  faults : g.L.Link.read_faults l.fn.link ≤ g.L.Link.read_faults l.link;
-  write_faults : g.L.Link.write_faults l.link ≡ g.L.Link.write_faults l.fn.link;
-  stalls : g.L.Link.stalls l.link ≡ g.L.Link.stalls l.fn.link;
-  written : g.L.Link.written l.link ≡ g.L.Link.written l.fn.link;
+  only : OnlyReads (g.L.Link.ends l.fn.link) (g.L.Link.ends l.link);
   holds : g.L.Link.holds l.link ≡ g.L.Link.holds l.fn.link;
 }
 
