@@ -78,7 +78,7 @@ framed_of : (end : Option End) (ms : List Message) (stream text rest : List ℕ)
     → Spells ms text → ReachesEnd end rest after → AreMessages end ms stream
 framed_of end ms stream text rest after gave spelled is =
     subst (λ (t : List ℕ). AreMessages end ms t) (sym (gave.2 ∙ append_assoc text rest gave.0))
-        (messages_by end ms text rest gave.0 spelled (subst (ReachesEnd end rest) gave.1 is))
+    (messages_by end ms text rest gave.0 spelled (subst (ReachesEnd end rest) gave.1 is))
 
 pub served : (asked : List Exchange → Type 0) (before : Ends) (cause : Cause) (after : Ends) → Connection asked before cause after
     → Served asked before cause after
@@ -86,8 +86,8 @@ served asked before cause after c = record {
   connection = c;
   framed = λ stream told.
       framed_of (row_of cause).end (messages_of c.turns) stream c.text c.rest after.incoming.left
-          (subst (λ (o : Option (List ℕ)). Gave o (c.text ++ c.rest) after.incoming.left) told c.read) c.spelled
-          (reaches cause c.rest after.incoming.left c.rest_is);
+      (subst (λ (o : Option (List ℕ)). Gave o (c.text ++ c.rest) after.incoming.left) told c.read) c.spelled
+      (reaches cause c.rest after.incoming.left c.rest_is);
 }
 
 -- what was asked, said in other words

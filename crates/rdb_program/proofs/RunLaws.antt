@@ -89,8 +89,11 @@ done_at : (asked : List Exchange → Type 0) (before : Ends) (cause : Cause) (af
     → IsDone before after
 done_at asked before causes.End after s e = inl (s.connection.rest_is.1, λ stream told. (messages_of s.connection.turns, s.framed stream told))
 done_at asked before causes.Closed after s e =
-    inr (λ stream told. (messages_of s.connection.turns, s.framed stream told,
-        length-map s.connection.turns (λ (t : Turn). t.message) ∙ s.connection.last_is.1))
+    inr (λ stream told. (
+      messages_of s.connection.turns,
+      s.framed stream told,
+      length-map s.connection.turns (λ (t : Turn). t.message) ∙ s.connection.last_is.1,
+    ))
 done_at asked before (causes.Wire fault) after s e = absurd (omega (arith, e))
 done_at asked before causes.ReadFault after s e = absurd (omega (arith, e))
 done_at asked before causes.WriteFault after s e = absurd (omega (arith, e))
@@ -176,7 +179,7 @@ ends_at asked before (causes.Wire fault) after s stream ms end status told frame
 ends_at asked before causes.Closed after s stream ms end status told framed few fine takes whole broken =
     let first = s.framed stream told ms end framed in
     absurd (too_many ms (messages_of s.connection.turns) first.0 first.1
-        (length-map s.connection.turns (λ (t : Turn). t.message) ∙ s.connection.last_is.1) few)
+    (length-map s.connection.turns (λ (t : Turn). t.message) ∙ s.connection.last_is.1) few)
 ends_at asked before causes.ReadFault after s stream ms end status told framed few fine takes whole broken =
     absurd (fine (failed_at asked before causes.ReadFault after s.connection refl))
 ends_at asked before causes.WriteFault after s stream ms end status told framed few fine takes whole broken =

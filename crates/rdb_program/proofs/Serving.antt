@@ -68,7 +68,7 @@ read_message a b c text here got bytes held first then parts =
 wrote_nothing : (before after : Outgoing) → after ≡ before → WritesWhole {T = Unit {0}} before [] (Ok tt) after
 wrote_nothing before after same =
     subst (λ (o : Outgoing). WritesWhole {T = Unit {0}} before [] (Ok tt) o) (sym same)
-        (record { written = took_nothing before.written; faults = refl; stalls = refl })
+    (record { written = took_nothing before.written; faults = refl; stalls = refl })
 
 -- behind all replies these bytes were written
 sent_behind : (asked : List Exchange → Type 0) (before now after : Ends) (wire : WireState) (n : ℕ) (s : Serving asked before wire n now)
@@ -135,7 +135,7 @@ spelled_more : (turns : List Turn) (text bytes : List ℕ) (t : Turn) → Spells
     → Spells (messages_of (turns ++ t ∷ [])) (text ++ bytes)
 spelled_more turns text bytes t spelled is =
     subst (λ (ms : List Message). Spells ms (text ++ bytes)) (sym (map-append (λ (u : Turn). u.message) turns (t ∷ [])))
-        (spells_more (messages_of turns) text bytes t.message spelled is)
+    (spells_more (messages_of turns) text bytes t.message spelled is)
 
 -- what follows for exchanges where one more was told
 abbrev pub Extends : (List Exchange → Type 0) → Message → (Told → Type 0) → (List Exchange → Type 0) → Type 0
@@ -250,17 +250,17 @@ pub closed : (asked : List Exchange → Type 0) (before now after : Ends) (wire 
     → Connection asked before cause after
 closed asked before now after wire wire' n (faults.CutShort have) cause few s reading how =
     subst (λ (k : Cause). Connection asked before k after) (sym how.1.0)
-        (ends_by asked before now after wire n few s reading.got reading.gave (causes.Wire (faults.CutShort have)) [] (Ok tt)
-            (wrote_nothing now.outgoing after.outgoing how.1.1.1) (refl, refl) tt reading.answer (reading.faults ∙ s.reads))
+    (ends_by asked before now after wire n few s reading.got reading.gave (causes.Wire (faults.CutShort have)) [] (Ok tt)
+    (wrote_nothing now.outgoing after.outgoing how.1.1.1) (refl, refl) tt reading.answer (reading.faults ∙ s.reads))
 closed asked before now after wire wire' n faults.Unread cause few s reading how =
     subst (λ (k : Cause). Connection asked before k after) (sym how.1.0)
-        (ends_by asked before now after wire n few s reading.got reading.gave (causes.Wire faults.Unread) (row_of (causes.Wire faults.Unread)).closing how.0
-            how.1.1 (refl, refl) tt (reading.answer.0, tt) (reading.faults ∙ s.reads))
+    (ends_by asked before now after wire n few s reading.got reading.gave (causes.Wire faults.Unread) (row_of (causes.Wire faults.Unread)).closing how.0
+    how.1.1 (refl, refl) tt (reading.answer.0, tt) (reading.faults ∙ s.reads))
 closed asked before now after wire wire' n faults.ReadFault cause few s reading how =
     subst (λ (k : Cause). Connection asked before k after) (sym how.1.0)
-        (ends_by asked before now after wire n few s reading.got reading.gave causes.ReadFault [] (Ok tt)
-            (wrote_nothing now.outgoing after.outgoing how.1.1.1) (refl, refl) refl reading.answer
-            (subst (λ (k : ℕ). (k ≤ after.incoming.faults) × Rose k after.incoming.faults) s.reads reading.faults))
+    (ends_by asked before now after wire n few s reading.got reading.gave causes.ReadFault [] (Ok tt)
+    (wrote_nothing now.outgoing after.outgoing how.1.1.1) (refl, refl) refl reading.answer
+    (subst (λ (k : ℕ). (k ≤ after.incoming.faults) × Rose k after.incoming.faults) s.reads reading.faults))
 closed asked before now after wire wire' n faults.Memory cause few s reading how =
     out_of_memory asked before now after wire n cause how.0 few s reading.got reading.gave (reading.faults ∙ s.reads) how.1.0 how.1.1
   where
@@ -271,10 +271,10 @@ closed asked before now after wire wire' n faults.Memory cause few s reading how
         → Connection asked before cause after
     out_of_memory asked before now after wire n cause result few s got gave reads writes (inl memory) =
         subst (λ (k : Cause). Connection asked before k after) (sym memory.0)
-            (ends_by asked before now after wire n few s got gave causes.Memory closing_standin result writes (refl, refl) memory.1 tt reads)
+        (ends_by asked before now after wire n few s got gave causes.Memory closing_standin result writes (refl, refl) memory.1 tt reads)
     out_of_memory asked before now after wire n cause result few s got gave reads writes (inr stall) =
         subst (λ (k : Cause). Connection asked before k after) (sym stall.0)
-            (ends_by asked before now after wire n few s got gave causes.SinkTakesNothing closing_standin result writes (inr (refl, refl)) stall.1 tt reads)
+        (ends_by asked before now after wire n few s got gave causes.SinkTakesNothing closing_standin result writes (inr (refl, refl)) stall.1 tt reads)
 
 -- ---- over the ends between a read and a write
 
@@ -298,7 +298,7 @@ stands_nothing stands a first before stood = subst (stands first a) (sym (append
 
 pub stands_more : {T : Type 0} (stands : T → T → List Exchange → Type 0) (a b c : T) (m : Message)
     → Extends (λ es. (first : T) (before : List Exchange) → stands first a before → stands first b (before ++ es)) m
-        (λ told. (first : T) (before : List Exchange) → stands first b before → stands first c (before ++ record { asked = m.asked; told = told } ∷ []))
-        (λ es. (first : T) (before : List Exchange) → stands first a before → stands first c (before ++ es))
+    (λ told. (first : T) (before : List Exchange) → stands first b before → stands first c (before ++ record { asked = m.asked; told = told } ∷ []))
+    (λ es. (first : T) (before : List Exchange) → stands first a before → stands first c (before ++ es))
 stands_more stands a b c m told tells es asked first before stood =
     subst (stands first c) (append_assoc before es (record { asked = m.asked; told = told } ∷ [])) (tells first (before ++ es) (asked first before stood))

@@ -48,7 +48,7 @@ row_of causes.WriteFault = row [] None 4 (error_line (codes "fault of output"))
 row_of causes.Memory = row closing_standin None 7 (error_line (codes "want of memory"))
 row_of (causes.Wire fault) =
     row (farewell_of fault) (Some (stream_ends.Fault fault)) 8
-        (error_line (codes "wire " ++ (decimal (fault_number fault) ++ (codes " " ++ fault_name fault))))
+    (error_line (codes "wire " ++ (decimal (fault_number fault) ++ (codes " " ++ fault_name fault))))
 row_of causes.SinkTakesNothing = row closing_standin None 9 (error_line (codes "output takes nothing"))
 
 -- why a connection ends whose reply wasn't written whole

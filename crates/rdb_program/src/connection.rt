@@ -47,7 +47,7 @@ fn answer_message<T: Teller, L: Link>(
 ) -> Result<(), WriteEnd>
     ensures answers { Answers
         (λ told. (first : T) (before : List Exchange) → T.stands first teller.old before
-            → T.stands first teller.new (before ++ record { asked = message.now.asked; told = told } ∷ []))
+        → T.stands first teller.new (before ++ record { asked = message.now.asked; told = told } ∷ []))
         close (L.ends link.old).outgoing result (L.ends link.new).outgoing }
     ensures only { OnlyWrites (L.ends link.old) (L.ends link.new) }
     ensures teller_holds { T.holds teller.new ≡ T.holds teller.old }
@@ -97,7 +97,7 @@ pub fn serve_connection<T: Teller, L: Link>(
     requires is_open { wire.old.is_open ≡ true }
     ensures connection { Connection
         (λ exchanges. (first : T) (before : List Exchange) → T.stands first teller.old before
-            → T.stands first teller.new (before ++ exchanges))
+        → T.stands first teller.new (before ++ exchanges))
         (L.ends link.old) result (L.ends link.new) }
     ensures teller_holds { T.holds teller.new ≡ T.holds teller.old }
     ensures link_holds { L.holds link.new ≡ L.holds link.old }

@@ -12,10 +12,12 @@ returns-clause-run g c = λ words are.
     let last = c.serve_connection.new.teller in
     let holds = c.serve_connection.ensures.teller_holds in
     let same : last.clock.ghost_name ≡ first.clock.ghost_name = cc in
-    let clock = c.clock-1.given.1 (sym c.new-teller.ensures.clock ∙ sym same) in
-    (are, served _ _ _ _ (asked_so _ _ _ _ _
-    (λ es asked. history_from (λ clock. g.C.Clock.tells (g.C.Clock.state clock)) first.core.now last.core.now first.clock.now _ last.clock.now _ es
-        (ap (λ (k : CoreState). k.settings) c.new-teller.ensures.core_now ∙ c.in-Ok.ensures.settings)
-        (ap (λ (k : CoreState). k.world) c.new-teller.ensures.core_now ∙ c.in-Ok.ensures.world)
-        c.new-teller.ensures.clock_now (sym clock) (asked first [] (moves_nowhere _ _)))
-    c.serve_connection.ensures.connection))
+    let clock = c.clock-1.given.1 (sym c.new-teller.ensures.clock ∙ sym same) in (
+      are,
+      served _ _ _ _ (asked_so _ _ _ _ _
+          (λ es asked. history_from (λ clock. g.C.Clock.tells (g.C.Clock.state clock)) first.core.now last.core.now first.clock.now _ last.clock.now _ es
+          (ap (λ (k : CoreState). k.settings) c.new-teller.ensures.core_now ∙ c.in-Ok.ensures.settings)
+          (ap (λ (k : CoreState). k.world) c.new-teller.ensures.core_now ∙ c.in-Ok.ensures.world)
+          c.new-teller.ensures.clock_now (sym clock) (asked first [] (moves_nowhere _ _)))
+          c.serve_connection.ensures.connection),
+    )
