@@ -1,7 +1,7 @@
 use Rattle.std.proofs.Common.{◌≡◌, ◌∙◌, sym, ap, map, length, take, ◌∷◌, min}
-use Rattle.outside.specs.Incoming.{without_empty, first_piece}
+use Rattle.outside.specs.Pieces.{without_empty, first_piece}
 use Rattle.outside.proofs.FirstPiece.{first_is, after_is, end_is}
-use Rattle.outside.proofs.memory.incoming.Pieces.give.Goals as goal
+use Rattle.outside.proofs.memory.pieces.Pieces.give.Goals as goal
 
 pub returns : goal.returns
 returns c =

@@ -1,6 +1,6 @@
-// Bytes that wait to be read.
+//! Bytes that wait to be read.
 ghost use Rattle.std.specs.Prelude.{◌≡◌, ◌≤◌, ℕ, List, ◌∷◌, [], ◌++◌, min, map, length, take, drop, IsTrue, ◌↔◌};
-ghost use Rattle.outside.specs.Incoming.{without_empty, first_piece, pieces_after};
+ghost use Rattle.outside.specs.Pieces.{without_empty, first_piece, pieces_after};
 
 use std::alloc::Global;
 use std::collections::VecDeque;
@@ -59,7 +59,7 @@ pub struct Pieces {
 
 impl Model for Pieces {
     ghost use Rattle.std.specs.Prelude.{List, ℕ, ◌∷◌, map};
-    ghost use Rattle.outside.specs.Incoming.{without_empty};
+    ghost use Rattle.outside.specs.Pieces.{without_empty};
 
     ghost Value = { List (List ℕ) };
 

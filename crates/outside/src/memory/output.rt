@@ -1,9 +1,7 @@
-// Bytes that were written.
-ghost use Rattle.std.specs.Prelude.{◌≡◌, [], Some};
-ghost use Rattle.std.specs.Io.{WritesAtMost};
-ghost use Rattle.fault_counts.specs.Causes.{HasCause, CountsStall};
-ghost use Rattle.outside.specs.Bytes.{Writes};
-ghost use Rattle.outside.specs.Outgoing.{nothing_written, EndsWrite, output_after};
+//! Bytes that were written.
+ghost use Rattle.std.specs.Prelude.{◌≡◌};
+ghost use Rattle.outside.specs.Ends.{WritesOnce};
+ghost use Rattle.outside.specs.Output.{nothing_written, output_ends, EndsWrite, output_after};
 
 use crate::Failed;
 use fault_counts::{Count, Outcome};
@@ -12,25 +10,25 @@ use std::marker::Model;
 
 /// What an end in memory took, with its counts.
 #[derive(Drop)]
-pub struct Outgoing {
+pub struct Output {
     written: Vec<u8>,
     faults: Count,
     stalls: Count,
 }
 
-impl Model for Outgoing {
-    ghost use Rattle.outside.specs.Outgoing.{Output};
+impl Model for Output {
+    ghost use Rattle.outside.specs.Output.{Output};
 
     ghost Value = { Output };
 
     ghost view = { λ o. record { written = o.written.items; faults = o.faults; stalls = o.stalls } };
 }
 
-impl Outgoing {
-    pub fn new(alloc: Global) -> Outgoing
+impl Output {
+    pub fn new(alloc: Global) -> Output
         ensures { result ≡ nothing_written }
     {
-        Outgoing {
+        Output {
             written: Vec::new(alloc),
             faults: Count::new(),
             stalls: Count::new(),
@@ -57,10 +55,7 @@ impl Outgoing {
 
     /// Takes the whole piece, or ends as `outcome` says. Where there is no memory for the piece, the write fails too.
     pub fn write(&mut self, outcome: Outcome, piece: &[u8]) -> Result<usize, Failed>
-        ensures bound { WritesAtMost result piece.now }
-        ensures cause { HasCause self.old.faults self.new.faults result }
-        ensures takes { Writes (Some self.old.written) piece.now result (Some self.new.written) }
-        ensures stalls { CountsStall self.old.stalls piece.now result self.new.stalls }
+        ensures write { WritesOnce (output_ends self.old) piece.now result (output_ends self.new) }
         ensures ends { EndsWrite outcome piece.now result }
         ensures after { self.new ≡ output_after self.old piece.now result }
     {
@@ -75,10 +70,7 @@ impl Outgoing {
     }
 
     fn take(&mut self, piece: &[u8]) -> Result<usize, Failed>
-        ensures bound { WritesAtMost result piece.now }
-        ensures cause { HasCause self.old.faults self.new.faults result }
-        ensures takes { Writes (Some self.old.written) piece.now result (Some self.new.written) }
-        ensures stalls { CountsStall self.old.stalls piece.now result self.new.stalls }
+        ensures write { WritesOnce (output_ends self.old) piece.now result (output_ends self.new) }
         ensures ends { EndsWrite Outcome.Works piece.now result }
         ensures after { self.new ≡ output_after self.old piece.now result }
     {

@@ -1,6 +1,7 @@
 -- Bytes that were written to an end in memory.
-use Rattle.std.specs.Prelude.{◌≡◌, ℕ, zero, suc, List, [], ◌∷◌, ◌++◌, take, length, Result, Ok, Err, IfOk}
+use Rattle.std.specs.Prelude.{◌≡◌, ℕ, zero, suc, List, [], ◌∷◌, ◌++◌, take, length, Some, Result, Ok, Err, IfOk}
 use Rattle.fault_counts.specs.Causes.{counted}
+use Rattle.outside.specs.Ends.{Outgoing}
 use Rattle.fault_counts.specs.declared.Failed.{Failed}
 use Rattle.fault_counts.specs.declared.schedule.Outcome.{Outcome}
 use Rattle.fault_counts.specs.declared.schedule.Outcome.TheVariants.{Works, Fails, Stalls}
@@ -10,6 +11,10 @@ pub record Output : Type 0 where
   pub written : List ℕ
   pub faults : ℕ
   pub stalls : ℕ
+
+-- What it tells.
+abbrev pub output_ends : Output → Outgoing
+output_ends output = record { written = Some output.written; faults = output.faults; stalls = output.stalls }
 
 abbrev pub nothing_written : Output
 nothing_written = record { written = []; faults = 0; stalls = 0 }

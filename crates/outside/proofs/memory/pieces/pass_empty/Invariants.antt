@@ -1,6 +1,6 @@
 use Rattle.std.proofs.Common.{◌≡◌, ◌∷◌, map, length}
-use Rattle.outside.specs.Incoming.{without_empty}
-use Rattle.outside.proofs.memory.incoming.pass_empty.Given as goal
+use Rattle.outside.specs.Pieces.{without_empty}
+use Rattle.outside.proofs.memory.pieces.pass_empty.Given as goal
 
 abbrev pub invariant-loop-others : goal.invariant-loop-others
 invariant-loop-others l =
