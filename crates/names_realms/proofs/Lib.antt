@@ -1,5 +1,7 @@
 pub mod InvocationNameLemmas
 pub mod RealmLemmas
+pub mod CutLaws
+pub mod RealmPlaces
 pub mod PairLemmas
 pub mod VariantLemmas
 pub mod ResultNameLemmas

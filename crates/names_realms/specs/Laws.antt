@@ -1,6 +1,8 @@
 -- Laws of names: one text names one value, and a text of the grammar has no fault, and so is read.
-use Rattle.std.specs.Prelude.{◌≡◌, ℕ, List, None}
+use Rattle.std.specs.Prelude.{◌≡◌, ℕ, List, Some, None}
+use Rattle.name_parts.specs.declared.faults.NameFault.TheVariants.{BadByte}
 use Rattle.name_parts.specs.declared.parts.PartForm.{PartForm}
+use Rattle.name_parts.specs.Grammar.{IsFirstBadPlace}
 use Rattle.name_parts.specs.Parts.{IsPart, part_fault}
 use Rattle.names_realms.specs.declared.result_names.ResultName.{ResultName}
 use Rattle.names_realms.specs.declared.parents.Parent.{Parent}
@@ -55,3 +57,7 @@ RealmHasNoFault = (text : List ℕ) → IsRealm text → realm_fault text ≡ No
 -- A key and a value have no fault.
 abbrev pub PairHasNoFault : Type 0
 PairHasNoFault = (key value : List ℕ) → IsPairKey key → IsPairValue value → pair_fault key value ≡ None
+
+-- The bad place of a realm is the first that breaks the grammar.
+abbrev pub RealmBreaksFirst : Type 0
+RealmBreaksFirst = (text : List ℕ) (place : ℕ) → realm_fault text ≡ Some (BadByte place) → IsFirstBadPlace IsRealm text place

@@ -126,12 +126,12 @@ fn read_test_tail(alloc: Global, text: &[u8]) -> Result<Ids, NameFault>
     }
 }
 
-/// Whether the text goes on as `/tests/` rather than `/artifacts/`.
+/// Whether the text has a longer front in common with `/tests/` than with `/artifacts/`.
 fn is_tests(text: &[u8]) -> bool
     ensures { result ≡ goes_to_tests text.now }
 {
     match text {
-        [_, second, ..] => *second == b't',
+        [first, second, ..] => *first == b'/' && *second == b't',
         _ => false,
     }
 }

@@ -1,5 +1,5 @@
 //! Laws of the definitions that the contracts cite. These functions do nothing: what each of them ensures is the law.
-ghost use Rattle.names_realms.specs.Laws.{ArtifactNameHasNoFault, IdHasNoFault, InvocationNameHasNoFault, OneArtifactNamed, OneInvocationNamed, OneParentNamed, OneResultNamed, PairHasNoFault, ParentNameHasNoFault, RealmHasNoFault, ResultNameHasNoFault};
+ghost use Rattle.names_realms.specs.Laws.{ArtifactNameHasNoFault, IdHasNoFault, InvocationNameHasNoFault, OneArtifactNamed, OneInvocationNamed, OneParentNamed, OneResultNamed, PairHasNoFault, ParentNameHasNoFault, RealmBreaksFirst, RealmHasNoFault, ResultNameHasNoFault};
 
 /// One text names at most one invocation.
 pub fn one_invocation_named()
@@ -54,4 +54,10 @@ pub fn realm_has_no_fault()
 /// A key and a value have no fault, and so are read.
 pub fn pair_has_no_fault()
     ensures { PairHasNoFault }
+{}
+
+/// The bad place of a realm is the first that breaks the grammar: some realm begins as the text does up to there, and none with the
+/// byte there too.
+pub fn realm_breaks_first()
+    ensures { RealmBreaksFirst }
 {}
