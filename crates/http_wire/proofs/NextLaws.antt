@@ -136,7 +136,6 @@ lacks_body stream n k len f small a less =
       inside = inr (subst LacksBody same (lacks stream [] n k len f small a (subst (λ z. length z < n + len) (sym same) less)));
     }
 
-
 -- a head of the form, and how much there is of the message
 pub record Framing (bytes : List ℕ) (n k len : ℕ) : Type 0 where
   pub front : Front bytes n k
@@ -243,8 +242,7 @@ reading_of_message held bytes now had between left end len v means x m t is =
     let head : take end.len stream ≡ print_request a.h = take-append-le end.len bytes t.got m.front.fits ∙ a.printed in
     let parts : stream ≡ (print_request a.h ++ v.items) ++ now =
     t.answer.1 ∙ ap (λ z. z ++ (v.items ++ now)) head ∙ sym (append_assoc (print_request a.h) v.items now) in
-    reading_at_body held bytes now had between left end len (Ok v) (Ok (Some means)) x m t
-    (
+    reading_at_body held bytes now had between left end len (Ok v) (Ok (Some means)) x m t (
       print_request a.h ++ v.items,
       record {
         h = a.h;

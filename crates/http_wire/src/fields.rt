@@ -27,7 +27,8 @@ fn has_name(head: &[u8], header: HeaderSpan, name: &[u8]) -> bool
 }
 
 fn with_one<'b>(found: Found<'b>, value: &'b [u8]) -> Found<'b>
-    ensures { (values : List (List ℕ)) → IsFound found.entry values → IsFound result (values ++ value.now ∷ []) }
+    ensures { (values : List (List ℕ)) → IsFound found.entry values
+        → IsFound result (values ++ value.now ∷ []) }
 {
     match found {
         Found::Absent => Found::Once(value),
@@ -86,7 +87,8 @@ fn number(digits: &[u8]) -> u64
 
 /// The length that a Content-Length gives, where it is within the limit.
 fn length_in(text: &[u8]) -> Option<usize>
-    ensures { MatchOption result ((len : ℕ) → len ≤ body_limit → ¬ (IsLength text.now len)) (λ len. IsLength text.now len × (len ≤ body_limit)) }
+    ensures { MatchOption result ((len : ℕ) → len ≤ body_limit → ¬ (IsLength text.now len))
+        (λ len. IsLength text.now len × (len ≤ body_limit)) }
 {
     if text.is_empty() || text.len() > 10 || !are_digits(text) {
         return None;
@@ -101,7 +103,9 @@ fn length_in(text: &[u8]) -> Option<usize>
 /// The length of body that a head's fields announce, or `None` where they aren't of the form that is read.
 pub fn announced_length(head: &[u8], headers: &[HeaderSpan]) -> Option<usize>
     requires { All (IsHeaderWithin (length head.now)) headers.now }
-    ensures { MatchOption result ((len : ℕ) → ¬ (AnnounceLength (map (header_bytes head.now) headers.now) len)) (AnnounceLength (map (header_bytes head.now) headers.now)) }
+    ensures { MatchOption result ((len : ℕ)
+        → ¬ (AnnounceLength (map (header_bytes head.now) headers.now) len))
+        (AnnounceLength (map (header_bytes head.now) headers.now)) }
 {
     if !is_absent(head, headers, b"transfer-encoding") || !is_absent(head, headers, b"connection") {
         return None;

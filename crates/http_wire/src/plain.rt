@@ -73,7 +73,5 @@ fn behind_head(stream: &[u8], end: HeadEnd) -> First
 fn cut_short(stream: &[u8]) -> First
     ensures { result ≡ First.End (End.Fault (WireFault.CutShort (length stream.now))) }
 {
-    First::End(End::Fault(WireFault::CutShort {
-        have: stream.len(),
-    }))
+    First::End(End::Fault(WireFault::CutShort { have: stream.len() }))
 }

@@ -14,13 +14,7 @@ const ROOM: usize = 320;
 pub type Reply = ArrayVec<u8, ROOM>;
 
 /// The head of a reply with this status, code and token, and a body of so many bytes.
-pub fn reply_head(
-    status: u16,
-    code: u8,
-    token: &Option<[u8; 64]>,
-    close: bool,
-    len: usize,
-) -> Reply
+pub fn reply_head(status: u16, code: u8, token: &Option<[u8; 64]>, close: bool, len: usize) -> Reply
     ensures items { result.items ≡ head_text status code token.now close len }
     ensures short { length result.items ≤ 263 }
 {
@@ -46,7 +40,8 @@ pub fn put(head: &mut Reply, bytes: &[u8])
 fn put_line(head: &mut Reply, name: &[u8], value: &[u8])
     requires { length head.old.items + length name.now + length value.now + 2 ≤ ROOM }
     ensures items { head.new.items ≡ head.old.items ++ line (name.now ++ value.now) }
-    ensures len { length head.new.items ≡ length head.old.items + length name.now + length value.now + 2 }
+    ensures len { length head.new.items ≡ length head.old.items + length name.now + length value.now
+        + 2 }
 {
     put(head, name);
     put(head, value);
@@ -55,7 +50,9 @@ fn put_line(head: &mut Reply, name: &[u8], value: &[u8])
 
 fn put_status_line(head: &mut Reply, status: u16)
     requires { length head.old.items + 60 ≤ ROOM }
-    ensures items { head.new.items ≡ head.old.items ++ line (codes "HTTP/1.1 " ++ (decimal status ++ (codes " " ++ unwrap_or (reason_phrase status) []))) }
+    ensures items { head.new.items ≡ head.old.items ++ line
+        (codes "HTTP/1.1 " ++
+        (decimal status ++ (codes " " ++ unwrap_or (reason_phrase status) []))) }
     ensures len { length head.new.items ≤ length head.old.items + 60 }
 {
     put(head, b"HTTP/1.1 ");
@@ -77,7 +74,8 @@ fn phrase(status: u16) -> &'static str
 
 fn put_type_line(head: &mut Reply, status: u16)
     requires { length head.old.items + 41 ≤ ROOM }
-    ensures items { head.new.items ≡ head.old.items ++ line (codes "Content-Type: " ++ content_type status) }
+    ensures items { head.new.items ≡ head.old.items ++ line
+        (codes "Content-Type: " ++ content_type status) }
     ensures len { length head.new.items ≤ length head.old.items + 41 }
 {
     put_line(head, b"Content-Type: ", type_text(status).as_bytes());
@@ -96,7 +94,8 @@ fn type_text(status: u16) -> &'static str
 
 fn put_code_line(head: &mut Reply, code: u8)
     requires { length head.old.items + 23 ≤ ROOM }
-    ensures items { head.new.items ≡ head.old.items ++ line (codes "X-Prpc-Grpc-Code: " ++ decimal code) }
+    ensures items { head.new.items ≡ head.old.items ++ line
+        (codes "X-Prpc-Grpc-Code: " ++ decimal code) }
     ensures len { length head.new.items ≤ length head.old.items + 23 }
 {
     put_line(
@@ -135,7 +134,8 @@ fn put_close_line(head: &mut Reply, close: bool)
 
 fn put_length_line(head: &mut Reply, len: usize)
     requires { length head.old.items + 38 ≤ ROOM }
-    ensures items { head.new.items ≡ head.old.items ++ line (codes "Content-Length: " ++ decimal len) }
+    ensures items { head.new.items ≡ head.old.items ++ line
+        (codes "Content-Length: " ++ decimal len) }
     ensures len { length head.new.items ≤ length head.old.items + 38 }
 {
     put_line(

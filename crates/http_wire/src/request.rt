@@ -16,7 +16,9 @@ const HEADER_LIMIT: usize = 64;
 /// The head that is the whole of these bytes, or `None` where `httparse` reads no head that ends there.
 fn read_head(head: &[u8], headers: &mut [HeaderSpan]) -> Option<RequestSpans>
     requires { IfSome (head_end head.now) (λ e. e.1 ≤ length headers.old) }
-    ensures reads { MatchOption result ((h : RequestHead) → ¬ (ReadsRequest head.now h [])) (λ r. (h : RequestHead) × IsRequestAt head.now headers.new r h × ReadsRequest head.now h []) }
+    ensures reads { MatchOption result ((h : RequestHead) → ¬ (ReadsRequest head.now h []))
+        (λ r. (h : RequestHead) × IsRequestAt head.now headers.new r h
+        × ReadsRequest head.now h []) }
     ensures within { IfSome result (IsRequestWithin head.now headers.new) }
 {
     match parse_request(head, headers) {
@@ -26,9 +28,12 @@ fn read_head(head: &[u8], headers: &mut [HeaderSpan]) -> Option<RequestSpans>
 }
 
 fn is_to_route(head: &[u8], spans: &RequestSpans) -> bool
-    requires method { (spans.now.method.start ≤ spans.now.method.end) × (spans.now.method.end ≤ length head.now) }
-    requires path { (spans.now.path.start ≤ spans.now.path.end) × (spans.now.path.end ≤ length head.now) }
-    ensures { IsTrue result ↔ ((span_bytes head.now spans.now.method ≡ codes "POST") × (span_bytes head.now spans.now.path ≡ route_text) × (spans.now.version ≡ 1)) }
+    requires method { (spans.now.method.start ≤ spans.now.method.end)
+        × (spans.now.method.end ≤ length head.now) }
+    requires path { (spans.now.path.start ≤ spans.now.path.end)
+        × (spans.now.path.end ≤ length head.now) }
+    ensures { IsTrue result ↔ ((span_bytes head.now spans.now.method ≡ codes "POST")
+        × (span_bytes head.now spans.now.path ≡ route_text) × (spans.now.version ≡ 1)) }
 {
     let method = spans.method.of(head) == b"POST".as_slice();
     let path = spans.path.of(head)

@@ -137,15 +137,15 @@ fn messages_are_the_same_in_any_cut(rt: HostRuntime) -> Result<(), Fail> {
         End::Finished,
     )?;
     let behind = joined(alloc, one, b"\r\n")?;
+    check_stream(&rt, alloc, behind.as_slice(), &[b"{}"], cut_short(2))?;
+    let other = joined(alloc, one, b"GET / HTTP/1.1\r\n\r\n")?;
     check_stream(
         &rt,
         alloc,
-        behind.as_slice(),
+        other.as_slice(),
         &[b"{}"],
-        cut_short(2),
+        End::Fault(WireFault::Unread),
     )?;
-    let other = joined(alloc, one, b"GET / HTTP/1.1\r\n\r\n")?;
-    check_stream(&rt, alloc, other.as_slice(), &[b"{}"], End::Fault(WireFault::Unread))?;
     let full = with_lines(alloc, 64)?;
     check_stream(&rt, alloc, full.as_slice(), &[b""], End::Finished)?;
     Ok(())
@@ -166,19 +166,43 @@ fn other_forms_are_unread(rt: HostRuntime) -> Result<(), Fail> {
         "Content-Length : 2\r\n",
     ] {
         let stream = request(alloc, headers, "{}")?;
-        check_stream(&rt, alloc, stream.as_slice(), &[], End::Fault(WireFault::Unread))?;
+        check_stream(
+            &rt,
+            alloc,
+            stream.as_slice(),
+            &[],
+            End::Fault(WireFault::Unread),
+        )?;
     }
     for stream in [
         "GET / HTTP/1.1\r\n\r\n",
         "POST /prpc/luci.resultdb.v1.Recorder/CreateInvocation HTTP/1.0\r\nContent-Length: 0\r\n\r\n",
         "POST /prpc/luci.resultdb.v1.Recorder/GetInvocation HTTP/1.1\r\nContent-Length: 0\r\n\r\n",
     ] {
-        check_stream(&rt, alloc, stream.as_bytes(), &[], End::Fault(WireFault::Unread))?;
+        check_stream(
+            &rt,
+            alloc,
+            stream.as_bytes(),
+            &[],
+            End::Fault(WireFault::Unread),
+        )?;
     }
     let many = with_lines(alloc, 65)?;
-    check_stream(&rt, alloc, many.as_slice(), &[], End::Fault(WireFault::Unread))?;
+    check_stream(
+        &rt,
+        alloc,
+        many.as_slice(),
+        &[],
+        End::Fault(WireFault::Unread),
+    )?;
     let endless = vec![in alloc; b'a'; 16384]?;
-    check_stream(&rt, alloc, endless.as_slice(), &[], End::Fault(WireFault::Unread))
+    check_stream(
+        &rt,
+        alloc,
+        endless.as_slice(),
+        &[],
+        End::Fault(WireFault::Unread),
+    )
 }
 
 #[test]
@@ -189,21 +213,9 @@ fn fronts_are_cut_short(rt: HostRuntime) -> Result<(), Fail> {
         check_stream(&rt, alloc, &one[..have], &[], cut_short(have))?;
     }
     let large = request(alloc, "Content-Length: 4194304\r\n", "{}")?;
-    check_stream(
-        &rt,
-        alloc,
-        large.as_slice(),
-        &[],
-        cut_short(93),
-    )?;
+    check_stream(&rt, alloc, large.as_slice(), &[], cut_short(93))?;
     let long = vec![in alloc; b'a'; 16383]?;
-    check_stream(
-        &rt,
-        alloc,
-        long.as_slice(),
-        &[],
-        cut_short(16383),
-    )
+    check_stream(&rt, alloc, long.as_slice(), &[], cut_short(16383))
 }
 
 #[test]

@@ -63,7 +63,8 @@ impl Wire {
         // A closed wire stays as it is, and touches no link.
         ensures closed { self.old.is_open ≡ false → (result ≡ Ok None) × (self.new ≡ self.old)
             × (link.new ≡ link.old) }
-        ensures reading { self.old.is_open ≡ true → Reading self.old (L.ends link.old).incoming result
+        ensures reading { self.old.is_open ≡ true
+            → Reading self.old (L.ends link.old).incoming result
             (L.ends link.new).incoming self.new }
         ensures only { OnlyReads (L.ends link.old) (L.ends link.new) }
         ensures holds { L.holds link.new ≡ L.holds link.old }
@@ -84,7 +85,8 @@ fn next_message<L: Link>(
     buffer: &mut Buffer,
     link: &mut L,
 ) -> Result<Option<Message>, WireFault>
-    ensures reading { Reading record { held = buffer.old; is_open = true } (L.ends link.old).incoming
+    ensures reading { Reading record { held = buffer.old; is_open = true }
+        (L.ends link.old).incoming
         result (L.ends link.new).incoming record { held = buffer.new; is_open = is_ok result } }
     ensures only { OnlyReads (L.ends link.old) (L.ends link.new) }
     ensures holds { L.holds link.new ≡ L.holds link.old }

@@ -9,7 +9,7 @@ use Rattle.outside.specs.Ends.{Outgoing, WritesOnce}
 use Rattle.outside.specs.Whole.{WritesWhole}
 use Rattle.outside.specs.declared.whole.WriteEnd.{WriteEnd}
 use Rattle.outside.specs.declared.whole.WriteEnd.TheVariants.{WriteFault, SinkTakesNothing}
-use Rattle.outside.proofs.Taken.{took_nothing, took_both}
+use Rattle.outside.proofs.Taken.{took_both}
 
 -- The bytes before the rest were taken.
 pub record TookUpTo (before : Outgoing) (bytes rest : List ℕ) (now : Outgoing) : Type 0 where
@@ -18,10 +18,6 @@ pub record TookUpTo (before : Outgoing) (bytes rest : List ℕ) (now : Outgoing)
   pub took : Took before.written front now.written
   pub faults : now.faults ≡ before.faults
   pub stalls : now.stalls ≡ before.stalls
-
-pub at_start : (before : Outgoing) (bytes : List ℕ) → TookUpTo before bytes bytes before
-at_start before bytes =
-    record { front = []; parts = refl; took = took_nothing before.written; faults = refl; stalls = refl }
 
 no_stall : (before now count : ℕ) (piece : List ℕ) → CountsStall {E = Failed} before piece (Ok count) now → count ≢ 0
     → now ≡ before
