@@ -68,7 +68,7 @@ class Tree:
 
     @functools.lru_cache(maxsize=None)
     def functions(self, name):
-        """The functions of a crate: (type or "", name) to the labels of their clauses."""
+        """The functions of a crate: (type or "", name) to the labels of their clauses and the words in them."""
         found = collections.defaultdict(set)
         owner, current = "", None
         for line in self.source(name).splitlines():
@@ -83,24 +83,39 @@ class Tree:
             label = re.match(r"\s*ensures (\w+) \{", line)
             if label and current is not None:
                 current.add(label[1])
+            if line.strip() == "{" or line.endswith(("{}", ";")) or (signature and line.endswith("{")):
+                current = None  # the contract ends
+            elif current is not None and not signature:
+                current.update(f"in {word}" for word in re.findall(r"\b[A-Z]\w+", line))
         return dict(found)
 
+    @functools.lru_cache(maxsize=None)
+    def fields(self, record):
+        """The fields of the definitions of that name, in any crate."""
+        found = set()
+        for name in self.stands_on:
+            for body in re.findall(rf"\b(?:record|data) {re.escape(record)}\b.*?(?=\n\n|\Z)", self.definitions(name), re.S):
+                found.update(re.findall(r"^\s+pub (\w+) :", body, re.M))
+        return found
+
     def labels(self, name, word):
-        """The labels of a word of a page: of a function's clauses, of a type's, or the fields of a definition."""
+        """The labels of a word of a page: of a function's clauses and of the records in them, or of a definition."""
         owner, _, called = word.rpartition("::")
         all_functions = self.functions(name)
         fits = [s for (o, f), s in all_functions.items() if f == called and (not owner or o == owner)]
         fits += [s for (o, f), s in all_functions.items() if not owner and o == called]
-        record = re.search(rf"\b(?:record|data) {re.escape(called)}\b.*?(?=\n\n|\Z)", self.definitions(name), re.S)
-        if record:
-            fits.append(set(re.findall(r"^\s+pub (\w+) :", record[0], re.M)))
-        return set().union(*fits) if fits else None
+        fits += [{f"in {called}"}] if self.fields(called) else []
+        words = set().union(*fits)
+        cited = set().union(*(self.fields(word[3:]) for word in words if word.startswith("in ")))
+        return words | cited if fits else None
 
     def knows(self, name, word):
         """Whether a crate has what a page calls by this word: a function, a type, a clause, a definition or a field."""
         owner, _, called = word.rpartition("::")
         if owner and not re.search(rf"\b{owner}\b", self.source(name)):
             return False
+        if owner and re.search(rf"^(?:pub )?use (?!crate)[^;]*\b{owner}\b", self.source(name), re.M):
+            return True  # another crate's type
         said = re.escape(called)
         in_source = rf"\b(?:fn|struct|enum|trait|type|const|static) {said}\b|\bensures {said} \{{|\bghost {said}\b"
         in_specs = rf"^(?:\s+pub {said} :|(?:abbrev |unfoldable |transparent )?(?:pub )?(?:record |data )?{said}\b)"
