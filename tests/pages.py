@@ -83,10 +83,10 @@ class Tree:
             label = re.match(r"\s*ensures (\w+) \{", line)
             if label and current is not None:
                 current.add(label[1])
+            if current is not None and not signature:
+                current.update(f"in {word}" for word in re.findall(r"\b[A-Z]\w+", line))
             if line.strip() == "{" or line.endswith(("{}", ";")) or (signature and line.endswith("{")):
                 current = None  # the contract ends
-            elif current is not None and not signature:
-                current.update(f"in {word}" for word in re.findall(r"\b[A-Z]\w+", line))
         return dict(found)
 
     @functools.lru_cache(maxsize=None)
