@@ -322,6 +322,19 @@ def names_in_files(tree):
                         yield page, number, f"{path} has no {word}"
 
 
+def all_named(tree):
+    """Each page of docs/ is named in the README, and each script on the page of its kind."""
+    for page, files in (
+        ("README.md", "docs/*.md"),
+        ("CONTRIBUTING.md", "tests/*.py"),
+        ("bench/README.md", "bench/*.py"),
+    ):
+        said = tree.text(tree.top / page)
+        for file in sorted(tree.top.glob(files)):
+            if tree.name_of(file) not in said:
+                yield tree.top / page, 0, f"{tree.name_of(file)} isn't named"
+
+
 def has_number(text, name, digits):
     """The text has the number, and where it defines the name, a line of this definition has it."""
     said = re.escape(name)
@@ -499,6 +512,7 @@ CHECKS = [
     links,
     paths,
     names_in_files,
+    all_named,
     limits,
     statuses,
     quoted_clauses,
@@ -555,6 +569,7 @@ BREAKS = [
     ("a link leads nowhere", edit("README.md", "(docs/formats.md)", "(docs/forms.md)"), "leads nowhere"),
     ("an anchor is gone", edit("docs/audit.md", "## What is trusted", "## Trust"), "has no head"),
     ("a path leads nowhere", edit("docs/architecture.md", "`crates.txt`", "`crates.txts/x.md`"), "leads nowhere"),
+    ("a script is new", add("bench/new.py", ""), "bench/new.py isn't named"),
     ("a limit is another", edit("crates/http_wire/src/buffer.rt", "16384", "16385"), "doesn't have 16,384"),
     ("a status is gone", edit("README.md", "| 7 | ", "| 6 | "), "the exit statuses"),
     ("the clause is another", edit("README.md", "ensures run {", "ensures run { "[:-1] + " x"), "the sources don't have"),
