@@ -1,5 +1,5 @@
 #!/usr/bin/env python3
-"""Compares the pages with the sources, so that no page goes stale. Builds nothing.
+"""Compares the pages with the sources, so that no page goes stale, and looks at a few rules of the house. Builds nothing.
 
     tests/pages.py              tells each fault of the pages, and ends with status 1 where there is one
     tests/pages.py --audit      prints the definitions that the headline reaches, for docs/audit.md
@@ -20,6 +20,7 @@ WIDTH = 120
 HEADS = ["Stands on", "Calls", "Promises", "Definitions", "Only tested", "May touch"]
 MARKER = "MINUTES"  # stands in a page for a figure that is still to be measured
 HEADLINE = "**The headline.**"
+MOST_EDITS = 10
 TOP_CALL = ("rdb_program", "src/run.rt", "run_program")
 
 TICKED = re.compile(r"`([^`\n]+)`")
@@ -410,6 +411,21 @@ def markers(tree):
                 yield page, number, f"{MARKER}: a figure is to be measured"
 
 
+def house_rules(tree):
+    """Three rules of CONTRIBUTING that can be seen in the sources without a proof."""
+    for name in tree.stands_on:
+        folder = tree.crate(name)
+        edits = len(list(folder.glob("must-fail/*.edit")))
+        if edits > MOST_EDITS:
+            yield folder / "must-fail", 0, f"{edits} wrong bodies, and {MOST_EDITS} are the most"
+        for spec in sorted(folder.glob("specs/**/*.antt")):
+            if re.search(r"^use .*\bTheConstants\b", tree.text(spec), re.M):
+                yield spec, 0, "a word of specs/ is a constant of the code"
+        for source in sorted(folder.glob("src/**/*.rt")):
+            if not tree.text(source).startswith("//!"):
+                yield source, 1, "the file doesn't begin with //! and what it is about"
+
+
 # The definitions that the headline reaches
 
 
@@ -519,6 +535,7 @@ CHECKS = [
     headline,
     widths,
     markers,
+    house_rules,
     audit,
 ]
 
@@ -576,6 +593,7 @@ BREAKS = [
     ("the headline is another", edit("docs/audit.md", "Whatever bytes", "Whichever bytes"), "isn't that of README.md"),
     ("a line is too long", edit("docs/audit.md", "\n## ", "\n" + "long " * 30 + "\n\n## "), "columns"),
     ("a figure is to be measured", edit("docs/limits.md", "\n## ", f"\n{MARKER}\n\n## "), "is to be measured"),
+    ("a definition takes a constant", edit("crates/fault_counts/specs/Causes.antt", "use ", "use a.TheConstants.{B}\nuse "), "is a constant"),
     ("the audit lacks a file", edit("docs/audit.md", "rdb_program/specs/Run.antt", "rdb_program/specs/Ran.antt"), "stands in 0 rows"),
 ]
 
