@@ -1,4 +1,4 @@
-// Which calls on an end in memory are to fail.
+//! Which calls on an end in memory are to fail.
 ghost use Rattle.std.specs.Prelude.{◌≡◌};
 ghost use Rattle.fault_counts.specs.Calls.{no_call_yet, one_call_more, times_listed, outcome_of};
 

@@ -1,4 +1,4 @@
-// The body behind a head.
+//! The body behind a head.
 ghost use Rattle.std.specs.Prelude.{◌≡◌, ◌+◌, ◌<◌, ◌≤◌, ◌++◌, ◌^◌, length, take, drop, IfOk, OnErr};
 ghost use Rattle.http_wire.specs.Held.{CountsRead};
 ghost use Rattle.http_wire.specs.Reads.{BodyTaken, BodyFilled};

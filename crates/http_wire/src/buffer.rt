@@ -1,4 +1,4 @@
-// The bytes of a link that were read and aren't used yet.
+//! The bytes of a link that were read and aren't used yet.
 ghost use Rattle.std.specs.Prelude.{ℕ, ◌≡◌, ◌+◌, ◌-◌, ◌<◌, ◌≤◌, ◌++◌, [], length, take, drop, slice_range, Ok, IfOk, IfErr, OnErr};
 ghost use Rattle.outside.specs.Bytes.{Gave, IsEnd};
 ghost use Rattle.http_wire.specs.Head.{head_limit};

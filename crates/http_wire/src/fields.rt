@@ -1,4 +1,4 @@
-// A head's fields, and the length of body that they announce.
+//! A head's fields, and the length of body that they announce.
 ghost use Rattle.std.specs.Prelude.{◌≡◌, ◌≤◌, ◌↔◌, ◌+◌, ◌*◌, ◌<◌, ◌^◌, ℕ, length, List, [], ◌∷◌, ◌++◌, All, map, IsTrue, MatchOption};
 ghost use Rattle.std.specs.Str.{str_eq_ignore_ascii_case};
 ghost use Rattle.std.specs.Str.Parse.{AllDigits, digits_value};

@@ -1,4 +1,4 @@
-// Where a head ends, byte by byte.
+//! Where a head ends, byte by byte.
 ghost use Rattle.std.specs.Prelude.{◌≡◌, ◌≤◌, [], length, take};
 ghost use Rattle.http_wire.specs.Scan.{step_of, Passed, IsSearch};
 

@@ -1,4 +1,4 @@
-// The head in front of what a link gives.
+//! The head in front of what a link gives.
 ghost use Rattle.std.specs.Prelude.{◌≡◌, ◌==◌, if◌then◌else◌, Ok, Err, None};
 ghost use Rattle.http_wire.specs.Held.{CountsRead};
 ghost use Rattle.http_wire.specs.Reads.{IsRead, IsHeadAnswer};

@@ -1,4 +1,4 @@
-// Laws of streams.
+//! Laws of streams.
 ghost use Rattle.std.specs.Prelude.{◌≡◌, ℕ, List, ◌++◌};
 ghost use Rattle.http_wire.specs.Stream.{Framed, Spells};
 ghost use Rattle.http_wire.specs.declared.message.Message.{Message};

@@ -1,4 +1,4 @@
-// What is read from a connection, and why no more is.
+//! What is read from a connection, and why no more is.
 ghost use Rattle.std.specs.Prelude.{◌≡◌};
 ghost use Rattle.http_wire.specs.Out.{fault_number, fault_name};
 

@@ -1,4 +1,4 @@
-// Replies to a link.
+//! Replies to a link.
 ghost use Rattle.std.specs.Prelude.{◌≡◌, ◌++◌};
 ghost use Rattle.outside.specs.Whole.{IsWritten, CountsFault, CountsEnd};
 ghost use Rattle.service_core.specs.ReplyBytes.{answer_bytes, standin_bytes};

@@ -1,4 +1,4 @@
-// A reader of whole streams, without a buffer: what a stream's messages are, step by step.
+//! A reader of whole streams, without a buffer: what a stream's messages are, step by step.
 ghost use Rattle.std.specs.Prelude.{◌≡◌, ◌+◌, ◌<◌, ◌≤◌, length, take, Some, IfOk};
 ghost use Rattle.http_wire.specs.Head.{head_limit};
 ghost use Rattle.http_wire.specs.Scan.{head_end};

@@ -1,4 +1,4 @@
-// Whether a head is of the form that is read.
+//! Whether a head is of the form that is read.
 ghost use Rattle.std.specs.Prelude.{◌≡◌, ◌≤◌, ◌↔◌, ℕ, length, [], Some, IsTrue, IfSome, MatchOption, codes};
 ghost use Rattle.httparse.specs.Grammar.{RequestHead, ReadsRequest};
 ghost use Rattle.httparse.specs.Spans.{IsRequestAt, IsRequestWithin, span_bytes};

@@ -1,4 +1,4 @@
-// Streams in pieces, and what is written.
+//! Streams in pieces, and what is written.
 use crate::*;
 use names_realms::Bytes;
 use outside::{Link, MemoryLink, WriteEnd};

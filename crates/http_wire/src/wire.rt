@@ -1,4 +1,4 @@
-// Messages from a link.
+//! Messages from a link.
 ghost use Rattle.std.specs.Prelude.{◌≡◌, ◌≤◌, [], true, false, None, Ok, IfOk, OnErr};
 ghost use Rattle.http_wire.specs.Held.{Reading, Answered, CountsRead};
 ghost use Rattle.http_wire.specs.Stream.{message_of};

@@ -5,7 +5,7 @@ use Rattle.std.proofs.Math.Nat.{pow-le-pow_right}
 use Rattle.std.proofs.lemmas.Nat.{pow-add}
 use Rattle.std.specs.Char.{is_ascii_digit}
 use Rattle.moments_spans.specs.MomentReading.{fraction_from}
-use Rattle.moments_spans.specs.Spans.{whole_from}
+use Rattle.moments_spans.specs.SpanReading.{whole_from}
 
 pub fraction-digit : (left next worth so_far b : ℕ) (bs : List ℕ) → left ≡ suc next → is_ascii_digit b ≡ true → fraction_from left worth so_far (b ∷ bs) ≡ fraction_from next (worth / 10) (so_far + worth * (b - 48)) bs
 unfolding fraction_from

@@ -5,9 +5,8 @@ use Rattle.std.specs.Int.{int_div_euclid, int_rem_euclid}
 use Rattle.jiff_core.specs.Calendar.{days_in_month, IsBetween}
 use Rattle.jiff_core.proofs.SignedLemmas.{signed_arith}
 use Rattle.jiff_core.proofs.CalendarLemmas.{days_in_month_bounds}
-use Rattle.moments_spans.specs.Moments.{two_digits, decimals, date_text, clock_text, text_of_day_and_clock, IsInYears, least_moment, greatest_moment}
-use Rattle.moments_spans.specs.MomentReading.{day_from, minutes_from, clock_from, zone_from, moment_at, moment_from, moment_judged}
-use Rattle.moments_spans.specs.Laws.{PrintedMomentIsRead}
+use Rattle.moments_spans.specs.Moments.{moment_text, two_digits, decimals, date_text, clock_text, text_of_day_and_clock, IsInYears, least_moment, greatest_moment, moment_at}
+use Rattle.moments_spans.specs.MomentReading.{day_from, minutes_from, clock_from, zone_from, moment_from, moment_judged, moment_of}
 use Rattle.moments_spans.proofs.DigitLaws.{bind, two_read, year_read, byte_read, decimals_read, is_positive}
 use Rattle.moments_spans.proofs.CalendarLaws.{IsDateOf, date_exists, civil_date-of, is_nonnegative}
 
@@ -77,7 +76,7 @@ some_bytes : (day : ℤ) (clock : ℕ) → (length (text_of_day_and_clock day cl
 unfolding text_of_day_and_clock
 some_bytes day clock = is_positive _ (omega arith)
 
-pub printed_moment_is_read : PrintedMomentIsRead
+pub printed_moment_is_read : (micros : ℤ) → IsInYears micros → moment_of (moment_text micros) ≡ Ok micros
 printed_moment_is_read micros h =
     let day = int_div_euclid micros (pos 86_400_000_000) in
     let left = int_rem_euclid micros (pos 86_400_000_000) in

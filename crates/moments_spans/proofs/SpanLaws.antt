@@ -1,12 +1,12 @@
 -- A span that is printed is read as itself, and its decimals are the fewest.
 use Rattle.std.proofs.Common.{◌≡◌, ℕ, suc, ◌+◌, ◌-◌, ◌*◌, ◌/◌, ◌%◌, ◌^◌, ◌==◌, ◌≤◌, ◌<◌, nat_le, true, false, List, [], ◌∷◌, ◌++◌, length, Ok, refl, ap, ◌∙◌, arith, append_assoc, length-append}
 use Rattle.std.proofs.lemmas.Bool.{le-leb}
-use Rattle.std.proofs.lemmas.Bool.Decides.{nat_tests}
 use Rattle.std.specs.Fmt.{decimal}
 use Rattle.std.proofs.lemmas.Fmt.{decimal_by_steps, decimal_nonempty, length-decimal-le}
 use Rattle.moments_spans.specs.Moments.{decimals}
-use Rattle.moments_spans.specs.Spans.{most_span, seconds_from, span_from, span_judged, span_text, whole_from}
-use Rattle.moments_spans.specs.Laws.{DecimalsAreFewest, PrintedDecimalsAreRead, PrintedSpanIsRead}
+use Rattle.moments_spans.specs.Spans.{most_span, span_text}
+use Rattle.moments_spans.specs.SpanReading.{seconds_from, span_from, span_judged, whole_from, span_of}
+use Rattle.moments_spans.specs.Laws.{DecimalsAreFewest}
 use Rattle.moments_spans.proofs.FractionLemmas.{whole-digit, whole-other}
 use Rattle.moments_spans.proofs.DigitLaws.{bind, byte_read, by_zero, decimals_read, digit_is, is_positive}
 
@@ -89,13 +89,8 @@ some_bytes micros few =
     let some = decimal_nonempty (micros / 1_000_000) (omega (arith, few)) in
     is_positive _ (omega (arith, some, length-append (decimal (micros / 1_000_000)) (decimals (micros % 1_000_000) ++ 115 ∷ [])))
 
-pub printed_span_is_read : PrintedSpanIsRead
+pub printed_span_is_read : (micros : ℕ) → micros ≤ most_span → span_of (span_text micros) ≡ Ok micros
 printed_span_is_read micros few = rw (some_bytes micros few, span_read micros few) (judged _ micros few)
-
-pub printed_decimals_are_read : PrintedDecimalsAreRead
-printed_decimals_are_read micros b rest few other apart =
-    let ends : (b == 46) ≡ false = grind (arith, nat_tests, apart) in
-    decimals_read micros b rest few (other, ends)
 
 pub decimals_are_fewest : DecimalsAreFewest
 decimals_are_fewest micros few =

@@ -9,7 +9,8 @@ use Rattle.name_parts.specs.declared.faults.NameFault.TheVariants.{Empty, BadByt
 use Rattle.name_parts.specs.Grammar.{IsFirstBadPlace}
 use Rattle.moments_spans.specs.MomentReading.{◌>>=◌, byte_from, decimals_from}
 use Rattle.moments_spans.specs.MomentGrammar.{IsDecimals, none, some}
-use Rattle.moments_spans.specs.Spans.{most_span, seconds_from, span_ended, span_from, span_judged, span_of, whole_from}
+use Rattle.moments_spans.specs.Spans.{most_span}
+use Rattle.moments_spans.specs.SpanReading.{seconds_from, span_ended, span_from, span_judged, span_of, whole_from}
 use Rattle.moments_spans.specs.SpanGrammar.{number_of, IsSpanText, SaysSpan, IsSpanFault, empty, bad, outside}
 use Rattle.moments_spans.proofs.DigitLaws.{is_positive}
 use Rattle.moments_spans.proofs.FractionLemmas.{whole-digit, whole-other, whole-end, whole-zero}

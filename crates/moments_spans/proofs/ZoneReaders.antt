@@ -1,7 +1,7 @@
 -- The readers of a time of day, of a zone and of a moment read just the texts of their grammars.
 use Rattle.std.proofs.Common.{◌≡◌, ℕ, ◌+◌, ◌*◌, ◌==◌, true, false, Bool, if◌then◌else◌, List, [], ◌∷◌, ◌++◌, length, Ok, Err, ℤ, pos, neg_ℤ, refl, sym, ap, subst, ◌∙◌, arith, append_assoc, append-nil}
-use Rattle.moments_spans.specs.Moments.{two_digits}
-use Rattle.moments_spans.specs.MomentReading.{two_from, day_from, decimals_from, minutes_from, clock_from, offset_from, zone_from, moment_at}
+use Rattle.moments_spans.specs.Moments.{two_digits, moment_at}
+use Rattle.moments_spans.specs.MomentReading.{two_from, day_from, decimals_from, minutes_from, clock_from, offset_from, zone_from}
 use Rattle.moments_spans.specs.MomentGrammar.{IsDecimals, IsDateText, IsHourAndMinute, IsClockText, IsZone, utc, before, behind as behind_utc, IsMomentText}
 use Rattle.moments_spans.proofs.ReaderLaws.{Reader, IsRead, Breaks, Reads, Anything, by_byte, same_err, same_ok, not_both, complete_as, joined, Joined, joined_reads, behind, Behind, behind_reads, IsGiven, given_reads}
 use Rattle.moments_spans.proofs.MomentReaders.{IsTwo, two_reads, day_reads, minutes_reads}

@@ -8,8 +8,7 @@ use Rattle.moments_spans.specs.declared.civil.CivilDate.{CivilDate}
 use Rattle.name_parts.specs.declared.faults.NameFault.{NameFault}
 use Rattle.name_parts.specs.declared.faults.NameFault.TheVariants.{Empty, BadByte, OutOfRange}
 use Rattle.name_parts.specs.Grammar.{IsFirstBadPlace}
-use Rattle.moments_spans.specs.Moments.{two_digits, date_text, IsInYears}
-use Rattle.moments_spans.specs.MomentReading.{moment_at}
+use Rattle.moments_spans.specs.Moments.{two_digits, date_text, moment_at, IsInYears}
 
 -- Of digits the first is worth so many microseconds, and each further one a tenth of the one before it. What is worth less than one
 -- microsecond is dropped.

@@ -1,12 +1,12 @@
--- Reading a moment from left to right. A reader gives its value and the rest, or how many bytes stood from the first bad place on: the
+-- How the code reads a moment from left to right. Callers read `MomentGrammar`, which says what it finds. A reader gives its value and the rest, or how many bytes stood from the first bad place on: the
 -- first byte after which no text of the grammar goes on, or the end of a text that ends too soon.
-use Rattle.std.specs.Prelude.{ℕ, zero, suc, ◌+◌, ◌-◌, ◌*◌, ◌/◌, ◌&&◌, ◌==◌, if◌then◌else◌, nat_le, Bool, true, false, int_le, List, [], ◌∷◌, length, Result, Ok, Err, ℤ, pos, neg_ℤ, ◌+ℤ◌, ◌-ℤ◌, ◌*ℤ◌}
+use Rattle.std.specs.Prelude.{ℕ, zero, suc, ◌+◌, ◌-◌, ◌*◌, ◌/◌, ◌&&◌, ◌==◌, if◌then◌else◌, nat_le, Bool, true, false, int_le, List, [], ◌∷◌, length, Result, Ok, Err, ℤ, pos, neg_ℤ}
 use Rattle.std.specs.Borrow.{Bor}
 use Rattle.std.specs.Char.{is_ascii_digit}
 use Rattle.jiff_core.specs.Calendar.{days_from_civil, days_in_month}
 use Rattle.name_parts.specs.declared.faults.NameFault.{NameFault}
 use Rattle.name_parts.specs.declared.faults.NameFault.TheVariants.{Empty, BadByte, OutOfRange}
-use Rattle.moments_spans.specs.Moments.{least_moment, greatest_moment}
+use Rattle.moments_spans.specs.Moments.{least_moment, greatest_moment, moment_at}
 
 infixl 10 ◌>>=◌
 abbrev pub ◌>>=◌ : {A B E : Type 0} → Result A E → (A → Result B E) → Result B E
@@ -107,10 +107,6 @@ zone_from (b ∷ bs) =
     else (if b == 43 then offset_from false bs
     else (if b == 45 then offset_from true bs
     else Err (length (b ∷ bs))))
-
--- a day, a time of day and how many minutes the clock is before UTC, as microseconds since 1970-01-01T00:00:00Z
-abbrev pub moment_at : ℤ → ℕ → ℤ → ℤ
-moment_at day clock zone = day *ℤ pos 86_400_000_000 +ℤ pos clock -ℤ zone *ℤ pos 60_000_000
 
 -- nothing more
 abbrev pub ended : ℤ → List ℕ → Result ℤ ℕ

@@ -1,5 +1,5 @@
 -- The one text of a moment.
-use Rattle.std.specs.Prelude.{ℕ, ◌+◌, ◌/◌, ◌%◌, ◌==◌, if◌then◌else◌, List, [], ◌∷◌, ◌++◌, ℤ, pos, neg_ℤ, ◌≤ℤ◌, unsigned_abs}
+use Rattle.std.specs.Prelude.{ℕ, ◌+◌, ◌/◌, ◌%◌, ◌==◌, if◌then◌else◌, List, [], ◌∷◌, ◌++◌, ℤ, pos, neg_ℤ, ◌+ℤ◌, ◌-ℤ◌, ◌*ℤ◌, ◌≤ℤ◌, unsigned_abs}
 use Rattle.std.specs.Int.{int_div_euclid, int_rem_euclid}
 use Rattle.moments_spans.specs.declared.civil.CivilDate.{CivilDate}
 use Rattle.moments_spans.specs.Civil.{civil_date}
@@ -38,6 +38,10 @@ text_of_day_and_clock day clock = date_text (civil_date day) ++ 84 ∷ (clock_te
 abbrev pub moment_text : ℤ → List ℕ
 moment_text micros =
     text_of_day_and_clock (int_div_euclid micros (pos 86_400_000_000)) (unsigned_abs (int_rem_euclid micros (pos 86_400_000_000)))
+
+-- a day, a time of day and how many minutes the clock is before UTC, as microseconds since 1970-01-01T00:00:00Z
+abbrev pub moment_at : ℤ → ℕ → ℤ → ℤ
+moment_at day clock zone = day *ℤ pos 86_400_000_000 +ℤ pos clock -ℤ zone *ℤ pos 60_000_000
 
 -- 0001-01-01T00:00:00Z, and the last microsecond of the year 9999
 abbrev pub least_moment : ℤ

@@ -1,5 +1,5 @@
 //! Laws of the definitions that the contracts cite. These functions do nothing: what each of them ensures is the law.
-ghost use Rattle.moments_spans.specs.Laws.{DecimalsAreFewest, OneMomentSaid, OneSpanSaid, PrintedDecimalsAreRead, PrintedMomentIsRead, PrintedMomentIsSaid, PrintedSpanIsRead, PrintedSpanIsSaid};
+ghost use Rattle.moments_spans.specs.Laws.{DecimalsAreFewest, OneMomentFault, OneMomentSaid, OneSpanFault, OneSpanSaid, PrintedDecimalsAreSaid, PrintedMomentIsSaid, PrintedSpanIsSaid, SaidMomentHasNoFault, SaidSpanHasNoFault};
 
 /// One text says at most one moment.
 pub fn one_moment_said()
@@ -21,14 +21,24 @@ pub fn printed_span_is_said()
     ensures { PrintedSpanIsSaid }
 {}
 
-/// Every moment that is printed is read as itself.
-pub fn printed_moment_is_read()
-    ensures { PrintedMomentIsRead }
+/// A text that says a moment of the years 1 to 9999 has no fault.
+pub fn said_moment_has_no_fault()
+    ensures { SaidMomentHasNoFault }
 {}
 
-/// Every span that is printed is read as itself.
-pub fn printed_span_is_read()
-    ensures { PrintedSpanIsRead }
+/// A text that says a span of at most 315,576,000,000 seconds has no fault.
+pub fn said_span_has_no_fault()
+    ensures { SaidSpanHasNoFault }
+{}
+
+/// A text has at most one fault as a moment.
+pub fn one_moment_fault()
+    ensures { OneMomentFault }
+{}
+
+/// A text has at most one fault as a span.
+pub fn one_span_fault()
+    ensures { OneSpanFault }
 {}
 
 /// A fraction of a second is printed with the fewest of no, three or six digits that are exact.
@@ -36,7 +46,7 @@ pub fn decimals_are_fewest()
     ensures { DecimalsAreFewest }
 {}
 
-/// A fraction of a second that is printed is read as itself, where no further digit and no point stands behind it.
-pub fn printed_decimals_are_read()
-    ensures { PrintedDecimalsAreRead }
+/// A fraction of a second that is printed says its microseconds.
+pub fn printed_decimals_are_said()
+    ensures { PrintedDecimalsAreSaid }
 {}

@@ -12,5 +12,5 @@ mod spans;
 #[cfg(test)]
 mod tests;
 
-pub use moments::Moment;
+pub use moments::{Moment, is_of_years};
 pub use spans::Span;

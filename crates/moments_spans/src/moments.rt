@@ -1,5 +1,5 @@
 //! Moments, and their one text.
-ghost use Rattle.std.specs.Prelude.{◌≡◌, ◌++◌, ◌≤◌, ◌<◌, ◌+◌, ◌∷◌, [], IfOk, IfErr, OnOk, OnErr, Ok, Err, IsTrue, string_bytes, pos, neg_ℤ, unsigned_abs};
+ghost use Rattle.std.specs.Prelude.{◌≡◌, ◌++◌, ◌≤◌, ◌<◌, ◌+◌, ◌↔◌, ◌∷◌, [], IfOk, IfErr, OnOk, OnErr, Ok, Err, IsTrue, string_bytes, pos, neg_ℤ, unsigned_abs};
 ghost use Rattle.std.specs.Int.{IsInRange, int_div_euclid, int_rem_euclid};
 ghost use Rattle.jiff.specs.Words.{IsBetween};
 ghost use Rattle.moments_spans.specs.MomentReading.{is_in_years, moment_judged, moment_of};
@@ -10,11 +10,25 @@ use crate::civil::{CivilDate, date_of};
 use crate::moment_reading::moment;
 use name_parts::{NameFault, append};
 use std::alloc::{AllocError, Global};
+use std::marker::Model;
 
-/// A moment, in microseconds since 1970-01-01T00:00:00Z.
+/// A moment of a year from 1 to 9999, in microseconds since 1970-01-01T00:00:00Z.
 #[derive(Clone, Copy, Debug, PartialEq, Eq, PartialOrd, Ord)]
 pub struct Moment {
-    pub micros: i64,
+    micros: i64,
+}
+
+impl Model for Moment {
+    ghost use Rattle.std.specs.Prelude.{ℤ};
+    ghost use Rattle.moments_spans.specs.Moments.{IsInYears};
+
+    ghost Value = { ℤ };
+
+    ghost view = { λ m. m.micros };
+
+    ghost invariant = { λ m. IsInYears m.micros };
+
+    ghost inverse = { λ z. record { micros = z } };
 }
 
 /// The day number of a moment, and the microseconds since the midnight before it.
@@ -131,10 +145,10 @@ fn push_moment(out: &mut String, micros: i64) -> Result<(), AllocError>
     push_day_and_clock(out, day, clock)
 }
 
-/// Whether the moment is of a year from 1 to 9999.
-fn is_of_years(micros: i64) -> bool
+/// Whether so many microseconds since 1970 are a moment of a year from 1 to 9999.
+pub fn is_of_years(micros: i64) -> bool
     ensures value { result ≡ is_in_years micros }
-    ensures range { IsTrue result → IsInYears micros }
+    ensures range { IsTrue result ↔ IsInYears micros }
 {
     micros >= -62_135_596_800_000_000 && micros <= 253_402_300_799_999_999
 }
@@ -142,14 +156,13 @@ fn is_of_years(micros: i64) -> bool
 /// What is read of a text of this length, where the reader gives this.
 #[tactic(auto, unfolding(crate::specs::MomentReading::moment_judged))]
 fn judged(len: usize, read: Result<i64, usize>) -> Result<Moment, NameFault>
-    ensures ok { IfOk result (λ m. moment_judged len read ≡ Ok m.micros) }
-    ensures range { IfOk result (λ m. IsInYears m.micros) }
+    ensures ok { IfOk result (λ m. moment_judged len read ≡ Ok m) }
     ensures fault { IfErr result (λ f. moment_judged len read ≡ Err f) }
 {
     match read {
         Ok(micros) => {
             if is_of_years(micros) {
-                Ok(Moment { micros })
+                Ok(Moment::new(micros))
             } else {
                 Err(NameFault::OutOfRange)
             }
@@ -162,8 +175,7 @@ fn judged(len: usize, read: Result<i64, usize>) -> Result<Moment, NameFault>
 
 /// Reads a moment from left to right.
 fn read(text: &[u8]) -> Result<Moment, NameFault>
-    ensures ok { IfOk result (λ m. moment_of text.now ≡ Ok m.micros) }
-    ensures range { IfOk result (λ m. IsInYears m.micros) }
+    ensures ok { IfOk result (λ m. moment_of text.now ≡ Ok m) }
     ensures fault { IfErr result (λ f. moment_of text.now ≡ Err f) }
 {
     if text.is_empty() {
@@ -173,24 +185,37 @@ fn read(text: &[u8]) -> Result<Moment, NameFault>
 }
 
 impl Moment {
+    /// The moment of so many microseconds since 1970. `is_of_years` tells whether there is one.
+    pub fn new(micros: i64) -> Moment
+        requires { IsInYears micros }
+        ensures { result ≡ micros }
+    {
+        Moment { micros }
+    }
+
+    /// The microseconds since 1970.
+    pub fn micros(&self) -> i64
+        ensures value { result ≡ self.now }
+        ensures range { IsInYears self.now }
+    {
+        self.micros
+    }
+
     /// Reads a moment of RFC 3339, all of the text: `YYYY-MM-DDTHH:MM:SS`, where there are decimals a point and one to nine digits,
     /// and `Z` or an offset as `+HH:MM`. What decimals say below a microsecond is dropped. `OutOfRange` where the moment is before the
     /// year 1 or after the year 9999 in UTC. Takes no memory, and so never answers `Memory`.
     pub fn parse(alloc: Global, text: &[u8]) -> Result<Moment, NameFault>
-        ensures ok { IfOk result (λ m. moment_of text.now ≡ Ok m.micros) }
-        ensures range { IfOk result (λ m. IsInYears m.micros) }
-        ensures said { IfOk result (λ m. IsMomentText text.now m.micros) }
-        ensures fault { IfErr result (λ f. moment_of text.now ≡ Err f) }
-        ensures wrong { IfErr result (IsMomentFault text.now) }
+        ensures said { IfOk result (λ m. IsMomentText text.now m) }
+            ensures wrong { IfErr result (IsMomentFault text.now) }
     {
         let _ = alloc;
         read(text)
     }
 
-    /// The text of the moment, as `write_to` appends it. The moment must be of a year from 1 to 9999.
+    /// The text of the moment, as `write_to` appends it.
     pub fn to_text(&self, alloc: Global) -> Result<String, AllocError>
-        requires { IsInYears self.now.micros }
-        ensures { IfOk result (λ text. string_bytes text ≡ moment_text self.now.micros) }
+        ensures range { IsInYears self.now }
+        ensures text { IfOk result (λ text. string_bytes text ≡ moment_text self.now) }
     {
         let mut text = String::new(alloc);
         push_moment(&mut text, self.micros)?;
@@ -198,10 +223,10 @@ impl Moment {
     }
 
     /// Appends the moment as RFC 3339 has it, in UTC with `Z` and the fewest of 0, 3 or 6 decimals that are exact: all of it or
-    /// nothing. The moment must be of a year from 1 to 9999.
+    /// nothing.
     pub fn write_to(&self, alloc: Global, out: &mut Vec<u8>) -> Result<(), AllocError>
-        requires { IsInYears self.now.micros }
-        ensures ok { OnOk result (out.new.items ≡ out.old.items ++ moment_text self.now.micros) }
+        ensures said { IsMomentText (moment_text self.now) self.now }
+        ensures ok { OnOk result (out.new.items ≡ out.old.items ++ moment_text self.now) }
         ensures err { OnErr result (out.new.items ≡ out.old.items) }
     {
         let text = self.to_text(alloc)?;

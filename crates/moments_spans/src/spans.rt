@@ -2,7 +2,8 @@
 ghost use Rattle.std.specs.Prelude.{string_bytes, ◌≡◌, ◌≤◌, ◌<◌, ◌++◌, ◌+◌, ℕ, List, length, Ok, Err, IfOk, IfErr, OnOk, OnErr};
 ghost use Rattle.moments_spans.specs.MomentReading.{seen};
 ghost use Rattle.moments_spans.specs.SpanGrammar.{IsSpanFault, IsSpanText};
-ghost use Rattle.moments_spans.specs.Spans.{most_span, seconds_from, span_from, span_judged, span_of, span_text, whole_from};
+ghost use Rattle.moments_spans.specs.Spans.{most_span, span_text};
+ghost use Rattle.moments_spans.specs.SpanReading.{seconds_from, span_from, span_judged, span_of, whole_from};
 
 use crate::moment_reading::{byte, decimals};
 use crate::moments::push_decimals;
@@ -36,7 +37,7 @@ fn whole(text: &[u8]) -> (u64, &[u8])
 }
 
 /// Reads at least one digit, and up to twelve.
-#[tactic(auto, unfolding(crate::specs::Spans::seconds_from))]
+#[tactic(auto, unfolding(crate::specs::SpanReading::seconds_from))]
 fn seconds(text: &[u8]) -> Result<(u64, &[u8]), usize>
     ensures value { seen result ≡ seconds_from text.now }
     ensures bound { IfOk result (λ r. r.0 < 1_000_000_000_000) }
@@ -52,7 +53,7 @@ fn seconds(text: &[u8]) -> Result<(u64, &[u8]), usize>
 }
 
 /// Reads a span, all of the text, in microseconds.
-#[tactic(auto, unfolding(crate::specs::Spans::span_from))]
+#[tactic(auto, unfolding(crate::specs::SpanReading::span_from))]
 fn span_micros(text: &[u8]) -> Result<u64, usize>
     ensures { result ≡ span_from text.now }
 {
@@ -66,7 +67,7 @@ fn span_micros(text: &[u8]) -> Result<u64, usize>
 }
 
 /// What is read of a text of this length, where the reader gives this.
-#[tactic(auto, unfolding(crate::specs::Spans::span_judged))]
+#[tactic(auto, unfolding(crate::specs::SpanReading::span_judged))]
 fn judged(len: usize, read: Result<u64, usize>) -> Result<Span, NameFault>
     ensures ok { IfOk result (λ s. span_judged len read ≡ Ok s.micros) }
     ensures range { IfOk result (λ s. s.micros ≤ most_span) }
@@ -115,10 +116,8 @@ impl Span {
     /// say below a microsecond is dropped. `OutOfRange` where it is more than 315,576,000,000 seconds. Takes no memory, and so never
     /// answers `Memory`.
     pub fn parse(alloc: Global, text: &[u8]) -> Result<Span, NameFault>
-        ensures ok { IfOk result (λ s. span_of text.now ≡ Ok s.micros) }
-        ensures range { IfOk result (λ s. s.micros ≤ most_span) }
         ensures said { IfOk result (λ s. IsSpanText text.now s.micros) }
-        ensures fault { IfErr result (λ f. span_of text.now ≡ Err f) }
+        ensures range { IfOk result (λ s. s.micros ≤ most_span) }
         ensures wrong { IfErr result (IsSpanFault text.now) }
     {
         let _ = alloc;
@@ -136,6 +135,7 @@ impl Span {
 
     /// Appends the span in seconds with the fewest of 0, 3 or 6 decimals that are exact, and `s`: all of it or nothing.
     pub fn write_to(&self, alloc: Global, out: &mut Vec<u8>) -> Result<(), AllocError>
+        ensures said { self.now.micros ≤ most_span → IsSpanText (span_text self.now.micros) self.now.micros }
         ensures ok { OnOk result (out.new.items ≡ out.old.items ++ span_text self.now.micros) }
         ensures err { OnErr result (out.new.items ≡ out.old.items) }
     {

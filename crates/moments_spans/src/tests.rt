@@ -50,7 +50,7 @@ const SPANS: [(&str, Result<u64, NameFault>); 9] = [
 
 fn micros_of(read: Result<Moment, NameFault>) -> Result<i64, NameFault> {
     match read {
-        Ok(moment) => Ok(moment.micros),
+        Ok(moment) => Ok(moment.micros()),
         Err(fault) => Err(fault),
     }
 }
@@ -83,15 +83,9 @@ fn reads_moments_and_spans(rt: HostRuntime) -> Result<(), Fail> {
 fn writes_moments_and_spans(rt: HostRuntime) -> Result<(), Fail> {
     let alloc = rt.alloc();
     let mut out = Vec::new(alloc);
-    Moment {
-        micros: 1_700_000_009_999_999,
-    }
-    .write_to(alloc, &mut out)?;
+    Moment::new(1_700_000_009_999_999).write_to(alloc, &mut out)?;
     Span { micros: 250_000 }.write_to(alloc, &mut out)?;
-    Moment {
-        micros: -62_135_596_800_000_000,
-    }
-    .write_to(alloc, &mut out)?;
+    Moment::new(-62_135_596_800_000_000).write_to(alloc, &mut out)?;
     assert!(rt;
         out.as_slice() == b"2023-11-14T22:13:29.999999Z0.250s0001-01-01T00:00:00Z".as_slice()
     );

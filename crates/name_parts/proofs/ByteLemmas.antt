@@ -9,16 +9,18 @@ use Rattle.std.proofs.lemmas.List.Elements.{All-nil, All-cons, All-head, All-tai
 use lib.Utf8.{scalar, scalars, encode, encodes, scalar_cases}
 use Rattle.percent_encoding.specs.Percent.{percent_decode}
 use Rattle.percent_encoding.specs.AsciiSet.{should_percent_encode}
-use Rattle.percent_encoding.proofs.PercentLemmas.{IsByte, IsEscapeByte, All-percent_encode, round_trip}
+use Rattle.percent_encoding.proofs.PercentLemmas.{IsByte, IsEscapeByte, All-percent_encode}
 use Rattle.percent_encoding.proofs.OnLiterals.{percent_encoding_on_literals}
 use Rattle.name_parts.specs.declared.escapes.TheConstants.{NAME_SET}
 use Rattle.name_parts.specs.declared.parts.PartForm.{PartForm}
 use Rattle.name_parts.specs.declared.alphabets.Alphabet.TheVariants as alphabet
 use Rattle.name_parts.specs.declared.parts.PartForm.TheVariants.{Letters}
 use Rattle.name_parts.specs.Alphabets.{may_begin, may_follow}
-use Rattle.name_parts.specs.Parts.{IsPart}
+use Rattle.name_parts.specs.Parts.{IsPart, has_letters}
 use Rattle.name_parts.specs.Escapes.{escaped}
-use Rattle.name_parts.proofs.PartLemmas.{IsPart-utf8}
+use Rattle.name_parts.proofs.PartLemmas.{letters-utf8}
+use Rattle.name_parts.proofs.SpellingLemmas.{percent_encode-is}
+use Rattle.name_parts.proofs.EscapeLemmas.{decoded}
 
 small_scalar : (c : ℕ) → scalar c ≡ true → c < 1_114_112
 small_scalar c e = ⊎_elim (λ (low : c < 55_296). omega arith) (λ high. high.1) (scalar_cases c e)
@@ -56,13 +58,16 @@ encodes-bytes (c ∷ cs) e =
 utf8-bytes : (text : List ℕ) → IsUtf8 text → All IsByte text
 utf8-bytes text (cs, valid) = subst (λ (bs : List ℕ). All IsByte bs) valid.1 (encodes-bytes cs valid.0)
 
+pub letters-bytes : (form : PartForm) (text : List ℕ) → has_letters form text ≡ true → All IsByte text
+letters-bytes form text e = utf8-bytes text (letters-utf8 form text e)
+
 pub IsPart-bytes : (form : PartForm) (text : List ℕ) → IsPart form text → All IsByte text
-IsPart-bytes form text part = utf8-bytes text (IsPart-utf8 form text part)
+IsPart-bytes form text part = letters-bytes form text part.letters
 
 -- one text spells at most one part
 pub unescaped : (form : PartForm) (x y : List ℕ) → IsPart form x → IsPart form y → escaped x ≡ escaped y → x ≡ y
 unescaped form x y is is' e =
-    sym (round_trip NAME_SET x refl (IsPart-bytes form x is)) ∙ ap percent_decode e ∙ round_trip NAME_SET y refl (IsPart-bytes form y is')
+    sym (decoded x (IsPart-bytes form x is)) ∙ ap percent_decode e ∙ decoded y (IsPart-bytes form y is')
 
 -- a byte other than a slash
 abbrev IsNoSlash : ℕ → Type 0
@@ -87,7 +92,8 @@ all_test [] all = refl
 all_test (x ∷ xs) all = and_from _ _ (All-head IsNoSlash x xs all) (all_test xs (All-tail IsNoSlash x xs all))
 
 pub escaped_without_slash : (bs : List ℕ) → list_all (λ x. not (x == 47)) (escaped bs) ≡ true
-escaped_without_slash bs = all_test (escaped bs) (All-percent_encode IsNoSlash NAME_SET bs kept_no_slash escape_no_slash)
+escaped_without_slash bs =
+    all_test (escaped bs) (subst (λ (t : List ℕ). All IsNoSlash t) (percent_encode-is bs) (All-percent_encode IsNoSlash NAME_SET bs kept_no_slash escape_no_slash))
 
 begin_no_slash : (b : ℕ) → may_begin alphabet.Invocation b ≡ true → IsNoSlash b
 begin_no_slash b e = grind (arith, nat_tests)

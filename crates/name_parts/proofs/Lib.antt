@@ -3,6 +3,9 @@ pub mod KeyLemmas
 pub mod PartLemmas
 pub mod CutLemmas
 pub mod SequenceLemmas
+pub mod SpellingLemmas
 pub mod EscapeLemmas
 pub mod ByteLemmas
 pub mod PlaceLaws
+pub mod FrontLemmas
+pub mod SpellingLaws

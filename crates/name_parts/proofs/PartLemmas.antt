@@ -114,11 +114,14 @@ alphabet-ascii of [] e i = lit< tt
 alphabet-ascii of (b ∷ bs) e zero = may_begin-ascii of b (and_parts _ _ e).0
 alphabet-ascii of (b ∷ bs) e (suc i) = others_ascii of bs (and_parts _ _ e).1 i
 
--- every part is UTF-8
+-- bytes of a form are UTF-8, and so is every part
+pub letters-utf8 : (form : PartForm) (text : List ℕ) → has_letters form text ≡ true → IsUtf8 text
+letters-utf8 (Letters of) text e = IsUtf8-from_ascii text (alphabet-ascii of text e)
+letters-utf8 TestId text e = plain_text-utf8 text e
+letters-utf8 PairKey text e = IsUtf8-from_ascii text (key-ascii text e)
+
 pub IsPart-utf8 : (form : PartForm) (text : List ℕ) → IsPart form text → IsUtf8 text
-IsPart-utf8 (Letters of) text part = IsUtf8-from_ascii text (alphabet-ascii of text part.letters)
-IsPart-utf8 TestId text part = plain_text-utf8 text part.letters
-IsPart-utf8 PairKey text part = IsUtf8-from_ascii text (key-ascii text part.letters)
+IsPart-utf8 form text part = letters-utf8 form text part.letters
 
 -- what is written out
 pub ascii_literal : (text : List ℕ) → list_all (λ b. nat_lt b 128) text ≡ true → IsAscii text

@@ -45,7 +45,7 @@ pub control_place-here : (text : List ℕ) → begins_control text ≡ true → 
 control_place-here [] control = refl
 control_place-here (b ∷ bs) control = rw control refl
 
-control_place-le : (bs : List ℕ) → control_place bs ≤ length bs
+pub control_place-le : (bs : List ℕ) → control_place bs ≤ length bs
 control_place-le [] = omega arith
 control_place-le (b ∷ bs) =
     elim (begins_control (b ∷ bs)) as (λ t. cond t 0 (1 + control_place bs) ≤ suc (length bs)) [

@@ -2,5 +2,6 @@ pub mod Grammar
 pub mod Alphabets
 pub mod Parts
 pub mod Escapes
+pub mod Spellings
 pub mod Sequences
 pub mod Laws

@@ -1,15 +1,17 @@
 //! Escaped texts: the one spelling of a value in a name.
-ghost use Rattle.std.specs.Prelude.{◌≡◌, ◌≢◌, ◌+◌, ◌*◌, ◌==◌, ◌<◌, ◌≤◌, ◌↔◌, ◌++◌, ℕ, List, [], ◌∷◌, length, take, drop, if◌then◌else◌, IsTrue, IfOk, IfErr, IfSome, MatchOption, OnOk, OnErr, true, false, None, Some, string_bytes};
+ghost use Rattle.std.specs.Prelude.{◌≡◌, ◌≢◌, ◌+◌, ◌*◌, ◌==◌, ◌<◌, ◌≤◌, ◌^◌, ◌↔◌, ◌++◌, ℕ, List, [], ◌∷◌, length, take, drop, if◌then◌else◌, IsTrue, IfOk, IfErr, IfNone, IfSome, MatchOption, OnOk, OnErr, true, false, None, Some, string_bytes};
 ghost use Rattle.std.specs.Char.{digit_value, is_digit};
 ghost use Rattle.std.specs.Str.{IsUtf8};
-ghost use Rattle.percent_encoding.specs.Percent.{encode_byte, percent_decode};
-ghost use Rattle.name_parts.specs.Parts.{IsPart, place_of};
-ghost use Rattle.name_parts.specs.Escapes.{escaped, escaped_fault, front_byte, front_fault, front_len, is_at, is_spelling, misspelt, spelled, spelling_fault};
+ghost use Rattle.percent_encoding.specs.Percent.{percent_decode};
+ghost use Rattle.name_parts.specs.Parts.{IsPart, bad_place, most_bytes, place_of};
+ghost use Rattle.name_parts.specs.Escapes.{escaped, escaped_fault, first_fault, is_plain, is_spelling, misspelt, spelled, spelling};
+ghost use Rattle.name_parts.specs.Spellings.{front_byte, front_fault, front_len, is_at};
 
 use crate::NameFault;
 use crate::parts::{PartForm, first_bad};
+use crate::texts::{all_or_nothing, append};
 use percent_encoding::{
-    AsciiSet, NON_ALPHANUMERIC, ascii_set, percent_decode, percent_encode, percent_encode_byte,
+    AsciiSet, NON_ALPHANUMERIC, ascii_set, percent_decode, percent_encode_byte,
 };
 use std::alloc::{AllocError, Global};
 
@@ -27,6 +29,13 @@ pub(crate) const NAME_SET: AsciiSet = ascii_set!(
         .remove(b':')
         .remove(b'@')
 );
+
+/// Whether the byte stands as itself in a name.
+fn stands_as_itself(byte: u8) -> bool
+    ensures { result ≡ is_plain byte }
+{
+    !NAME_SET.should_percent_encode(byte)
+}
 
 /// The value of a hexadecimal digit of either case.
 fn hex_value(digit: u8) -> Option<u8>
@@ -57,13 +66,14 @@ fn front(text: &[u8]) -> (u8, usize)
 }
 
 /// Whether this is the one spelling of the byte.
+#[tactic(auto, unfolding(crate::specs::Escapes::spelling))]
 fn spells(text: &[u8], byte: u8) -> bool
     ensures { result ≡ is_spelling text.now byte }
 {
-    if NAME_SET.should_percent_encode(byte) {
-        text == percent_encode_byte(byte).as_bytes()
-    } else {
+    if stands_as_itself(byte) {
         text == [byte].as_slice()
+    } else {
+        text == percent_encode_byte(byte).as_bytes()
     }
 }
 
@@ -104,7 +114,7 @@ fn is_bad_at(bad: Option<usize>, index: usize) -> bool
 
 /// The first fault of a text whose value has its first bad byte here.
 fn fault_of_spellings(text: &[u8], bad: Option<usize>) -> Option<NameFault>
-    ensures value { result ≡ spelling_fault bad 0 0 (spelled text.now) }
+    ensures value { result ≡ first_fault bad (spelled text.now) }
     ensures within { IfSome result (λ f. place_of f ≤ length text.now) }
 {
     let mut rest = text;
@@ -126,24 +136,26 @@ fn fault_of_spellings(text: &[u8], bad: Option<usize>) -> Option<NameFault>
     }
 }
 
-/// What is wrong with an escaped part that has this value.
+/// What is wrong with how many bytes an escaped part has: that it is empty, else that its value is too long. Nothing is decoded for it.
 #[tactic(auto, unfolding(crate::specs::Escapes::escaped_fault))]
-fn fault_of_escaped(form: PartForm, text: &[u8], value: &[u8]) -> Option<NameFault>
-    requires { value.now ≡ percent_decode text.now }
-    ensures value { result ≡ escaped_fault form text.now }
-    ensures within { IfSome result (λ f. place_of f ≤ length text.now) }
+fn fault_of_len(form: PartForm, text: &[u8]) -> Option<NameFault>
+    ensures fault { IfSome result (λ f. (escaped_fault form text.now ≡ Some f) × (place_of f ≡ 0)) }
+    ensures none { IfNone result (escaped_fault form text.now ≡ first_fault (bad_place form (percent_decode text.now)) (spelled text.now)) }
+    ensures few { IfNone result (length (percent_decode text.now) ≤ most_bytes form) }
 {
     if text.is_empty() {
         return Some(NameFault::Empty);
     }
-    if value.len() > form.most() {
-        return Some(NameFault::TooLong { len: value.len() });
+    let len = percent_decode(text).count();
+    if len > form.most() {
+        return Some(NameFault::TooLong { len });
     }
-    fault_of_spellings(text, first_bad(form, value))
+    None
 }
 
-/// The bytes that a text spells, in any spelling.
+/// The few bytes that a text spells, in any spelling.
 fn unescaped(alloc: Global, text: &[u8]) -> Result<Vec<u8>, AllocError>
+    requires { length (percent_decode text.now) ≤ 512 }
     ensures { IfOk result (λ v. v.items ≡ percent_decode text.now) }
 {
     let mut value = Vec::new(alloc);
@@ -169,19 +181,58 @@ pub fn read_escaped(alloc: Global, form: PartForm, text: &[u8]) -> Result<String
     ensures fault { IfErr result (λ f. f ≢ NameFault.Memory → escaped_fault form text.now ≡ Some f) }
     ensures within { IfErr result (λ f. place_of f ≤ length text.now) }
 {
+    if let Some(fault) = fault_of_len(form, text) {
+        return Err(fault);
+    }
     let value = unescaped(alloc, text)?;
-    if let Some(fault) = fault_of_escaped(form, text, value.as_slice()) {
+    if let Some(fault) = fault_of_spellings(text, first_bad(form, value.as_slice())) {
         return Err(fault);
     }
     Ok(text_of(value))
 }
 
+/// How many bytes the one spelling of bytes has, of which there are not too many.
+pub fn escaped_len(bytes: &[u8]) -> usize
+    requires { length bytes.now < 2 ^ 32 }
+    ensures { result ≡ length (escaped bytes.now) }
+{
+    let mut len = 0;
+    for byte in bytes {
+        len += if stands_as_itself(*byte) { 1 } else { 3 };
+    }
+    len
+}
+
+/// Appends the one spelling of a byte, all of it or, where there is no memory for it, nothing.
+#[tactic(auto, unfolding(crate::specs::Escapes::spelling))]
+fn append_spelling(out: &mut Vec<u8>, byte: u8) -> Result<(), AllocError>
+    ensures ok { OnOk result (out.new.items ≡ out.old.items ++ spelling byte) }
+    ensures err { OnErr result (out.new.items ≡ out.old.items) }
+{
+    if stands_as_itself(byte) {
+        append(out, &[byte])
+    } else {
+        append(out, percent_encode_byte(byte).as_bytes())
+    }
+}
+
+/// Appends the one spelling of bytes, or a front of it where there is no memory for the rest.
+fn append_spellings(out: &mut Vec<u8>, bytes: &[u8]) -> Result<(), AllocError>
+    ensures ok { OnOk result (out.new.items ≡ out.old.items ++ escaped bytes.now) }
+    ensures front { take (length out.old.items) out.new.items ≡ out.old.items }
+{
+    for byte in bytes {
+        append_spelling(out, *byte)?;
+    }
+    Ok(())
+}
+
 /// Appends the one spelling of bytes, all of it or, where there is no memory for it, nothing.
-pub fn append_escaped(alloc: Global, out: &mut Vec<u8>, bytes: &[u8]) -> Result<(), AllocError>
+pub fn append_escaped(out: &mut Vec<u8>, bytes: &[u8]) -> Result<(), AllocError>
     ensures ok { OnOk result (out.new.items ≡ out.old.items ++ escaped bytes.now) }
     ensures err { OnErr result (out.new.items ≡ out.old.items) }
 {
-    let mut text = String::new(alloc);
-    percent_encode(bytes, NAME_SET).append_to(&mut text)?;
-    out.extend_from_slice(text.as_bytes())
+    let before = out.len();
+    let appended = append_spellings(out, bytes);
+    all_or_nothing(out, before, appended)
 }

@@ -15,7 +15,7 @@ mod tests;
 mod texts;
 
 pub use alphabets::Alphabet;
-pub use escapes::{append_escaped, read_escaped};
+pub use escapes::{append_escaped, escaped_len, read_escaped};
 pub use faults::NameFault;
 pub use lists::{Bytes, Numbers};
 pub use parts::{
@@ -23,4 +23,4 @@ pub use parts::{
     shifted_fault,
 };
 pub use sequences::{read_behind, read_name, rest_behind};
-pub use texts::{append, bad_in_literal, len_before, owned_text, same, utf8_len};
+pub use texts::{all_or_nothing, append, bad_in_literal, len_before, owned_text, same, utf8_len};

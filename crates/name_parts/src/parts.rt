@@ -114,7 +114,13 @@ pub fn fault_unless_empty(form: PartForm, text: &[u8]) -> Option<NameFault>
     ensures value { result ≡ unempty_fault form text.now }
     ensures within { IfSome result (λ f. place_of f ≤ length text.now) }
 {
-    limited(form.most(), text.len(), first_bad(form, text))
+    if text.len() > form.most() {
+        return Some(NameFault::TooLong { len: text.len() });
+    }
+    match first_bad(form, text) {
+        Some(at) => Some(NameFault::BadByte { at }),
+        None => None,
+    }
 }
 
 /// What is wrong with a part: that it is empty, else too long, else its first bad place.

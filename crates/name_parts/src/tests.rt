@@ -1,5 +1,7 @@
 //! Parts and their spellings, taken from the formats.
-use crate::{Alphabet, NameFault, PartForm, append_escaped, read_escaped, read_name, read_part};
+use crate::{
+    Alphabet, NameFault, PartForm, append_escaped, escaped_len, read_escaped, read_name, read_part,
+};
 use std::alloc::Global;
 use std::test::Fail;
 
@@ -40,13 +42,15 @@ const PARTS: [(PartForm, &str, Option<NameFault>); 12] = [
 ];
 
 /// Escaped ids of tests that are none, and their faults.
-const ESCAPED: [(&str, NameFault); 6] = [
+const ESCAPED: [(&str, NameFault); 8] = [
     ("", NameFault::Empty),
     ("%41", NameFault::NotCanonical { at: 0 }),
     ("a%2fb", NameFault::NotCanonical { at: 1 }),
     ("a%0a", NameFault::NotCanonical { at: 1 }),
     ("a%0A", NameFault::BadByte { at: 1 }),
     ("a b", NameFault::BadByte { at: 1 }),
+    ("a!b", NameFault::BadByte { at: 1 }),
+    ("%7E", NameFault::NotCanonical { at: 0 }),
 ];
 
 fn fault_of(read: Result<String, NameFault>) -> Option<NameFault> {
@@ -77,7 +81,7 @@ fn reads_parts(rt: HostRuntime) -> Result<(), Fail> {
 fn again(alloc: Global, text: &[u8]) -> Result<Vec<u8>, NameFault> {
     let part = read_escaped(alloc, PartForm::TestId, text)?;
     let mut out = Vec::new(alloc);
-    append_escaped(alloc, &mut out, part.as_bytes())?;
+    append_escaped(&mut out, part.as_bytes())?;
     Ok(out)
 }
 
@@ -89,6 +93,7 @@ fn reads_and_writes_spellings(rt: HostRuntime) -> Result<(), Fail> {
         panic!(rt; "not read");
     };
     assert!(rt; written.as_slice() == text.as_slice());
+    assert!(rt; escaped_len(b"a/b") == 5);
     let form = PartForm::Letters(Alphabet::Outcome);
     let Ok(part) = read_name(alloc, b"results/", form, b"results/r1") else {
         panic!(rt; "not read");

@@ -1,5 +1,5 @@
 //! Texts of the values: each is ASCII or UTF-8, so that it is a `str` at no cost.
-ghost use Rattle.std.specs.Prelude.{◌≡◌, IfOk, OnOk, OnErr, ◌++◌, string_bytes, ◌↔◌, ◌==◌, ◌<◌, ◌≤◌, nat_eq, true, length, IfSome, IsTrue};
+ghost use Rattle.std.specs.Prelude.{◌≡◌, IfOk, OnOk, OnErr, ◌++◌, string_bytes, ◌↔◌, ◌==◌, ◌<◌, ◌≤◌, nat_eq, true, length, take, IfSome, IsTrue};
 ghost use Rattle.std.specs.List.{common_prefix_len, position, position_or_len};
 ghost use Rattle.name_parts.specs.Parts.{begins_control, control_place, key_place_from, key_step, literal_bad_place, text_place};
 ghost use Rattle.std.specs.Str.{IsUtf8};
@@ -25,6 +25,22 @@ pub fn append(out: &mut Vec<u8>, bytes: &[u8]) -> Result<(), AllocError>
     ensures err { OnErr result (out.new.items ≡ out.old.items) }
 {
     out.extend_from_slice(bytes)
+}
+
+/// Hands on how appending went, and where it failed takes away what stands behind so many bytes.
+pub fn all_or_nothing(
+    out: &mut Vec<u8>,
+    before: usize,
+    appended: Result<(), AllocError>,
+) -> Result<(), AllocError>
+    ensures same { result ≡ appended }
+    ensures ok { OnOk result (out.new.items ≡ out.old.items) }
+    ensures err { OnErr result (out.new.items ≡ take before out.old.items) }
+{
+    if appended.is_err() {
+        out.truncate(before);
+    }
+    appended
 }
 
 /// Whether two texts have the same bytes.

@@ -2,7 +2,7 @@
 use Rattle.std.proofs.Common.{◌≡◌, ◌<◌, refl, sym, ◌∙◌, ap, ℕ, zero, suc, List, [], ◌∷◌, ◌++◌, length, take, drop, min, append_assoc, arith}
 use Rattle.std.proofs.lemmas.List.{take-append-drop}
 use Rattle.std.specs.List.{concat}
-use Rattle.outside.specs.Incoming.{put_front, without_empty, first_piece, pieces_after}
+use Rattle.outside.specs.Pieces.{put_front, without_empty, first_piece, pieces_after}
 
 -- The piece at hand is the first of those that aren't empty.
 pub first_is : (current : List ℕ) (others pieces : List (List ℕ)) → without_empty (current ∷ others) ≡ pieces

@@ -4,18 +4,16 @@ use Rattle.outside.specs.Bytes.{Took, Gave}
 use Rattle.outside.specs.Whole.{TookFront}
 
 pub took_nothing : (written : Option (List ℕ)) → Took written [] written
-took_nothing None = refl
+took_nothing None = tt
 took_nothing (Some bytes) = ap Some (sym (append-nil bytes))
 
 pub took_both : (before : Option (List ℕ)) (first second : List ℕ) (between now : Option (List ℕ)) → Took before first between
     → Took between second now → Took before (first ++ second) now
-took_both None first second None now p q = q
-took_both None first second (Some m) now p q = cc
+took_both None first second between now p q = tt
 took_both (Some b) first second None now p q = cc
 took_both (Some b) first second (Some m) now p q =
     let middle : m ≡ b ++ first = cc in
-    let joined : (b ++ first) ++ second ≡ b ++ (first ++ second) = append_assoc b first second in
-    cc (ap (λ x. x ++ second) middle)
+    q ∙ ap (λ x. Some (x ++ second)) middle ∙ ap Some (append_assoc b first second)
 
 -- A front of the first bytes alone.
 pub front_of_first : (before : Option (List ℕ)) (first second : List ℕ) (now : Option (List ℕ)) → TookFront before first now
@@ -38,13 +36,12 @@ front_of_second before first second between now p q = record {
 }
 
 pub gave_nothing : (left : Option (List ℕ)) → Gave left [] left
-gave_nothing None = refl
+gave_nothing None = tt
 gave_nothing (Some bytes) = (bytes, refl, refl)
 
 pub gave_both : (before : Option (List ℕ)) (first second : List ℕ) (between now : Option (List ℕ)) → Gave before first between
     → Gave between second now → Gave before (first ++ second) now
-gave_both None first second None now p q = q
-gave_both None first second (Some m) now p q = cc
+gave_both None first second between now p q = tt
 gave_both (Some b) first second None now p q = cc
 gave_both (Some b) first second (Some m) now p q =
     let middle : p.0 ≡ m = cc in

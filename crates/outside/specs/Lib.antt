@@ -1,8 +1,7 @@
 pub mod Bytes
+pub mod Ends
 pub mod Whole
-pub mod Incoming
-pub mod Outgoing
+pub mod Pieces
+pub mod Output
 pub mod Memory
 pub mod Moments
-pub mod StreamCounts
-pub mod Streams

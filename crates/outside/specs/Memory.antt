@@ -1,9 +1,11 @@
 -- What contracts see of the ends in memory.
-use Rattle.std.specs.Prelude.{◌≡◌, ℕ, List, min, length, drop, Result, Ok, Err, IfOk}
+use Rattle.std.specs.Prelude.{◌≡◌, ℕ, List, min, length, drop, Some, Result, Ok, Err, IfOk}
+use Rattle.std.specs.List.{concat}
 use Rattle.fault_counts.specs.Causes.{counted}
 use Rattle.fault_counts.specs.Calls.{Calls, one_call_more}
-use Rattle.outside.specs.Incoming.{pieces_after}
-use Rattle.outside.specs.Outgoing.{Output, output_after}
+use Rattle.outside.specs.Pieces.{pieces_after}
+use Rattle.outside.specs.Ends.{Incoming, Outgoing, Ends}
+use Rattle.outside.specs.Output.{Output, output_after, output_ends}
 use Rattle.fault_counts.specs.declared.Failed.{Failed}
 use Rattle.fault_counts.specs.declared.schedule.Outcome.{Outcome}
 use Rattle.fault_counts.specs.declared.schedule.Outcome.TheVariants.{Works, Fails, Stalls}
@@ -25,6 +27,19 @@ pub record LinkState : Type 0 where
   pub pieces : List (List ℕ)
   pub read_faults : ℕ
   pub output : Output
+
+-- What each of them tells.
+abbrev pub source_ends : SourceState → Incoming
+source_ends source = record { left = Some source.left; faults = source.faults }
+
+abbrev pub sink_ends : SinkState → Outgoing
+sink_ends sink = output_ends sink.output
+
+abbrev pub link_ends : LinkState → Ends
+link_ends link = record {
+  incoming = record { left = Some (concat link.pieces); faults = link.read_faults };
+  outgoing = output_ends link.output;
+}
 
 -- A read that works gives as many of the bytes at hand as fit into the room. Every other read fails.
 abbrev pub EndsRead : Outcome → List ℕ → List ℕ → Result ℕ Failed → Type 0

@@ -2,6 +2,7 @@
 use Rattle.std.specs.Prelude.{◌≡◌, ℕ, ◌≤◌, List, ◌++◌, Option, Result, Ok, Err}
 use Rattle.fault_counts.specs.Causes.{Rose}
 use Rattle.outside.specs.Bytes.{Took}
+use Rattle.outside.specs.Ends.{Outgoing}
 use Rattle.outside.specs.declared.whole.WriteEnd.{WriteEnd}
 use Rattle.outside.specs.declared.whole.WriteEnd.TheVariants.{WriteFault, SinkTakesNothing}
 
@@ -17,14 +18,21 @@ abbrev pub IsWritten : {T E : Type 0} → Option (List ℕ) → List ℕ → Res
 IsWritten before bytes (Ok done) now = Took before bytes now
 IsWritten before bytes (Err e) now = TookFront before bytes now
 
--- The count of faults never falls, and a write fault raised it.
+-- The count of faults rose at a write fault, and stays at every other end.
 abbrev pub CountsFault : {T : Type 0} → ℕ → Result T WriteEnd → ℕ → Type 0
-CountsFault before (Ok done) now = before ≤ now
+CountsFault before (Ok done) now = now ≡ before
 CountsFault before (Err WriteFault) now = (before ≤ now) × Rose before now
-CountsFault before (Err SinkTakesNothing) now = before ≤ now
+CountsFault before (Err SinkTakesNothing) now = now ≡ before
 
--- The count of stalls rose where the sink took nothing, and nowhere else.
+-- The count of stalls rose where the sink took nothing, and stays at every other end.
 abbrev pub CountsEnd : {T : Type 0} → ℕ → Result T WriteEnd → ℕ → Type 0
 CountsEnd before (Ok done) now = now ≡ before
 CountsEnd before (Err WriteFault) now = now ≡ before
 CountsEnd before (Err SinkTakesNothing) now = (before ≤ now) × Rose before now
+
+-- What a write of a whole piece did.
+pub record WritesWhole {T : Type 0} (before : Outgoing) (bytes : List ℕ) (result : Result T WriteEnd) (after : Outgoing)
+    : Type 0 where
+  pub written : IsWritten before.written bytes result after.written
+  pub faults : CountsFault before.faults result after.faults
+  pub stalls : CountsEnd before.stalls result after.stalls

@@ -1,4 +1,4 @@
-// What time it is.
+//! What time it is.
 ghost use Rattle.std.specs.Prelude.{ℤ, ◌≡◌, List, ◌∷◌};
 
 mod list;

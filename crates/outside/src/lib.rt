@@ -4,6 +4,7 @@
 #![tactic(auto)]
 
 mod clock;
+mod either_end;
 mod link;
 mod memory;
 mod pair;
@@ -14,13 +15,14 @@ mod stream;
 mod whole;
 
 pub use clock::{Clock, ListClock, WallClock};
+pub use either::Either;
 pub use fault_counts::{Failed, counts_add_up};
 pub use link::Link;
 pub use memory::{MemoryLink, MemorySink, MemorySource};
 pub use pair::PairLink;
 pub use sink::Sink;
 pub use source::Source;
-pub use standard::{Standard, StdErr, StdIn, StdOut};
+pub use standard::{StdErr, StdIn, StdOut};
 pub use stream::{StreamSink, StreamSource};
 pub use whole::{WriteEnd, put_whole, write_whole};
 

@@ -1,27 +1,16 @@
-// A connection's two directions.
-ghost use Rattle.std.specs.Prelude.{ℕ, ◌≡◌, List, Option};
-ghost use Rattle.std.specs.Io.{ReadsAtMost, WritesAtMost};
+//! A connection's two directions.
+ghost use Rattle.std.specs.Prelude.{◌≡◌, List};
 ghost use Rattle.std.specs.Borrow.{GName};
-ghost use Rattle.fault_counts.specs.Causes.{HasCause, CountsStall};
-ghost use Rattle.outside.specs.Bytes.{Reads, Writes};
+ghost use Rattle.outside.specs.Ends.{Ends, OnlyReads, OnlyWrites, ReadsOnce, WritesOnce};
 
 use crate::Failed;
 
 /// A connection: bytes come in and go out.
 ///
-/// `read_faults` counts the reads that failed, and `write_faults` the writes. `left` is that of a `Source`, `stalls` and
-/// `written` are those of a `Sink`. `holds` names the references that a link reads and writes through, and no call
-/// exchanges them.
+/// `ends` is what a `Source` and a `Sink` tell. `holds` names the references that a link reads and writes through, and
+/// no call exchanges them.
 pub trait Link {
-    ghost read_faults: { Self → ℕ };
-
-    ghost write_faults: { Self → ℕ };
-
-    ghost stalls: { Self → ℕ };
-
-    ghost left: { Self → Option (List ℕ) };
-
-    ghost written: { Self → Option (List ℕ) };
+    ghost ends: { Self → Ends };
 
     ghost holds: { Self → List GName };
 
@@ -29,21 +18,14 @@ pub trait Link {
     ///
     /// 0 into room that isn't empty is the end of input. After `Failed` nothing was given.
     fn read(&mut self, room: &mut [u8]) -> Result<usize, Failed>
-        ensures bound { ReadsAtMost result room.new }
-        ensures cause { HasCause (read_faults self.old) (read_faults self.new) result }
-        ensures gives { Reads (left self.old) room.new result (left self.new) }
-        ensures write_faults { write_faults self.new ≡ write_faults self.old }
-        ensures stalls { stalls self.new ≡ stalls self.old }
-        ensures written { written self.new ≡ written self.old }
+        ensures read { ReadsOnce (ends self.old).incoming room.new result (ends self.new).incoming }
+        ensures only { OnlyReads (ends self.old) (ends self.new) }
         ensures holds { holds self.new ≡ holds self.old };
 
     /// Takes a front of `piece`, and answers how many bytes it took. After `Failed` nothing was taken.
     fn write(&mut self, piece: &[u8]) -> Result<usize, Failed>
-        ensures bound { WritesAtMost result piece.now }
-        ensures cause { HasCause (write_faults self.old) (write_faults self.new) result }
-        ensures takes { Writes (written self.old) piece.now result (written self.new) }
-        ensures stalls { CountsStall (stalls self.old) piece.now result (stalls self.new) }
-        ensures read_faults { read_faults self.new ≡ read_faults self.old }
-        ensures left { left self.new ≡ left self.old }
+        ensures write { WritesOnce (ends self.old).outgoing piece.now result
+            (ends self.new).outgoing }
+        ensures only { OnlyWrites (ends self.old) (ends self.new) }
         ensures holds { holds self.new ≡ holds self.old };
 }

@@ -1,8 +1,8 @@
 //! Ends in memory, for tests.
 
-mod incoming;
 mod link;
-mod outgoing;
+mod output;
+mod pieces;
 mod sink;
 mod source;
 

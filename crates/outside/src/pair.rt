@@ -1,11 +1,9 @@
-// A connection made of an end that reads and an end that writes.
+//! A connection made of an end that reads and an end that writes.
 ghost use Rattle.std.specs.Prelude.{◌≡◌, [], ◌∷◌};
 
 use crate::{Failed, Link, Sink, Source};
 
 /// A `Link` that reads from a `Source` and writes to a `Sink`, by their references.
-///
-/// Its `read_faults` are the source's faults, its `write_faults` the sink's.
 #[derive(Drop)]
 pub struct PairLink<'a, I: Source, O: Sink> {
     pub source: &'a mut I,
@@ -26,15 +24,7 @@ impl<'a, I: Source, O: Sink> PairLink<'a, I, O> {
 impl<'a, I: Source, O: Sink> Link for PairLink<'a, I, O> {
     ghost use Rattle.std.specs.Prelude.{[], ◌∷◌};
 
-    ghost read_faults = { λ p. I.faults p.source.now };
-
-    ghost write_faults = { λ p. O.faults p.sink.now };
-
-    ghost stalls = { λ p. O.stalls p.sink.now };
-
-    ghost left = { λ p. I.left p.source.now };
-
-    ghost written = { λ p. O.written p.sink.now };
+    ghost ends = { λ p. record { incoming = I.ends p.source.now; outgoing = O.ends p.sink.now } };
 
     ghost holds = { λ p. p.source.ghost_name ∷ p.sink.ghost_name ∷ [] };
 

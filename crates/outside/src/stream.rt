@@ -1,15 +1,14 @@
-// Readers and writers of the system as a source and a sink: one system call a call, and no buffer.
-ghost use Rattle.std.specs.Prelude.{◌≡◌, None, MatchResult};
-ghost use Rattle.std.specs.Io.{ReadsAtMost, WritesAtMost};
-ghost use Rattle.fault_counts.specs.Causes.{HasCause, CountsStall, counted};
-ghost use Rattle.outside.specs.Bytes.{Reads, Writes};
+//! Readers and writers of the system as a source and a sink: one system call a call, and no buffer.
+ghost use Rattle.std.specs.Prelude.{◌≡◌, MatchResult};
+ghost use Rattle.fault_counts.specs.Causes.{counted};
+ghost use Rattle.outside.specs.Ends.{ReadsOnce, WritesOnce};
 
 use crate::{Failed, Sink, Source};
 use fault_counts::Count;
 use std::io::{Read, Write};
 use std::marker::Model;
 
-/// A reader as a source. It tells nothing of its bytes.
+/// A reader as a source. It tells what std tells of the reader's bytes.
 #[derive(Drop)]
 pub struct StreamSource<S: Read + Drop> {
     stream: S,
@@ -17,16 +16,16 @@ pub struct StreamSource<S: Read + Drop> {
 }
 
 impl<S: Read + Drop> Model for StreamSource<S> {
-    ghost use Rattle.std.specs.Prelude.{ℕ};
+    ghost use Rattle.outside.specs.Ends.{Incoming};
 
-    ghost Value = { ℕ };
+    ghost Value = { Incoming };
 
-    ghost view = { λ s. s.faults };
+    ghost view = { λ s. record { left = S.remaining s.stream; faults = s.faults } };
 }
 
 impl<S: Read + Drop> StreamSource<S> {
     pub fn new(stream: S) -> StreamSource<S>
-        ensures { result ≡ 0 }
+        ensures { result ≡ record { left = S.remaining stream; faults = 0 } }
     {
         StreamSource {
             stream,
@@ -36,25 +35,20 @@ impl<S: Read + Drop> StreamSource<S> {
 
     /// How many reads failed.
     pub fn faults(&self) -> u64
-        ensures { result ≡ self.now }
+        ensures { result ≡ self.now.faults }
     {
         self.faults.value()
     }
 }
 
 impl<S: Read + Drop> Source for StreamSource<S> {
-    ghost use Rattle.std.specs.Prelude.{None};
-
-    ghost faults = { λ s. s };
-
-    ghost left = { λ _. None };
+    ghost ends = { λ s. s };
 
     /// Reads once. A read that fails is counted, and no other.
     fn read(&mut self, room: &mut [u8]) -> Result<usize, Failed>
-        ensures bound { ReadsAtMost result room.new }
-        ensures cause { HasCause self.old self.new result }
-        ensures gives { Reads None room.new result None }
-        ensures faults { MatchResult result (λ _. self.new ≡ self.old) (λ _. self.new ≡ counted self.old) }
+        ensures read { ReadsOnce self.old room.new result self.new }
+        ensures faults { MatchResult result (λ _. self.new.faults ≡ self.old.faults)
+            (λ _. self.new.faults ≡ counted self.old.faults) }
     {
         match self.stream.read(room) {
             Ok(count) => Ok(count),
@@ -63,7 +57,7 @@ impl<S: Read + Drop> Source for StreamSource<S> {
     }
 }
 
-/// A writer as a sink. It tells nothing of its bytes.
+/// A writer as a sink. It tells what std tells of the writer's bytes.
 #[derive(Drop)]
 pub struct StreamSink<S: Write + Drop> {
     stream: S,
@@ -72,16 +66,20 @@ pub struct StreamSink<S: Write + Drop> {
 }
 
 impl<S: Write + Drop> Model for StreamSink<S> {
-    ghost use Rattle.outside.specs.StreamCounts.{StreamCounts};
+    ghost use Rattle.outside.specs.Ends.{Outgoing};
 
-    ghost Value = { StreamCounts };
+    ghost Value = { Outgoing };
 
-    ghost view = { λ s. record { faults = s.faults; stalls = s.stalls } };
+    ghost view = { λ s. record {
+      written = S.contents s.stream;
+      faults = s.faults;
+      stalls = s.stalls;
+    } };
 }
 
 impl<S: Write + Drop> StreamSink<S> {
     pub fn new(stream: S) -> StreamSink<S>
-        ensures { result ≡ record { faults = 0; stalls = 0 } }
+        ensures { result ≡ record { written = S.contents stream; faults = 0; stalls = 0 } }
     {
         StreamSink {
             stream,
@@ -106,20 +104,11 @@ impl<S: Write + Drop> StreamSink<S> {
 }
 
 impl<S: Write + Drop> Sink for StreamSink<S> {
-    ghost use Rattle.std.specs.Prelude.{None};
-
-    ghost faults = { λ s. s.faults };
-
-    ghost stalls = { λ s. s.stalls };
-
-    ghost written = { λ _. None };
+    ghost ends = { λ s. s };
 
     /// Writes once. A write that fails is counted as a fault, and no other.
     fn write(&mut self, piece: &[u8]) -> Result<usize, Failed>
-        ensures bound { WritesAtMost result piece.now }
-        ensures cause { HasCause self.old.faults self.new.faults result }
-        ensures takes { Writes None piece.now result None }
-        ensures stalls { CountsStall self.old.stalls piece.now result self.new.stalls }
+        ensures write { WritesOnce self.old piece.now result self.new }
         ensures faults { MatchResult result (λ _. self.new.faults ≡ self.old.faults)
             (λ _. self.new.faults ≡ counted self.old.faults) }
     {

@@ -1,6 +1,6 @@
-// What the ends give and take, call by call.
-ghost use Rattle.std.specs.Prelude.{◌≡◌, [], length, IfOk};
-ghost use Rattle.outside.specs.Whole.{CountsFault};
+//! What the ends give and take, call by call.
+ghost use Rattle.std.specs.Prelude.{◌≡◌, ℕ, List, [], ◌++◌, length, take, IfOk};
+ghost use Rattle.outside.specs.Whole.{WritesWhole};
 
 use crate::*;
 use std::alloc::{AllocError, Global};
@@ -122,9 +122,8 @@ fn write_beside<I: Source, O: Sink>(
     sink: &mut O,
     bytes: &[u8],
 ) -> Result<(), WriteEnd>
-    ensures source_faults { I.faults source.new ≡ I.faults source.old }
-    ensures source_left { I.left source.new ≡ I.left source.old }
-    ensures sink_faults { CountsFault (O.faults sink.old) result (O.faults sink.new) }
+    ensures source { I.ends source.new ≡ I.ends source.old }
+    ensures sink { WritesWhole (O.ends sink.old) bytes.now result (O.ends sink.new) }
 {
     write_whole(&mut PairLink::new(source, sink), bytes)
 }
@@ -156,11 +155,7 @@ struct OneByOne {
 impl Sink for OneByOne {
     ghost use Rattle.std.specs.Prelude.{None};
 
-    ghost faults = { λ _. 0 };
-
-    ghost stalls = { λ _. 0 };
-
-    ghost written = { λ _. None };
+    ghost ends = { λ _. record { written = None; faults = 0; stalls = 0 } };
 
     fn write(&mut self, piece: &[u8]) -> Result<usize, Failed> {
         let count = piece.len().min(1);
@@ -207,14 +202,55 @@ fn clocks_answer(rt: HostRuntime) -> Result<(), Fail> {
     Ok(())
 }
 
+/// A stream over bytes gives a front of them, and tells so.
+fn read_front(bytes: &[u8], room: &mut [u8]) -> Result<usize, Failed>
+    ensures { IfOk result (λ count. (rest : List ℕ) × (bytes.now ≡ take count room.new ++ rest)) }
+{
+    StreamSource::new(bytes).read(room)
+}
+
+#[test]
+fn streams_give_and_take_the_bytes_of_theirs(rt: HostRuntime) -> Result<(), Fail> {
+    let mut room = [0u8; 2];
+    assert_eq!(rt; read_front(b"abc", &mut room).ok(), Some(2));
+    assert_eq!(rt; room, [b'a', b'b']);
+    let mut source = StreamSource::new(b"abc".as_slice());
+    for expected in [Some(2), Some(1), Some(0)] {
+        assert_eq!(rt; source.read(&mut room).ok(), expected);
+    }
+    assert_eq!(rt; (room, source.faults()), ([b'c', b'b'], 0));
+    let mut taken = Vec::new(rt.alloc());
+    let mut sink = StreamSink::new(&mut taken);
+    assert_eq!(rt; sink.write(b"ab").ok(), Some(2));
+    assert!(rt; put_whole(&mut sink, b"cd").is_ok());
+    assert_eq!(rt; (sink.faults(), sink.stalls()), (0, 0));
+    assert_eq!(rt; taken.as_slice(), b"abcd".as_slice());
+    Ok(())
+}
+
+#[test]
+fn an_end_of_two_is_the_one_that_is_there(rt: HostRuntime) -> Result<(), Fail> {
+    let left = new_source(rt.alloc(), b"a", &[])?;
+    let mut sources = [
+        Either::Left(left),
+        Either::Right(StreamSource::new(b"b".as_slice())),
+    ];
+    let mut room = [0u8; 1];
+    for (source, byte) in sources.iter_mut().zip([b'a', b'b']) {
+        assert_eq!(rt; source.read(&mut room).ok(), Some(1));
+        assert_eq!(rt; room, [byte]);
+    }
+    Ok(())
+}
+
 #[test]
 fn standard_streams_take_and_give_nothing(rt: HostRuntime) {
     let mut input = StdIn::new(rt.stdin());
     assert!(rt; input.read(&mut []).is_ok());
     assert_eq!(rt; input.faults(), 0);
     for mut stream in [
-        Standard::Out(StdOut::new(rt.stdout())),
-        Standard::Err(StdErr::new(rt.stderr())),
+        Either::Left(StdOut::new(rt.stdout())),
+        Either::Right(StdErr::new(rt.stderr())),
     ] {
         assert!(rt; stream.write(b"").is_ok());
     }

@@ -1,43 +1,68 @@
 -- Histories keep worlds valid, add rows alone, and go on by one call.
-use Rattle.std.proofs.Common.{◌≡◌, ℤ, ◌≤ℤ◌, List, [], ◌∷◌, ◌++◌, append-nil, append_assoc, inl, inr, refl, sym, ap, ◌∙◌, subst}
+use Rattle.std.proofs.Common.{◌≡◌, ℤ, ◌≤ℤ◌, ◌⊎◌, List, [], ◌∷◌, ◌++◌, append-nil, append_assoc, inl, inr, refl, sym, ap, ◌∙◌, subst}
+use Rattle.service_core.specs.Settings.{Settings}
 use Rattle.service_core.specs.declared.asked.Asked.{Asked}
+use Rattle.service_core.specs.declared.forms.Answer.{Answer}
 use Rattle.service_core.specs.declared.forms.Standin.TheVariants.{Unavailable, Memory, Spent}
 use Rattle.service_core.specs.declared.forms.Told.{Told}
 use Rattle.service_core.specs.declared.forms.Told.TheVariants.{Made, Standin as Instead}
+use Rattle.service_core.specs.declared.requests.Request.{Request}
+use Rattle.service_core.specs.declared.requests.Request.TheVariants.{CreateInvocation}
 use Rattle.service_core.specs.declared.rows.Invocation.{Invocation}
 use Rattle.service_core.specs.World.{World, IsValid, IsCallMoment, new_row}
+use Rattle.service_core.specs.Requests.{Asks}
+use Rattle.service_core.specs.Step.{id_taken, Step, Refuses, Performs, IsAccepted, acted}
 use Rattle.service_core.specs.History.{Tells, IsTimed}
 use Rattle.service_core.specs.Laws.{RowsStay, LegalKeepsValid, TimedIsLegal, TimedGoesOn}
-use Rattle.service_core.proofs.WorldLaws.{valid-with_row}
+use Rattle.service_core.proofs.WorldLaws.{row-new, valid-with_row}
 
-tells_keeps_valid : (w : World) (moment : ℤ) (asked : Asked) (told : Told) (after : World) → IsCallMoment moment → w.last ≤ℤ moment
-    → Tells w moment asked told after → IsValid w → IsValid after
-tells_keeps_valid w moment asked (Made answer) after call later (inl refused) valid = subst IsValid (sym refused.same) valid
-tells_keeps_valid w moment asked (Made answer) after call later (inr creates) valid =
-    subst IsValid (sym creates.added) (valid-with_row w (new_row moment creates.id creates.realm) valid creates.accepts.free call later)
-tells_keeps_valid w moment asked (Instead Memory) after call later same valid = subst IsValid (sym same) valid
-tells_keeps_valid w moment asked (Instead Unavailable) after call later never valid = absurd never
-tells_keeps_valid w moment asked (Instead Spent) after call later never valid = absurd never
+-- a request that breaks no rule leads to a valid world
+pub valid-acted : (s : Settings) (w : World) (moment : ℤ) (asked : Asked) (request : Request) → IsValid w → IsCallMoment moment
+    → w.last ≤ℤ moment → IsAccepted s w moment asked request → IsValid (acted w moment request)
+valid-acted s w moment asked (CreateInvocation id realm) valid call later accepted =
+    valid-with_row w (new_row moment id realm) valid
+    (λ there. accepted.unbroken (id_taken id) (inr (record { request = CreateInvocation id realm; asks = accepted.asks; takes = (there, refl) })))
+    call later (row-new moment id realm accepted.asks.asks.1 accepted.asks.asks.2 call)
+
+judged_keeps_valid : (s : Settings) (w : World) (moment : ℤ) (asked : Asked) (answer : Answer) (after : World) → IsCallMoment moment
+    → w.last ≤ℤ moment → Refuses s w moment asked after answer ⊎ Performs s w moment asked after answer → IsValid w → IsValid after
+judged_keeps_valid s w moment asked answer after call later (inl refused) valid = subst IsValid (sym refused.same) valid
+judged_keeps_valid s w moment asked answer after call later (inr performs) valid =
+    subst IsValid (sym performs.acted_on) (valid-acted s w moment asked performs.request valid call later performs.accepted)
+
+step_keeps_valid : (s : Settings) (w : World) (moment : ℤ) (asked : Asked) (answer : Answer) (after : World) → IsCallMoment moment
+    → w.last ≤ℤ moment → Step s w moment asked after answer → IsValid w → IsValid after
+step_keeps_valid s w moment asked answer after call later step valid =
+    judged_keeps_valid s w moment asked answer after call later
+    (subst (λ (u : World). Refuses s u moment asked after answer ⊎ Performs s u moment asked after answer) step.advances step.judged) valid
+
+tells_keeps_valid : (s : Settings) (w : World) (moment : ℤ) (asked : Asked) (told : Told) (after : World) → IsCallMoment moment
+    → w.last ≤ℤ moment → Tells s w moment asked told after → IsValid w → IsValid after
+tells_keeps_valid s w moment asked (Made answer) after call later step valid = step_keeps_valid s w moment asked answer after call later step valid
+tells_keeps_valid s w moment asked (Instead Memory) after call later (inl same) valid = subst IsValid (sym same) valid
+tells_keeps_valid s w moment asked (Instead Memory) after call later (inr same) valid = subst IsValid (sym same) valid
+tells_keeps_valid s w moment asked (Instead Unavailable) after call later never valid = absurd never
+tells_keeps_valid s w moment asked (Instead Spent) after call later never valid = absurd never
 
 pub legal_keeps_valid : LegalKeepsValid
-legal_keeps_valid w [] v end valid = subst IsValid (sym end) valid
-legal_keeps_valid w (e ∷ h) v legal valid =
+legal_keeps_valid s w [] v end valid = subst IsValid (sym end) valid
+legal_keeps_valid s w (e ∷ h) v legal valid =
     let leads = legal.1 in
-    legal_keeps_valid legal.0 h v legal.2 (tells_keeps_valid w e.moment e.asked e.told legal.0 leads.moment leads.later leads.tells valid)
+    legal_keeps_valid s legal.0 h v legal.2 (tells_keeps_valid s w e.moment e.asked e.told legal.0 leads.moment leads.later leads.tells valid)
 
 pub timed_is_legal : TimedIsLegal
-timed_is_legal w [] [] v end = end
-timed_is_legal w [] (now ∷ answers) v never = absurd never
-timed_is_legal w (e ∷ h) [] v never = absurd never
-timed_is_legal w (e ∷ h) (now ∷ answers) v timed = (timed.0, timed.1, timed_is_legal timed.0 h answers v timed.3)
+timed_is_legal s w [] [] v end = end
+timed_is_legal s w [] (now ∷ answers) v never = absurd never
+timed_is_legal s w (e ∷ h) [] v never = absurd never
+timed_is_legal s w (e ∷ h) (now ∷ answers) v timed = (timed.0, timed.1, timed_is_legal s timed.0 h answers v timed.3)
 
 pub timed_goes_on : TimedGoesOn
-timed_goes_on w [] [] v e now x end leads at =
-    subst (λ (u : World). IsTimed u (e ∷ []) (now ∷ []) x) end (x, leads, at, refl)
-timed_goes_on w [] (n ∷ answers) v e now x never leads at = absurd never
-timed_goes_on w (f ∷ h) [] v e now x never leads at = absurd never
-timed_goes_on w (f ∷ h) (n ∷ answers) v e now x timed leads at =
-    (timed.0, timed.1, timed.2, timed_goes_on timed.0 h answers v e now x timed.3 leads at)
+timed_goes_on s w [] [] v e now x end leads at =
+    subst (λ (u : World). IsTimed s u (e ∷ []) (now ∷ []) x) end (x, leads, at, refl)
+timed_goes_on s w [] (n ∷ answers) v e now x never leads at = absurd never
+timed_goes_on s w (f ∷ h) [] v e now x never leads at = absurd never
+timed_goes_on s w (f ∷ h) (n ∷ answers) v e now x timed leads at =
+    (timed.0, timed.1, timed.2, timed_goes_on s timed.0 h answers v e now x timed.3 leads at)
 
 -- the second world has the rows of the first, and perhaps more behind them
 abbrev Adds : World → World → Type 0
@@ -46,17 +71,26 @@ Adds w v = (more : List Invocation) × (v.invocations ≡ w.invocations ++ more)
 adds_none : (w v : World) → v ≡ w → Adds w v
 adds_none w v same = ([], ap (λ (u : World). u.invocations) same ∙ sym (append-nil w.invocations))
 
-tells_adds : (w : World) (moment : ℤ) (asked : Asked) (told : Told) (after : World) → Tells w moment asked told after → Adds w after
-tells_adds w moment asked (Made answer) after (inl refused) = adds_none w after refused.same
-tells_adds w moment asked (Made answer) after (inr creates) =
-    (new_row moment creates.id creates.realm ∷ [], ap (λ (u : World). u.invocations) creates.added)
-tells_adds w moment asked (Instead Memory) after same = adds_none w after same
-tells_adds w moment asked (Instead Unavailable) after never = absurd never
-tells_adds w moment asked (Instead Spent) after never = absurd never
+adds_acted : (w : World) (moment : ℤ) (request : Request) → Adds w (acted w moment request)
+adds_acted w moment (CreateInvocation id realm) = (new_row moment id realm ∷ [], refl)
+
+adds_judged : (s : Settings) (w : World) (moment : ℤ) (asked : Asked) (answer : Answer) (after : World)
+    → Refuses s w moment asked after answer ⊎ Performs s w moment asked after answer → Adds w after
+adds_judged s w moment asked answer after (inl refused) = adds_none w after refused.same
+adds_judged s w moment asked answer after (inr performs) = subst (Adds w) (sym performs.acted_on) (adds_acted w moment performs.request)
+
+tells_adds : (s : Settings) (w : World) (moment : ℤ) (asked : Asked) (told : Told) (after : World) → Tells s w moment asked told after → Adds w after
+tells_adds s w moment asked (Made answer) after step =
+    adds_judged s w moment asked answer after
+    (subst (λ (u : World). Refuses s u moment asked after answer ⊎ Performs s u moment asked after answer) step.advances step.judged)
+tells_adds s w moment asked (Instead Memory) after (inl same) = adds_none w after same
+tells_adds s w moment asked (Instead Memory) after (inr same) = adds_none w after same
+tells_adds s w moment asked (Instead Unavailable) after never = absurd never
+tells_adds s w moment asked (Instead Spent) after never = absurd never
 
 pub rows_stay : RowsStay
-rows_stay w [] v end = adds_none w v end
-rows_stay w (e ∷ h) v legal =
-    let first = tells_adds w e.moment e.asked e.told legal.0 legal.1.tells in
-    let rest = rows_stay legal.0 h v legal.2 in
+rows_stay s w [] v end = adds_none w v end
+rows_stay s w (e ∷ h) v legal =
+    let first = tells_adds s w e.moment e.asked e.told legal.0 legal.1.tells in
+    let rest = rows_stay s legal.0 h v legal.2 in
     (first.0 ++ rest.0, rest.1 ∙ ap (λ (rows : List Invocation). rows ++ rest.0) first.1 ∙ append_assoc w.invocations first.0 rest.0)

@@ -1,6 +1,9 @@
 pub mod StandinLaws
 pub mod WorldLaws
 pub mod StepLaws
+pub mod StepThere
 pub mod RequestLaws
+pub mod Decisions
 pub mod HistoryLaws
+pub mod PlanLaws
 pub mod UniqueLaws

@@ -1,52 +1,52 @@
 -- A request has one step.
-use Rattle.std.proofs.Common.{◌≡◌, ℕ, ℤ, List, inl, inr, sym, ap, ◌∙◌, subst}
+use Rattle.std.proofs.Common.{◌≡◌, ◌⊎◌, ℕ, ℤ, List, inl, inr, sym, ap, ◌∙◌, subst}
+use Rattle.service_core.specs.Settings.{Settings}
 use Rattle.service_core.specs.declared.asked.Asked.{Asked}
 use Rattle.service_core.specs.declared.forms.Answer.{Answer}
 use Rattle.service_core.specs.declared.forms.Refusal.{Refusal}
-use Rattle.service_core.specs.Requests.{IsCreate, create_data}
-use Rattle.service_core.specs.Refusals.{refusal_answer, id_taken}
-use Rattle.service_core.specs.Replies.{invocation_answer}
-use Rattle.service_core.specs.World.{World, HasId, new_row, with_row}
-use Rattle.service_core.specs.Step.{Breaks, Accepts, Refuses, Creates}
+use Rattle.service_core.specs.declared.requests.Request.{Request}
+use Rattle.service_core.specs.declared.requests.Request.TheVariants.{CreateInvocation}
+use Rattle.service_core.specs.Rules.{refusal_answer}
+use Rattle.service_core.specs.World.{World}
+use Rattle.service_core.specs.Step.{id_taken, Takes, Broken, Refuses, Performs, Step, acted, reply_to}
 use Rattle.service_core.specs.Laws.{StepsAreUnique}
-use Rattle.service_core.proofs.RequestLaws.{one_json}
+use Rattle.service_core.proofs.RequestLaws.{one_request}
 
-one_data : (id realm id' realm' : List ℕ) → create_data id realm ≡ create_data id' realm' → (id ≡ id') × (realm ≡ realm')
-one_data id realm id' realm' e = (cc, cc)
+one_taken : (w : World) (q : Request) (r p : Refusal) → Takes w q r → Takes w q p → r ≡ p
+one_taken w (CreateInvocation id realm) r p this that = this.1 ∙ sym that.1
 
-one_create : (body id realm id' realm' : List ℕ) → IsCreate body id realm → IsCreate body id' realm' → (id ≡ id') × (realm ≡ realm')
-one_create body id realm id' realm' this that =
-    one_data id realm id' realm' (sym this.asks.form ∙ one_json body this.value that.value this.json that.json ∙ that.asks.form)
+-- the rules that are asked as yet have one broken among them at most
+one_broken : (s : Settings) (w : World) (moment : ℤ) (asked : Asked) (r p : Refusal) → Broken s w moment asked r
+    → Broken s w moment asked p → r ≡ p
+one_broken s w moment asked r p (inl this) (inl that) = this.1 ∙ sym that.1
+one_broken s w moment asked r p (inl this) (inr that) = absurd (this.0 that.request that.asks)
+one_broken s w moment asked r p (inr this) (inl that) = absurd (that.0 this.request this.asks)
+one_broken s w moment asked r p (inr this) (inr that) =
+    let same = one_request asked.body this.request that.request this.asks that.asks in
+    one_taken w that.request r p (subst (λ (q : Request). Takes w q r) same this.takes) that.takes
 
-one_refusal : (w : World) (asked : Asked) (r s : Refusal) → Breaks w asked r → Breaks w asked s → r ≡ s
-one_refusal w asked r s (inl this) (inl that) = this.1 ∙ sym that.1
-one_refusal w asked r s (inl this) (inr that) = absurd (this.0 that.id that.realm that.form)
-one_refusal w asked r s (inr this) (inl that) = absurd (that.0 this.id this.realm this.form)
-one_refusal w asked r s (inr this) (inr that) =
-    let same = one_create asked.body this.id this.realm that.id that.realm this.form that.form in
-    this.refusal ∙ ap id_taken same.0 ∙ sym that.refusal
-
-not_both : (w : World) (asked : Asked) (r : Refusal) (id realm : List ℕ) → Breaks w asked r → Accepts w asked id realm → ⊥
-not_both w asked r id realm (inl breaks) accepts = breaks.0 id realm accepts.form
-not_both w asked r id realm (inr breaks) accepts =
-    let same = one_create asked.body breaks.id breaks.realm id realm breaks.form accepts.form in
-    accepts.free (subst (HasId w) same.0 breaks.there)
-
-one_refused : (w : World) (asked : Asked) (v : World) (r : Answer) (x : World) (s : Answer) → Refuses w asked v r → Refuses w asked x s
-    → (v ≡ x) × (r ≡ s)
-one_refused w asked v r x s this that =
-    let same = one_refusal w asked this.refusal that.refusal this.breaks that.breaks in
+one_refused : (s : Settings) (w : World) (moment : ℤ) (asked : Asked) (v : World) (r : Answer) (x : World) (q : Answer)
+    → Refuses s w moment asked v r → Refuses s w moment asked x q → (v ≡ x) × (r ≡ q)
+one_refused s w moment asked v r x q this that =
+    let same = one_broken s w moment asked this.refusal that.refusal this.is_refusal.broken that.is_refusal.broken in
     (this.same ∙ sym that.same, this.answer_is ∙ ap refusal_answer same ∙ sym that.answer_is)
 
-one_created : (w : World) (moment : ℤ) (asked : Asked) (v : World) (r : Answer) (x : World) (s : Answer) → Creates w moment asked v r
-    → Creates w moment asked x s → (v ≡ x) × (r ≡ s)
-one_created w moment asked v r x s this that =
-    let same = one_create asked.body this.id this.realm that.id that.realm this.accepts.form that.accepts.form in
-    let row = ap (λ (i : List ℕ). new_row moment i this.realm) same.0 ∙ ap (new_row moment that.id) same.1 in
-    (this.added ∙ ap (with_row w) row ∙ sym that.added, this.shows ∙ ap invocation_answer row ∙ sym that.shows)
+one_performed : (s : Settings) (w : World) (moment : ℤ) (asked : Asked) (v : World) (r : Answer) (x : World) (q : Answer)
+    → Performs s w moment asked v r → Performs s w moment asked x q → (v ≡ x) × (r ≡ q)
+one_performed s w moment asked v r x q this that =
+    let same = one_request asked.body this.request that.request this.accepted.asks that.accepted.asks in
+    (this.acted_on ∙ ap (acted w moment) same ∙ sym that.acted_on, this.answer_is ∙ ap (reply_to w moment) same ∙ sym that.answer_is)
+
+one_judged : (s : Settings) (w : World) (moment : ℤ) (asked : Asked) (v : World) (r : Answer) (x : World) (q : Answer)
+    → Refuses s w moment asked v r ⊎ Performs s w moment asked v r → Refuses s w moment asked x q ⊎ Performs s w moment asked x q
+    → (v ≡ x) × (r ≡ q)
+one_judged s w moment asked v r x q (inl this) (inl that) = one_refused s w moment asked v r x q this that
+one_judged s w moment asked v r x q (inl this) (inr that) = absurd (that.accepted.unbroken this.refusal this.is_refusal.broken)
+one_judged s w moment asked v r x q (inr this) (inl that) = absurd (this.accepted.unbroken that.refusal that.is_refusal.broken)
+one_judged s w moment asked v r x q (inr this) (inr that) = one_performed s w moment asked v r x q this that
 
 pub one_step : StepsAreUnique
-one_step w moment asked v r x s (inl this) (inl that) = one_refused w asked v r x s this that
-one_step w moment asked v r x s (inl this) (inr that) = absurd (not_both w asked this.refusal that.id that.realm this.breaks that.accepts)
-one_step w moment asked v r x s (inr this) (inl that) = absurd (not_both w asked that.refusal this.id this.realm that.breaks this.accepts)
-one_step w moment asked v r x s (inr this) (inr that) = one_created w moment asked v r x s this that
+one_step s w moment asked v r x q this that =
+    let same = that.advances ∙ sym this.advances in
+    one_judged s this.between moment asked v r x q this.judged
+    (subst (λ (u : World). Refuses s u moment asked x q ⊎ Performs s u moment asked x q) same that.judged)

@@ -1,5 +1,6 @@
 -- Laws of steps and histories.
-use Rattle.std.specs.Prelude.{◌≡◌, ℤ, List, [], ◌∷◌, ◌++◌}
+use Rattle.std.specs.Prelude.{◌≡◌, ℤ, ◌≤ℤ◌, List, [], ◌∷◌, ◌++◌}
+use Rattle.service_core.specs.Settings.{Settings}
 use Rattle.service_core.specs.declared.asked.Asked.{Asked}
 use Rattle.service_core.specs.declared.forms.Answer.{Answer}
 use Rattle.service_core.specs.declared.rows.Invocation.{Invocation}
@@ -7,24 +8,40 @@ use Rattle.service_core.specs.World.{World, IsValid}
 use Rattle.service_core.specs.Step.{Step, moment_of}
 use Rattle.service_core.specs.History.{Entry, Leads, IsLegal, IsTimed}
 
--- A request at a moment leads from a world to one world, with one answer.
+-- A request at a moment leads from a world to some world, with some answer.
+pub record HasStep (s : Settings) (w : World) (moment : ℤ) (asked : Asked) : Type 0 where
+  pub after : World
+  pub answer : Answer
+  pub step : Step s w moment asked after answer
+
+abbrev pub StepsAreThere : Type 0
+StepsAreThere = (s : Settings) (w : World) (moment : ℤ) (asked : Asked) → HasStep s w moment asked
+
+-- And to one world alone, with one answer.
 abbrev pub StepsAreUnique : Type 0
-StepsAreUnique = (w : World) (moment : ℤ) (asked : Asked) (v : World) (r : Answer) (x : World) (s : Answer)
-    → Step w moment asked v r → Step w moment asked x s → (v ≡ x) × (r ≡ s)
+StepsAreUnique =
+    (s : Settings) (w : World) (moment : ℤ) (asked : Asked) (v : World) (r : Answer) (x : World) (q : Answer)
+    → Step s w moment asked v r → Step s w moment asked x q → (v ≡ x) × (r ≡ q)
 
 -- A history from a valid world leads to a valid one. So no two invocations ever have one id.
 abbrev pub LegalKeepsValid : Type 0
-LegalKeepsValid = (w : World) (h : List Entry) (v : World) → IsLegal w h v → IsValid w → IsValid v
+LegalKeepsValid = (s : Settings) (w : World) (h : List Entry) (v : World) → IsLegal s w h v → IsValid w → IsValid v
 
 -- A history takes no invocation away and alters none: it adds some behind those that were there.
 abbrev pub RowsStay : Type 0
-RowsStay = (w : World) (h : List Entry) (v : World) → IsLegal w h v → (more : List Invocation) × (v.invocations ≡ w.invocations ++ more)
+RowsStay =
+    (s : Settings) (w : World) (h : List Entry) (v : World) → IsLegal s w h v
+    → (more : List Invocation) × (v.invocations ≡ w.invocations ++ more)
 
 -- A history of calls whose moments a clock made is legal.
 abbrev pub TimedIsLegal : Type 0
-TimedIsLegal = (w : World) (h : List Entry) (answers : List ℤ) (v : World) → IsTimed w h answers v → IsLegal w h v
+TimedIsLegal =
+    (s : Settings) (w : World) (h : List Entry) (answers : List ℤ) (v : World)
+    → IsTimed s w h answers v → IsLegal s w h v
 
 -- A history goes on by one call, at the moment that one more answer of the clock makes.
 abbrev pub TimedGoesOn : Type 0
-TimedGoesOn = (w : World) (h : List Entry) (answers : List ℤ) (v : World) (e : Entry) (now : ℤ) (x : World)
-    → IsTimed w h answers v → Leads v e x → e.moment ≡ moment_of v.last now → IsTimed w (h ++ e ∷ []) (answers ++ now ∷ []) x
+TimedGoesOn =
+    (s : Settings) (w : World) (h : List Entry) (answers : List ℤ) (v : World) (e : Entry) (now : ℤ) (x : World)
+    → IsTimed s w h answers v → Leads s v e x → e.moment ≡ moment_of v.last now
+    → IsTimed s w (h ++ e ∷ []) (answers ++ now ∷ []) x

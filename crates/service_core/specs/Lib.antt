@@ -1,6 +1,7 @@
 pub mod ReplyBytes
+pub mod Settings
+pub mod Rules
 pub mod Requests
-pub mod Refusals
 pub mod Replies
 pub mod World
 pub mod Step

@@ -1,39 +1,36 @@
 -- What a request is prepared to.
-use Rattle.std.specs.Prelude.{◌≡◌, ℕ, ℤ, ◌≤ℤ◌, ◌<◌, List}
+use Rattle.std.specs.Prelude.{◌≡◌, ℕ, ℤ, ◌<◌}
+use Rattle.service_core.specs.Settings.{Settings}
 use Rattle.service_core.specs.declared.asked.Asked.{Asked}
-use Rattle.service_core.specs.declared.plan.Plan.{Plan}
+use Rattle.service_core.specs.declared.requests.Request.{Request}
 use Rattle.service_core.specs.declared.plan.Prepared.{Prepared}
 use Rattle.service_core.specs.declared.plan.Prepared.TheVariants.{Refused, Change}
 use Rattle.service_core.specs.declared.world.Judged.{Judged}
-use Rattle.service_core.specs.World.{World, HasId, IsCallMoment, new_row}
-use Rattle.service_core.specs.CoreState.{CoreState}
-use Rattle.service_core.specs.Replies.{invocation_answer}
-use Rattle.service_core.specs.Step.{Accepts, Refuses}
+use Rattle.service_core.specs.World.{World, IsValid}
+use Rattle.service_core.specs.CoreState.{CoreState, PlanState}
+use Rattle.service_core.specs.Step.{IsAccepted, Refuses, acted, reply_to}
 
--- the plan of a new invocation: its row, and the answer that shows it
-abbrev pub plan_of : ℤ → List ℕ → List ℕ → Plan
-plan_of moment id realm = record { row = new_row moment id realm; answer = invocation_answer (new_row moment id realm) }
+-- What is found of a request: that it breaks a rule, or that it asks for this and breaks none.
+abbrev pub IsJudged : Settings → World → ℤ → Asked → Judged → Type 0
+IsJudged s w moment asked (Judged.Refused answer) = Refuses s w moment asked w answer
+IsJudged s w moment asked (Judged.Accepted request) = IsAccepted s w moment asked request
 
--- The plan adds the invocation that this request asks for at this moment.
-pub record IsPlanOf (w : World) (moment : ℤ) (asked : Asked) (plan : Plan) : Type 0 where
-  pub id : List ℕ
-  pub realm : List ℕ
-  pub accepts : Accepts w asked id realm
-  pub plan_is : plan ≡ plan_of moment id realm
+-- The plan acts on what the request asks for, and gives the reply to it.
+pub record IsPlanOf (s : Settings) (w : World) (moment : ℤ) (asked : Asked) (plan : PlanState) : Type 0 where
+  pub accepted : IsAccepted s w moment asked plan.request
+  pub moment_is : plan.moment ≡ moment
+  pub answer_is : plan.answer ≡ reply_to w moment plan.request
 
--- What is found of a request: that it breaks a rule, or that it asks for a new invocation and breaks none.
-abbrev pub IsJudged : World → Asked → Judged → Type 0
-IsJudged w asked (Judged.Refused answer) = Refuses w asked w answer
-IsJudged w asked (Judged.Accepted create) = Accepts w asked create.id create.realm
+-- the world after the plan
+abbrev pub planned : World → PlanState → World
+planned w plan = acted w plan.moment plan.request
 
--- The core has a place for the plan's row: its id is free, there is room, and its moment comes after all changes.
-pub record CanCommit (core : CoreState) (plan : Plan) : Type 0 where
-  pub free : ¬ HasId core.world plan.row.id
+-- The plan fits the core: it was prepared for its world, and there is room.
+pub record Fits (core : CoreState) (plan : PlanState) : Type 0 where
+  pub valid : IsValid (planned core.world plan)
   pub room : 0 < core.spare
-  pub moment : IsCallMoment plan.row.created.micros
-  pub later : core.world.last ≤ℤ plan.row.created.micros
 
--- A request is refused by the answer of a rule that it breaks, or it is accepted and its plan can be carried out.
+-- A request is refused by the answer of the rule that it breaks, or it is accepted and its plan can be carried out.
 abbrev pub IsPrepared : CoreState → ℤ → Asked → Prepared → Type 0
-IsPrepared core moment asked (Refused answer) = Refuses core.world asked core.world answer
-IsPrepared core moment asked (Change plan) = IsPlanOf core.world moment asked plan × CanCommit core plan
+IsPrepared core moment asked (Refused answer) = Refuses core.settings core.world moment asked core.world answer
+IsPrepared core moment asked (Change plan) = IsPlanOf core.settings core.world moment asked plan × Fits core plan

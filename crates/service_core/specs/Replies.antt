@@ -2,7 +2,7 @@
 use Rattle.std.specs.Prelude.{ℕ, List, ◌++◌, codes, None}
 use Rattle.serde_json.specs.Data.{Data, string, object, no_members, member}
 use Rattle.serde_json.specs.Written.{compact_text}
-use Rattle.moments_spans.specs.Moments.{moment_text, IsInYears}
+use Rattle.moments_spans.specs.Moments.{moment_text}
 use Rattle.names_realms.specs.declared.states.State.{State}
 use Rattle.names_realms.specs.declared.states.State.TheVariants.{Active, Finalizing, Finalized}
 use Rattle.service_core.specs.declared.forms.Answer.{Answer}
@@ -17,8 +17,8 @@ state_text Finalized = codes "FINALIZED"
 
 abbrev pub invocation_data : Invocation → Data
 invocation_data row =
-    object (member (codes "createTime") (string (moment_text row.created.micros))
-    (member (codes "deadline") (string (moment_text row.deadline.micros))
+    object (member (codes "createTime") (string (moment_text row.created))
+    (member (codes "deadline") (string (moment_text row.deadline))
     (member (codes "name") (string (codes "invocations/" ++ row.id))
     (member (codes "realm") (string row.realm)
     (member (codes "state") (string (state_text row.state)) no_members)))))
@@ -30,15 +30,8 @@ reply_prefix = codes ")]}'\n"
 abbrev pub invocation_text : Invocation → List ℕ
 invocation_text row = reply_prefix ++ compact_text (invocation_data row)
 
--- Its moments are in years that the text can show.
-abbrev pub IsPrintable : Invocation → Type 0
-IsPrintable row = IsInYears row.created.micros × IsInYears row.deadline.micros
-
 abbrev pub reply_text : Reply → List ℕ
 reply_text (Shown row) = invocation_text row.now
-
-abbrev pub IsPrintableReply : Reply → Type 0
-IsPrintableReply (Shown row) = IsPrintable row.now
 
 -- the answer that shows this invocation
 abbrev pub invocation_answer : Invocation → Answer

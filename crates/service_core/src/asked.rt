@@ -1,5 +1,5 @@
-// What a caller asks.
-use names_realms::Bytes;
+//! What a caller asks.
+use lists::Bytes;
 
 /// A request as it comes from the wire: two header values, the pRPC service and method, and the body.
 #[derive(Drop)]

@@ -1,8 +1,8 @@
-// The forms of replies and refusals, and their texts.
+//! The forms of replies and refusals, and their texts.
 ghost use Rattle.std.specs.Prelude.{◌≡◌};
 ghost use Rattle.service_core.specs.ReplyBytes.{standin_bytes};
 
-use names_realms::Bytes;
+use lists::Bytes;
 
 /// A reply before it is framed: HTTP status, gRPC code, the update token that goes into a header, and the body.
 #[derive(Drop)]

@@ -1,7 +1,12 @@
 //! Laws of the definitions that the contracts cite. These functions do nothing: what each of them ensures is the law.
-ghost use Rattle.service_core.specs.Laws.{RowsStay, StepsAreUnique, LegalKeepsValid, TimedIsLegal, TimedGoesOn};
+ghost use Rattle.service_core.specs.Laws.{RowsStay, StepsAreThere, StepsAreUnique, LegalKeepsValid, TimedIsLegal, TimedGoesOn};
 
-/// A request at a moment leads from a world to one world, with one answer.
+/// A request at a moment leads from a world to some world, with some answer.
+pub fn a_step_is_there()
+    ensures { StepsAreThere }
+{}
+
+/// And to one world alone, with one answer.
 pub fn one_step()
     ensures { StepsAreUnique }
 {}

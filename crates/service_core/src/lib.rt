@@ -7,11 +7,12 @@ pub mod laws;
 pub mod plan;
 pub mod refusals;
 pub mod replies;
-mod requests;
+pub mod requests;
 pub mod rows;
 pub mod world;
 
 pub use asked::Asked;
+pub use requests::Request;
 pub use world::Core;
 
 #[cfg(test)]

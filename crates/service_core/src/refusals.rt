@@ -1,32 +1,52 @@
-// Refusals and their answers.
-ghost use Rattle.std.specs.Prelude.{◌≡◌, ◌++◌, codes, IfOk, OnOk};
-ghost use Rattle.service_core.specs.Refusals.{IsBuiltRule, rule_name, rule_status, rule_code, subject_part, refusal_text, refusal_answer, body_not_built, id_taken};
+//! Refusals and their answers.
+ghost use Rattle.std.specs.Prelude.{◌≡◌, ◌++◌, IfOk, OnOk};
+ghost use Rattle.service_core.specs.Rules.{IsRuleNumber, rule_of, subject_part, refusal_answer};
+ghost use Rattle.service_core.specs.Step.{body_not_built, id_taken};
 
 use crate::forms::{Answer, Refusal};
-use names_realms::{Bytes, InvocationId};
+use lists::Bytes;
+use names_realms::InvocationId;
 use std::alloc::{AllocError, Global};
 
-// The rule that a body has a form that is read.
+/// The rule that each field has a value that is read.
 const BAD_VALUE: u8 = 6;
 
-// The rule that an id is free.
+/// The rule that a name is free.
 const TAKEN: u8 = 19;
 
-// The name, the status and the gRPC code of a rule.
-fn kind_of(rule: u8) -> (&'static str, u16, u8)
-    requires { IsBuiltRule rule }
-    ensures name { result.0.now ≡ rule_name rule }
-    ensures status { result.1 ≡ rule_status rule }
-    ensures code { result.2 ≡ rule_code rule }
+/// The name, the HTTP status and the gRPC code of the rule of a number, from 1 to 21.
+fn rule_of(number: u8) -> (&'static str, u16, u8)
+    requires { IsRuleNumber number }
+    ensures name { result.0.now ≡ (rule_of number).name }
+    ensures status { result.1 ≡ (rule_of number).status }
+    ensures code { result.2 ≡ (rule_of number).code }
 {
-    if rule == BAD_VALUE {
-        ("BadValue", 400, 3)
-    } else {
-        ("Taken", 409, 6)
+    match number {
+        1 => ("NoMethod", 501, 12),
+        2 => ("NoCaller", 401, 16),
+        3 => ("NotJson", 400, 3),
+        4 => ("WrongKind", 400, 3),
+        5 => ("Missing", 400, 3),
+        6 => ("BadValue", 400, 3),
+        7 => ("RequestIdReused", 400, 9),
+        8 => ("NotFound", 404, 5),
+        9 => ("NoUpdateToken", 401, 16),
+        10 => ("BadUpdateToken", 403, 7),
+        11 => ("Denied", 403, 7),
+        12 => ("NotActive", 400, 9),
+        13 => ("DeadlineRange", 400, 3),
+        14 => ("Itself", 400, 3),
+        15 => ("TooMany", 400, 3),
+        16 => ("Repeated", 400, 3),
+        17 => ("SizeWrong", 400, 3),
+        18 => ("HashWrong", 400, 3),
+        19 => ("Taken", 409, 6),
+        20 => ("TableFull", 429, 8),
+        _ => ("StoreFull", 429, 8),
     }
 }
 
-// Appends the part of a text that names what breaks the rule.
+/// Appends the part of a text that names what breaks the rule.
 fn add_subject(text: &mut Vec<u8>, subject: &[u8]) -> Result<(), AllocError>
     ensures { OnOk result (text.new.items ≡ text.old.items ++ subject_part subject.now) }
 {
@@ -39,11 +59,11 @@ fn add_subject(text: &mut Vec<u8>, subject: &[u8]) -> Result<(), AllocError>
 
 /// The answer of a refusal. `Err` where there is no memory for its text.
 pub fn write_refusal(alloc: Global, refusal: &Refusal) -> Result<Answer, AllocError>
-    requires { IsBuiltRule refusal.now.rule }
+    requires { IsRuleNumber refusal.now.rule }
     ensures { IfOk result (λ answer. answer ≡ refusal_answer refusal.now) }
 {
     let rule = refusal.rule;
-    let (name, status, code) = kind_of(rule);
+    let (name, status, code) = rule_of(rule);
     let mut text = format!(in alloc; "{rule} {name}")?.into_bytes();
     add_subject(&mut text, refusal.subject.as_slice())?;
     text.push(b'\n')?;

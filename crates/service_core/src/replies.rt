@@ -1,13 +1,14 @@
-// Replies and their texts.
+//! Replies and their texts.
 ghost use Rattle.std.specs.Prelude.{◌≡◌, ◌++◌, codes, IfOk, OnOk};
 ghost use Rattle.serde_json.specs.Data.{string, put};
 ghost use Rattle.serde_json.specs.View.{view, members_view};
-ghost use Rattle.moments_spans.specs.Moments.{moment_text, IsInYears};
-ghost use Rattle.service_core.specs.Replies.{state_text, invocation_data, invocation_text, invocation_answer, IsPrintable, IsPrintableReply, reply_text};
+ghost use Rattle.moments_spans.specs.Moments.{moment_text};
+ghost use Rattle.service_core.specs.Replies.{state_text, invocation_data, invocation_text, invocation_answer, reply_text};
 
 use crate::forms::Answer;
 use crate::rows::Invocation;
-use names_realms::{Bytes, Moment, State};
+use lists::Bytes;
+use names_realms::{Moment, State};
 use serde_json::{Map, Value};
 use std::alloc::{AllocError, Global};
 
@@ -21,7 +22,7 @@ fn state_name(state: State) -> &'static str
     }
 }
 
-// Puts a text under a name.
+/// Puts a text under a name.
 fn put_text(
     alloc: Global,
     map: &mut Map<String, Value>,
@@ -34,24 +35,22 @@ fn put_text(
     serde_json::put(map, alloc, name, Value::try_from_str(alloc, text)?)
 }
 
-// Puts a moment's text under a name.
+/// Puts a moment's text under a name.
 fn put_moment(
     alloc: Global,
     map: &mut Map<String, Value>,
     name: &str,
     moment: Moment,
 ) -> Result<(), AllocError>
-    requires { IsInYears moment.micros }
     ensures { OnOk result (members_view map.new.entries
-        ≡ put name.now (string (moment_text moment.micros)) (members_view map.old.entries)) }
+        ≡ put name.now (string (moment_text moment)) (members_view map.old.entries)) }
 {
     let text = moment.to_text(alloc)?;
     serde_json::put(map, alloc, name, Value::String(text))
 }
 
-// The JSON object of an invocation.
+/// The JSON object of an invocation.
 fn invocation_value(alloc: Global, row: &Invocation) -> Result<Value, AllocError>
-    requires { IsPrintable row.now }
     ensures { IfOk result (λ value. view value ≡ invocation_data row.now) }
 {
     let mut map = Map::new(alloc);
@@ -74,7 +73,6 @@ pub enum Reply<'r> {
 
 /// The text of a reply, behind the prefix. `Err` where there is no memory for it.
 pub fn write_reply(alloc: Global, reply: &Reply) -> Result<Bytes, AllocError>
-    requires { IsPrintableReply reply.now }
     ensures { IfOk result (λ text. text ≡ reply_text reply.now) }
 {
     let value = match reply {
@@ -88,7 +86,6 @@ pub fn write_reply(alloc: Global, reply: &Reply) -> Result<Bytes, AllocError>
 
 /// The answer that shows an invocation. `Err` where there is no memory for its text.
 pub(crate) fn invocation_answer(alloc: Global, row: &Invocation) -> Result<Answer, AllocError>
-    requires { IsPrintable row.now }
     ensures { IfOk result (λ answer. answer ≡ invocation_answer row.now) }
 {
     let body = write_reply(alloc, &Reply::Invocation(row))?;

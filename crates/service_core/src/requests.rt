@@ -1,23 +1,35 @@
-// Reading a body.
+//! What a body asks for.
 ghost use Rattle.std.specs.Prelude.{◌≡◌, ◌≢◌, ℕ, List, IfOk, MatchOption};
 ghost use Rattle.serde_json.specs.Data.{Data, string, object, member, no_members};
 ghost use Rattle.serde_json.specs.View.{view};
 ghost use Rattle.names_realms.specs.Names.{IsInvocationId};
 ghost use Rattle.names_realms.specs.Realms.{IsRealm};
-ghost use Rattle.service_core.specs.Requests.{create_data, IsJson, IsCreateData, IsCreate, IsOther};
+ghost use Rattle.service_core.specs.declared.requests.Request.{Request};
+ghost use Rattle.service_core.specs.Requests.{id_asked, create_data, IsJson, DataAsks, Asks, AsksNothing};
 
 use names_realms::{InvocationId, NameFault, Realm};
 use serde_json::Value;
 use std::alloc::{AllocError, Global};
 
-/// A request for a new invocation.
+/// What a request asks for.
 #[derive(Drop)]
-pub struct Create {
-    pub id: InvocationId,
-    pub realm: Realm,
+pub enum Request {
+    /// A new invocation with this id in this realm.
+    CreateInvocation { id: InvocationId, realm: Realm },
 }
 
-// The value of an object's only member, where it has this name.
+impl Request {
+    /// The id that the request gives to what it makes.
+    pub fn id(&self) -> &InvocationId
+        ensures { result.now ≡ id_asked self.now }
+    {
+        match self {
+            Request::CreateInvocation { id, .. } => id,
+        }
+    }
+}
+
+/// The value of an object's only member, where it has this name.
 fn only_member<'v>(value: &'v Value, name: &str) -> Option<&'v Value>
     ensures { MatchOption result ((d : Data) → view value.now ≢ object (member name.now d no_members))
         (λ v. view value.now ≡ object (member name.now (view v.now) no_members)) }
@@ -30,21 +42,21 @@ fn only_member<'v>(value: &'v Value, name: &str) -> Option<&'v Value>
     Some(found)
 }
 
-// The text that a value is.
+/// The text that a value is.
 fn text_of(value: &Value) -> Option<&str>
     ensures { MatchOption result ((s : List ℕ) → view value.now ≢ string s) (λ s. view value.now ≡ string s.now) }
 {
     value.as_str()
 }
 
-// The texts that a request for a new invocation gives.
+/// The texts that a request for a new invocation gives.
 #[derive(Clone, Copy)]
 struct CreateTexts<'v> {
     id: &'v str,
     realm: &'v str,
 }
 
-// The values of an object's only two members, where they have these names in this order.
+/// The values of an object's only two members, where they have these names in this order.
 fn only_two_members<'v>(
     value: &'v Value,
     first: &str,
@@ -63,7 +75,7 @@ fn only_two_members<'v>(
     Some((found, other))
 }
 
-// Two values that are texts.
+/// Two values that are texts.
 fn texts_from<'v>(id: &'v Value, realm: &'v Value) -> Option<CreateTexts<'v>>
     ensures { MatchOption result ((i r : List ℕ) → ¬ ((view id.now ≡ string i) × (view realm.now ≡ string r)))
         (λ t. (view id.now ≡ string t.id.now) × (view realm.now ≡ string t.realm.now)) }
@@ -77,7 +89,7 @@ fn texts_from<'v>(id: &'v Value, realm: &'v Value) -> Option<CreateTexts<'v>>
     Some(CreateTexts { id, realm })
 }
 
-// The texts of a value that is of the form of a request for a new invocation.
+/// The texts of a value that is of the form of a request for a new invocation.
 fn create_texts(value: &Value) -> Option<CreateTexts<'_>>
     ensures { MatchOption result ((id realm : List ℕ) → view value.now ≢ create_data id realm)
         (λ t. view value.now ≡ create_data t.id.now t.realm.now) }
@@ -91,7 +103,7 @@ fn create_texts(value: &Value) -> Option<CreateTexts<'_>>
     texts_from(id, realm)
 }
 
-// The id that a text is.
+/// The id that a text is.
 fn read_id(alloc: Global, text: &str) -> Result<Option<InvocationId>, AllocError>
     ensures { IfOk result (λ r. MatchOption r (¬ IsInvocationId text.now) (λ id. (id ≡ text.now) × IsInvocationId text.now)) }
 {
@@ -102,7 +114,7 @@ fn read_id(alloc: Global, text: &str) -> Result<Option<InvocationId>, AllocError
     }
 }
 
-// The realm that a text is.
+/// The realm that a text is.
 fn read_realm(alloc: Global, text: &str) -> Result<Option<Realm>, AllocError>
     ensures { IfOk result (λ r. MatchOption r (¬ IsRealm text.now) (λ realm. (realm ≡ text.now) × IsRealm text.now)) }
 {
@@ -113,10 +125,10 @@ fn read_realm(alloc: Global, text: &str) -> Result<Option<Realm>, AllocError>
     }
 }
 
-// The request that a value is.
-fn create_of(alloc: Global, value: &Value) -> Result<Option<Create>, AllocError>
-    ensures { IfOk result (λ r. MatchOption r ((id realm : List ℕ) → ¬ IsCreateData (view value.now) id realm)
-        (λ c. IsCreateData (view value.now) c.id c.realm)) }
+/// What a value asks for.
+fn request_of(alloc: Global, value: &Value) -> Result<Option<Request>, AllocError>
+    ensures { IfOk result (λ r. MatchOption r ((q : Request) → ¬ DataAsks (view value.now) q)
+        (DataAsks (view value.now))) }
 {
     let Some(texts) = create_texts(value) else {
         return Ok(None);
@@ -127,10 +139,10 @@ fn create_of(alloc: Global, value: &Value) -> Result<Option<Create>, AllocError>
     let Some(realm) = read_realm(alloc, texts.realm)? else {
         return Ok(None);
     };
-    Ok(Some(Create { id, realm }))
+    Ok(Some(Request::CreateInvocation { id, realm }))
 }
 
-// The value of a body that is JSON.
+/// The value of a body that is JSON.
 fn json_of(alloc: Global, body: &[u8]) -> Result<Option<Value>, AllocError>
     ensures { IfOk result (λ r. MatchOption r ((d : Data) → ¬ IsJson body.now d) (λ v. IsJson body.now (view v))) }
 {
@@ -146,12 +158,12 @@ fn json_of(alloc: Global, body: &[u8]) -> Result<Option<Value>, AllocError>
     }
 }
 
-/// The request that a body is, or `None` for every other body. `Err` where there is no memory to read it.
-pub(crate) fn read_create(alloc: Global, body: &[u8]) -> Result<Option<Create>, AllocError>
-    ensures { IfOk result (λ r. MatchOption r (IsOther body.now) (λ c. IsCreate body.now c.id c.realm)) }
+/// What a body asks for, or `None` where it is of no form that is read. `Err` where there is no memory to read it.
+pub fn read_request(alloc: Global, body: &[u8]) -> Result<Option<Request>, AllocError>
+    ensures { IfOk result (λ r. MatchOption r (AsksNothing body.now) (Asks body.now)) }
 {
     let Some(value) = json_of(alloc, body)? else {
         return Ok(None);
     };
-    create_of(alloc, &value)
+    request_of(alloc, &value)
 }

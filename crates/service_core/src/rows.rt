@@ -1,10 +1,10 @@
-// What the service holds.
+//! What the service holds.
 ghost use Rattle.std.specs.Prelude.{◌≡◌};
 ghost use Rattle.service_core.specs.World.{new_row, IsCallMoment};
 
 use names_realms::{InvocationId, Moment, Realm, State};
 
-// Two days, in microseconds.
+/// Two days, in microseconds.
 const DEFAULT_LIFETIME: i64 = 172_800_000_000;
 
 /// An invocation.
@@ -20,12 +20,10 @@ pub struct Invocation {
 impl Invocation {
     /// A new invocation, which ends by itself two days after this moment.
     pub fn new(moment: Moment, id: InvocationId, realm: Realm) -> Invocation
-        requires { IsCallMoment moment.micros }
-        ensures { result ≡ new_row moment.micros id realm }
+        requires { IsCallMoment moment }
+        ensures { result ≡ new_row moment id realm }
     {
-        let deadline = Moment {
-            micros: moment.micros + DEFAULT_LIFETIME,
-        };
+        let deadline = Moment::new(moment.micros() + DEFAULT_LIFETIME);
         Invocation {
             id,
             realm,

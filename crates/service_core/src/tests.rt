@@ -2,11 +2,12 @@
 use crate::Core;
 use crate::asked::Asked;
 use crate::forms::{Standin, Told};
-use names_realms::{Bytes, State};
+use lists::Bytes;
+use names_realms::State;
 use std::alloc::{AllocError, Global};
 use std::test::Fail;
 
-// 2023-11-14T22:13:20Z
+/// 2023-11-14T22:13:20Z
 const NOW: i64 = 1_700_000_000_000_000;
 
 const NOT_BUILT: &str = "6 BadValue: body NotBuilt\n";
@@ -21,7 +22,7 @@ fn asked(alloc: Global, body: &str) -> Result<Asked, AllocError> {
     })
 }
 
-// The status, the gRPC code and the body of an answer.
+/// The status, the gRPC code and the body of an answer.
 fn shown(told: &Told) -> (u16, u8, &[u8]) {
     match told {
         Told::Made(answer) => (answer.status, answer.code, answer.body.as_slice()),
@@ -29,7 +30,7 @@ fn shown(told: &Told) -> (u16, u8, &[u8]) {
     }
 }
 
-// A body that asks for an id of `u-` and so many times `a`.
+/// A body that asks for an id of `u-` and so many times `a`.
 fn body_of_length(alloc: Global, count: usize) -> Result<String, AllocError> {
     let letters = "a".repeat(alloc, count)?;
     format!(in alloc;
@@ -46,8 +47,8 @@ fn answers_in_turn(rt: HostRuntime) -> Result<(), Fail> {
     let later_reply =
         ")]}'\n{\"createTime\":\"2023-11-14T22:13:20.000001Z\",\"deadline\":\"2023-11-16T22:13:20.000001Z\",\"name\":\"invocations/u-b\",\"realm\":\"proj:@root\",\"state\":\"ACTIVE\"}";
     let mut core = Core::new(rt.alloc())?;
-    assert_eq!(rt; core.moment_of(-5).micros, 0);
-    assert_eq!(rt; core.moment_of(i64::MAX).micros, 253_370_764_800_000_000);
+    assert_eq!(rt; core.moment_of(-5).micros(), 0);
+    assert_eq!(rt; core.moment_of(i64::MAX).micros(), 253_370_764_800_000_000);
     let turns = [
         (NOW, first, 200, 0, reply),
         (NOW, first, 409, 6, "19 Taken: invocations/u-a\n"),
@@ -65,10 +66,10 @@ fn answers_in_turn(rt: HostRuntime) -> Result<(), Fail> {
     let rows = core.invocations();
     assert_eq!(rt; rows.len(), 2);
     assert_eq!(rt; rows[1].id.as_str(), "u-b");
-    assert_eq!(rt; rows[1].deadline.micros, NOW + 172_800_000_001);
+    assert_eq!(rt; rows[1].deadline.micros(), NOW + 172_800_000_001);
     assert!(rt; rows[1].state == State::Active);
     assert_eq!(rt;
-        core.moment_of(NOW).micros,
+        core.moment_of(NOW).micros(),
         NOW + 1,
         "a clock that goes back"
     );

@@ -1,4 +1,4 @@
-// A clock over a list of moments.
+//! A clock over a list of moments.
 ghost use Rattle.std.specs.Prelude.{◌≡◌, ◌<◌, ℤ, ℕ, List, ◌∷◌, length, IfOk, slice_get, Some};
 ghost use Rattle.outside.specs.Moments.{AreInTurn, moments_after};
 

@@ -1,13 +1,11 @@
-// A sink in memory.
-ghost use Rattle.std.specs.Prelude.{◌≡◌, ℕ, List, [], Some, IfOk};
-ghost use Rattle.std.specs.Io.{WritesAtMost};
-ghost use Rattle.fault_counts.specs.Causes.{HasCause, CountsStall};
-ghost use Rattle.outside.specs.Bytes.{Writes};
+//! A sink in memory.
+ghost use Rattle.std.specs.Prelude.{◌≡◌, IfOk};
 ghost use Rattle.fault_counts.specs.Calls.{no_call_yet, outcome_of, times_listed};
-ghost use Rattle.outside.specs.Outgoing.{nothing_written, EndsWrite};
-ghost use Rattle.outside.specs.Memory.{sink_after};
+ghost use Rattle.outside.specs.Output.{nothing_written, EndsWrite};
+ghost use Rattle.outside.specs.Ends.{WritesOnce};
+ghost use Rattle.outside.specs.Memory.{sink_after, sink_ends};
 
-use super::outgoing::Outgoing;
+use super::output::Output;
 use crate::{Failed, Sink};
 use fault_counts::Schedule;
 use std::alloc::{AllocError, Global};
@@ -17,7 +15,7 @@ use std::marker::Model;
 #[derive(Drop)]
 pub struct MemorySink {
     schedule: Schedule,
-    outgoing: Outgoing,
+    output: Output,
 }
 
 impl Model for MemorySink {
@@ -25,7 +23,7 @@ impl Model for MemorySink {
 
     ghost Value = { SinkState };
 
-    ghost view = { λ s. record { calls = s.schedule; output = s.outgoing } };
+    ghost view = { λ s. record { calls = s.schedule; output = s.output } };
 }
 
 impl MemorySink {
@@ -39,7 +37,7 @@ impl MemorySink {
     {
         Ok(MemorySink {
             schedule: Schedule::new(fails),
-            outgoing: Outgoing::new(alloc),
+            output: Output::new(alloc),
         })
     }
 
@@ -47,43 +45,36 @@ impl MemorySink {
     pub fn written(&self) -> &[u8]
         ensures { result.now ≡ self.now.output.written }
     {
-        self.outgoing.written()
+        self.output.written()
     }
 
     /// How many writes failed.
     pub fn faults(&self) -> u64
         ensures { result ≡ self.now.output.faults }
     {
-        self.outgoing.faults()
+        self.output.faults()
     }
 
     /// How many writes took nothing of a piece that isn't empty.
     pub fn stalls(&self) -> u64
         ensures { result ≡ self.now.output.stalls }
     {
-        self.outgoing.stalls()
+        self.output.stalls()
     }
 }
 
 impl Sink for MemorySink {
-    ghost use Rattle.std.specs.Prelude.{Some};
+    ghost use Rattle.outside.specs.Memory.{sink_ends};
 
-    ghost faults = { λ s. s.output.faults };
-
-    ghost stalls = { λ s. s.output.stalls };
-
-    ghost written = { λ s. Some s.output.written };
+    ghost ends = { sink_ends };
 
     /// Takes the whole piece, unless the call is listed or there is no memory for the piece.
     fn write(&mut self, piece: &[u8]) -> Result<usize, Failed>
-        ensures bound { WritesAtMost result piece.now }
-        ensures cause { HasCause self.old.output.faults self.new.output.faults result }
-        ensures takes { Writes (Some self.old.output.written) piece.now result (Some self.new.output.written) }
-        ensures stalls { CountsStall self.old.output.stalls piece.now result self.new.output.stalls }
+        ensures write { WritesOnce (sink_ends self.old) piece.now result (sink_ends self.new) }
         ensures ends { EndsWrite (outcome_of (times_listed self.old.calls)) piece.now result }
         ensures after { self.new ≡ sink_after self.old piece.now result }
     {
         let outcome = self.schedule.next_outcome();
-        self.outgoing.write(outcome, piece)
+        self.output.write(outcome, piece)
     }
 }

@@ -1,12 +1,10 @@
-// A source in memory.
-ghost use Rattle.std.specs.Prelude.{◌≡◌, ℕ, List, Option, Some, IfOk};
-ghost use Rattle.std.specs.Io.{ReadsAtMost};
-ghost use Rattle.fault_counts.specs.Causes.{HasCause};
-ghost use Rattle.outside.specs.Bytes.{Reads};
+//! A source in memory.
+ghost use Rattle.std.specs.Prelude.{◌≡◌, IfOk};
 ghost use Rattle.fault_counts.specs.Calls.{no_call_yet, outcome_of, times_listed};
-ghost use Rattle.outside.specs.Memory.{EndsRead, source_after};
+ghost use Rattle.outside.specs.Ends.{ReadsOnce};
+ghost use Rattle.outside.specs.Memory.{EndsRead, source_after, source_ends};
 
-use super::incoming::Unread;
+use super::pieces::Unread;
 use crate::{Failed, Source};
 use fault_counts::{Count, Outcome, Schedule};
 use std::alloc::{AllocError, Global};
@@ -51,18 +49,15 @@ impl MemorySource {
 }
 
 impl Source for MemorySource {
-    ghost use Rattle.std.specs.Prelude.{Some};
+    ghost use Rattle.outside.specs.Memory.{source_ends};
 
-    ghost faults = { λ s. s.faults };
-
-    ghost left = { λ s. Some s.left };
+    ghost ends = { source_ends };
 
     /// Gives as many bytes as fit, or fails where the call is listed.
     fn read(&mut self, room: &mut [u8]) -> Result<usize, Failed>
-        ensures bound { ReadsAtMost result room.new }
-        ensures cause { HasCause self.old.faults self.new.faults result }
-        ensures gives { Reads (Some self.old.left) room.new result (Some self.new.left) }
-        ensures ends { EndsRead (outcome_of (times_listed self.old.calls)) self.old.left room.new result }
+        ensures read { ReadsOnce (source_ends self.old) room.new result (source_ends self.new) }
+        ensures ends { EndsRead (outcome_of (times_listed self.old.calls)) self.old.left room.new
+            result }
         ensures after { self.new ≡ source_after self.old result }
     {
         match self.schedule.next_outcome() {

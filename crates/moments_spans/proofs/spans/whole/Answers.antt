@@ -1,7 +1,7 @@
 use Rattle.std.proofs.Common.{◌≡◌, ◌≤◌, ◌+◌, ◌-◌, suc, ℕ, List, [], ◌∷◌, true, false, sym, ap, ◌∙◌, arith}
 use Rattle.std.specs.Char.{is_ascii_digit}
 use Rattle.std.proofs.lemmas.List.{nil_from_length}
-use Rattle.moments_spans.specs.Spans.{whole_from}
+use Rattle.moments_spans.specs.SpanReading.{whole_from}
 use Rattle.moments_spans.proofs.FractionLemmas.{whole-digit, whole-other, whole-end, whole-zero, digit-value, ten_below, ten_below_more}
 use Rattle.moments_spans.proofs.spans.whole.Goals as goal
 

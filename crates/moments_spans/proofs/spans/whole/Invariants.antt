@@ -1,5 +1,5 @@
 use Rattle.std.proofs.Common.{◌≡◌, ◌-◌, ◌^◌, ◌<◌}
-use Rattle.moments_spans.specs.Spans.{whole_from}
+use Rattle.moments_spans.specs.SpanReading.{whole_from}
 use Rattle.moments_spans.proofs.spans.whole.Given as goal
 
 abbrev pub invariant-loop-place : goal.invariant-loop-place

@@ -1,5 +1,6 @@
 use Rattle.std.proofs.Common.{◌≡◌, ◌+◌, ◌≤◌, length}
-use Rattle.name_parts.specs.Escapes.{spelled, spelling_fault}
+use Rattle.name_parts.specs.Escapes.{spelled}
+use Rattle.name_parts.specs.Spellings.{spelling_fault}
 use Rattle.name_parts.proofs.escapes.fault_of_spellings.Given as goal
 
 abbrev pub invariant-loop-rest : goal.invariant-loop-rest

@@ -1,5 +1,5 @@
 use Rattle.std.proofs.Common.{◌≡◌, ℕ, List, IfOk, ap, ◌∙◌, subst}
-use Rattle.service_core.specs.Refusals.{refusal_answer}
+use Rattle.service_core.specs.Rules.{refusal_answer}
 use Rattle.service_core.proofs.refusals.not_built.Goals as goal
 
 pub returns : goal.returns
