@@ -1,0 +1,9 @@
+//! Disks that keep only what was synced: what a read gives, and what a crash at any moment may leave.
+#![tactic(auto)]
+
+mod disk;
+mod laws;
+
+pub use disk::Disk;
+pub use fault_counts::Failed;
+pub use laws::moments_add_up;
