@@ -1,7 +1,7 @@
 -- Moments of several calls in a row.
-use Rattle.std.proofs.Common.{◌⊎◌, inl, inr, ⊎_elim, ℕ, ◌≤◌, List, [], ◌∷◌, ◌++◌, length, refl, sym, ◌∙◌, ap, subst, arith, append_assoc, length-append}
-use Rattle.disks.specs.Parts.{Parts, Image, MayLeave}
-use Rattle.disks.specs.Moments.{Told, moment, states, LeftBy, LeftSince, GoesOn}
+use Rattle.std.proofs.Common.{Option, None, Some, ◌⊎◌, inl, inr, ⊎_elim, ℕ, ◌≤◌, List, [], ◌∷◌, ◌++◌, length, refl, sym, ◌∙◌, ap, subst, arith, append_assoc, length-append}
+use Rattle.disks.specs.Parts.{Part, Parts, Image, MayLeave, with_part}
+use Rattle.disks.specs.Moments.{Told, moment, states, after, LeftBy, LeftSince, GoesOn, AtEachMoment}
 
 pub goes_on_here : (told : Told) → GoesOn told told
 goes_on_here told = record { later = []; all = refl }
@@ -67,3 +67,38 @@ pub not_lost : (old new : Told) → GoesOn old new → (t : ℕ) (image : Image)
     LeftSince t new image
 not_lost old new on t image left =
     subst (λ (l : List Parts). LeftBy t l image) (sym on.all) (kept t on.later (states old) image left)
+
+-- At the first moment of a call, and at the next one,
+pub at_first : (t : Told) (P : Image → Type 0) → ((image : Image) → MayLeave t.now image → P image) →
+    AtEachMoment (Some t) (Some t) P
+at_first t P here = (goes_on_here t, λ image left. here image (only_now t image left))
+
+pub at_next : (t u : Told) (number : ℕ) (part : Part) (P : Image → Type 0) → AtEachMoment (Some t) (Some u) P →
+    ((image : Image) → MayLeave (with_part u.now number part) image → P image) →
+    AtEachMoment (Some t) (Some (after u number part)) P
+at_next t u number part P so_far here = (
+    record {
+      later = with_part u.now number part ∷ so_far.0.later;
+      all = ap (λ (l : List Parts). with_part u.now number part ∷ l) so_far.0.all;
+    },
+    λ image left. ⊎_elim (λ now. here image now.1) (λ before. so_far.1 image before) left,
+)
+
+-- and over two calls in a row.
+pub at_both : (old mid new : Option Told) (P Q R : Image → Type 0) → ((image : Image) → P image → R image) →
+    ((image : Image) → Q image → R image) → AtEachMoment old mid P → AtEachMoment mid new Q → AtEachMoment old new R
+at_both None None new P Q R p q first second = second
+at_both None (Some mid) new P Q R p q first second = absurd (cc)
+at_both (Some old) None new P Q R p q first second = absurd first
+at_both (Some old) (Some mid) None P Q R p q first second = second
+at_both (Some old) (Some mid) (Some new) P Q R p q first second = (
+    goes_on_twice old mid new first.0 second.0,
+    λ image left. ⊎_elim (λ one. p image (first.1 image one)) (λ other. q image (second.1 image other))
+      (of_first_or_second old mid new first.0 second.0 image left),
+)
+
+pub at_each_of : (old new : Option Told) (P Q : Image → Type 0) → ((image : Image) → P image → Q image) →
+    AtEachMoment old new P → AtEachMoment old new Q
+at_each_of None new P Q p each = each
+at_each_of (Some old) None P Q p each = each
+at_each_of (Some old) (Some new) P Q p each = (each.0, λ image left. p image (each.1 image left))
