@@ -2,3 +2,5 @@ pub mod FrameLaws
 pub mod ReadingLaws
 pub mod FrontLaws
 pub mod StandLaws
+pub mod StepLaws
+pub mod JournalLaws

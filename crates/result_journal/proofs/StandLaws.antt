@@ -9,6 +9,7 @@ use Rattle.result_journal.specs.Steps.{BeginsBut}
 use Rattle.disks.specs.Moments.{Told}
 use Rattle.result_journal.specs.declared.journal.Journal.{Journal}
 use Rattle.result_journal.specs.Journals.{ReadsAs, BeforeOrAfter, Leaves, StandsBut, before_gate, AtRest, AtGate, StandsFor, prepared}
+use Rattle.result_journal.proofs.FrameLaws.{length-framed}
 use Rattle.result_journal.proofs.FrontLaws.{Begins, begins, begins_but, get_front, get_but, written_behind, written_byte}
 
 -- A place outside the range of a write is untouched by it.
@@ -132,3 +133,141 @@ stands_leave told journal commands stands = by_gate journal.is_settled stands.on
     by_gate true at = λ t is image may. at_rest_reads t.now.first commands journal.end image.first (at t is) may.first
     by_gate false at = λ t is image may.
         at_gate_reads t.now.first commands (prepared journal) journal.end image.first (at t is) may.first
+
+-- The length of what stands in front.
+length-front : (commands : List (List ℕ)) (gate end : ℕ) → end ≡ length (before_gate commands) →
+    length (before_gate commands ++ gate ∷ []) ≡ end + 1
+length-front commands gate end place = omega (arith, length-append (before_gate commands) (gate ∷ []), place)
+
+pub length-piece : (command : List ℕ) → length (framed command ++ 0 ∷ []) ≡ 5 + length command
+length-piece command =
+    omega (arith, length-append (framed command) (0 ∷ []), length-framed command)
+
+-- A part at rest.
+module _ (part : Part) (commands : List (List ℕ)) (end : ℕ) (rest : AtRest part commands end) where
+  pub rest_begins : (image : List ℕ) → IsPartImage part image → Begins image (before_gate commands ++ rest.gate ∷ [])
+  rest_begins image is = image_begins part (before_gate commands ++ rest.gate ∷ []) image (end + 1)
+      (omega (arith, length-front commands rest.gate end rest.place)) rest.stands is
+
+  pub rest_long : IsPartImage part part.bytes → end + 1 ≤ length part.bytes
+  rest_long is =
+      omega (arith, length-front commands rest.gate end rest.place, rest.stands.long, is.no_shorter)
+
+  -- A write behind the gate leaves it at rest,
+  pub rest_write : (count : ℕ) (bytes : List ℕ) → AtRest (write_begun part (end + 1) count bytes) commands end
+  rest_write count bytes = record {
+    gate = rest.gate; closed = rest.closed; are_bodies = rest.are_bodies; place = rest.place;
+    stands = write_elsewhere part (before_gate commands ++ rest.gate ∷ []) (end + 1) (end + 1) count bytes
+        (λ k below other. inl (omega (arith, length-front commands rest.gate end rest.place))) rest.stands;
+  }
+
+  written : (piece : List ℕ) → IsPartImage part part.bytes →
+      Begins (written_over part.bytes (end + 1) piece) ((before_gate commands ++ rest.gate ∷ []) ++ piece)
+  written piece is =
+      let b = rest_begins part.bytes is in
+      let w = written_behind (before_gate commands ++ rest.gate ∷ []) b.rest piece (end + 1)
+          (sym (length-front commands rest.gate end rest.place)) in
+      record {
+        rest = w.rest;
+        form = ap (λ (l : List ℕ). written_over l (end + 1) piece) b.form ∙ w.form;
+      }
+
+  -- and so does its sync, with the piece behind the gate.
+  pub rest_synced : (piece : List ℕ) → IsPartImage part part.bytes →
+      AtRest (all_synced (written_over part.bytes (end + 1) piece)) commands end
+  rest_synced piece is =
+      let w = written piece is in
+      record {
+        gate = rest.gate; closed = rest.closed; are_bodies = rest.are_bodies; place = rest.place;
+        stands = synced_stands (written_over part.bytes (end + 1) piece) (before_gate commands ++ rest.gate ∷ []) (end + 1)
+            (record {
+              rest = piece ++ w.rest;
+              form = w.form ∙ append_assoc (before_gate commands ++ rest.gate ∷ []) piece w.rest;
+            });
+      }
+
+  pub rest_staged : (piece : List ℕ) → IsPartImage part part.bytes →
+      BeginsBut (written_over part.bytes (end + 1) piece) (before_gate commands) piece
+  rest_staged piece is =
+      let w = written piece is in
+      record {
+        there = rest.gate; rest = w.rest;
+        form = w.form
+            ∙ append_assoc (before_gate commands ++ rest.gate ∷ []) piece w.rest
+            ∙ append_assoc (before_gate commands) (rest.gate ∷ []) (piece ++ w.rest);
+      }
+
+-- A part that stands but for the gate.
+pub staged_at_gate : (bytes : List ℕ) (commands : List (List ℕ)) (command : List ℕ) (end : ℕ) → AreBodies commands →
+    IsBody command → end ≡ length (before_gate commands) →
+    BeginsBut bytes (before_gate commands) (framed command ++ 0 ∷ []) → AtGate (all_synced bytes) commands command end
+staged_at_gate bytes commands command end are is place b = record {
+  are_bodies = are; is_body = is; place = place;
+  stands = synced_stands_but bytes (before_gate commands) (framed command ++ 0 ∷ []) 0 end place b;
+}
+
+pub staged_long : (bytes front back : List ℕ) (end : ℕ) → end ≡ length front → BeginsBut bytes front back →
+    end ≤ length bytes
+staged_long bytes front back end place b =
+    omega (arith, ap (λ (l : List ℕ). length l) b.form, length-append front (b.there ∷ (back ++ b.rest)))
+
+opened_end : (commands : List (List ℕ)) (command : List ℕ) (end : ℕ) → end ≡ length (before_gate commands) →
+    end + (5 + length command) ≡ length (before_gate (commands ++ command ∷ []))
+opened_end commands command end place =
+    let longer = ap (λ (l : List ℕ). length l) (before_gate-push commands command []) in
+    omega (arith, longer, length-append (before_gate (commands ++ command ∷ [])) [],
+      length-append (before_gate commands) (1 ∷ framed command ++ []), length-append (framed command) [],
+      length-framed command, place)
+
+-- The gate is opened, and it is at rest with one command more.
+pub opened : (bytes : List ℕ) (commands : List (List ℕ)) (command : List ℕ) (end : ℕ) → AreBodies commands →
+    IsBody command → end ≡ length (before_gate commands) →
+    BeginsBut bytes (before_gate commands) (framed command ++ 0 ∷ []) →
+    AtRest (all_synced (written_over bytes end (1 ∷ []))) (commands ++ command ∷ []) (end + (5 + length command))
+opened bytes commands command end are is place b =
+    let front = before_gate (commands ++ command ∷ []) in
+    let form : written_over bytes end (1 ∷ []) ≡ (front ++ 0 ∷ []) ++ b.rest =
+        ap (λ (l : List ℕ). written_over l end (1 ∷ [])) b.form
+        ∙ written_byte (before_gate commands) ((framed command ++ 0 ∷ []) ++ b.rest) b.there 1 end place
+        ∙ ap (λ (l : List ℕ). before_gate commands ++ 1 ∷ l) (append_assoc (framed command) (0 ∷ []) b.rest)
+        ∙ sym (before_gate-push commands command (0 ∷ b.rest))
+        ∙ sym (append_assoc front (0 ∷ []) b.rest) in
+    record {
+      gate = 0; closed = omega arith; are_bodies = bodies-push commands command are is;
+      place = opened_end commands command end place;
+      stands = synced_stands (written_over bytes end (1 ∷ [])) (front ++ 0 ∷ []) (end + (5 + length command) + 1)
+          (record { rest = b.rest; form = form });
+    }
+
+module _ (part : Part) (commands : List (List ℕ)) (command : List ℕ) (end : ℕ)
+    (at : AtGate part commands command end) where
+  -- A write of the gate leaves it so,
+  pub gate_write : (bytes : List ℕ) → AtGate (write_begun part end 1 bytes) commands command end
+  gate_write bytes = record {
+    are_bodies = at.are_bodies; is_body = at.is_body; place = at.place;
+    stands = write_elsewhere part (before_gate commands ++ 0 ∷ (framed command ++ 0 ∷ [])) end end 1 bytes
+        (λ k below other. elim (cases_lt k end) [ inl less ↦ inl less | inr more ↦ inr (omega arith) ]) at.stands;
+  }
+
+  pub gate_begins : IsPartImage part part.bytes → BeginsBut part.bytes (before_gate commands) (framed command ++ 0 ∷ [])
+  gate_begins is =
+      image_begins_but part (before_gate commands) (framed command ++ 0 ∷ []) part.bytes 0 end at.place at.stands is
+
+  pub gate_long : IsPartImage part part.bytes → end ≤ length part.bytes
+  gate_long is = staged_long part.bytes (before_gate commands) (framed command ++ 0 ∷ []) end at.place (gate_begins is)
+
+  -- and where it is closed and synced, it is at rest.
+  pub closed_again : IsPartImage part part.bytes →
+      AtRest (all_synced (written_over part.bytes end (0 ∷ []))) commands end
+  closed_again is =
+      let b = gate_begins is in
+      let form : written_over part.bytes end (0 ∷ []) ≡
+              (before_gate commands ++ 0 ∷ []) ++ ((framed command ++ 0 ∷ []) ++ b.rest) =
+          ap (λ (l : List ℕ). written_over l end (0 ∷ [])) b.form
+          ∙ written_byte (before_gate commands) ((framed command ++ 0 ∷ []) ++ b.rest) b.there 0 end at.place
+          ∙ sym (append_assoc (before_gate commands) (0 ∷ []) ((framed command ++ 0 ∷ []) ++ b.rest)) in
+      record {
+        gate = 0; closed = omega arith; are_bodies = at.are_bodies; place = at.place;
+        stands = synced_stands (written_over part.bytes end (0 ∷ [])) (before_gate commands ++ 0 ∷ []) (end + 1)
+            (record { rest = (framed command ++ 0 ∷ []) ++ b.rest; form = form });
+      }

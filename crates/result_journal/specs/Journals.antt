@@ -1,7 +1,7 @@
 -- How a journal stands on its disk.
 use Rattle.std.specs.Prelude.{◌≡◌, ◌≢◌, ◌⊎◌, ℕ, ◌+◌, ◌-◌, ◌^◌, ◌<◌, ◌≤◌, Bool, true, false, List, [], ◌∷◌, ◌++◌, length, take, drop, slice_index, Option, Some, MatchBool}
 use Rattle.disks.specs.Parts.{Part, Parts, Image, MayLeave, is_among}
-use Rattle.disks.specs.Moments.{Told}
+use Rattle.disks.specs.Moments.{Told, moment}
 use Rattle.result_journal.specs.Grammar.{head, records, framed, IsBody, AreBodies, Bodies, Reads}
 use Rattle.result_journal.specs.declared.journal.Journal.{Journal}
 
@@ -58,13 +58,13 @@ is_prepared journal = journal.is_prepared
 
 -- The command that was prepared last.
 abbrev pub prepared : {D : Type 0} → Journal D → List ℕ
-prepared journal = take (length journal.record.items - 5) (drop 4 journal.record.items)
+prepared journal = take (length journal.staged.items - 5) (drop 4 journal.staged.items)
 
 -- What is prepared is a frame and a closed gate, and has its place below 2^30.
 pub record IsPrepared {D : Type 0} (journal : Journal D) : Type 0 where
   pub is_body : IsBody (prepared journal)
-  pub form : journal.record.items ≡ framed (prepared journal) ++ 0 ∷ []
-  pub room : journal.end + 1 + length journal.record.items ≤ 2 ^ 30
+  pub form : journal.staged.items ≡ framed (prepared journal) ++ 0 ∷ []
+  pub room : journal.end + 1 + length journal.staged.items ≤ 2 ^ 30
 
 -- The journal stands for these commands, where its disk tells how it stands. One that isn't settled stands for the
 -- commands before the one whose append failed, and that one's gate may be open.
@@ -74,3 +74,16 @@ pub record StandsFor {D : Type 0} (told : D → Option Told) (journal : Journal 
   pub on_disk : (t : Told) → told journal.disk ≡ Some t →
       MatchBool journal.is_settled (AtRest t.now.first commands journal.end)
         (AtGate t.now.first commands (prepared journal) journal.end)
+
+abbrev pub StandsForSome : {D : Type 0} → (D → Option Told) → Journal D → Type 0
+StandsForSome told journal = (commands : List (List ℕ)) × StandsFor told journal commands
+
+-- Beside the disk, and whether it is settled, the journal is as it was.
+pub record SameButDisk {D : Type 0} (old new : Journal D) : Type 0 where
+  pub end : new.end ≡ old.end
+  pub staged : new.staged.items ≡ old.staged.items
+  pub prepared : new.is_prepared ≡ old.is_prepared
+
+-- So many calls changed the disk, where it tells it.
+abbrev pub TakesMoments : ℕ → Option Told → Option Told → Type 0
+TakesMoments count old new = (t u : Told) → old ≡ Some t → new ≡ Some u → moment u ≡ moment t + count

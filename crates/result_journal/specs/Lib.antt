@@ -1,3 +1,4 @@
 pub mod Grammar
 pub mod Journals
 pub mod Steps
+pub mod Full

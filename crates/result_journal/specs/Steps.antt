@@ -3,8 +3,7 @@ use Rattle.std.specs.Prelude.{◌≡◌, ℕ, ◌+◌, List, [], ◌∷◌, ◌+
 use Rattle.disks.specs.Parts.{all_synced, written_over, write_begun}
 use Rattle.disks.specs.Moments.{Told, after}
 use Rattle.disks.specs.Calls.{MayHaveBegun}
-use Rattle.result_journal.specs.Grammar.{framed}
-use Rattle.result_journal.specs.Journals.{before_gate, prepared}
+use Rattle.result_journal.specs.Journals.{AtGate, prepared}
 use Rattle.result_journal.specs.declared.journal.Journal.{Journal}
 
 -- A write to part 0 and a sync of it. Where one of them failed, the write was begun, or nothing was.
@@ -22,9 +21,7 @@ pub record BeginsBut (list front back : List ℕ) : Type 0 where
   pub rest : List ℕ
   pub form : list ≡ front ++ there ∷ (back ++ rest)
 
--- The prepared record stands whole behind the gate, and all of the part is synced.
-pub record IsStaged {D : Type 0} (told : D → Option Told) (journal : Journal D) (commands : List (List ℕ)) : Type 0 where
-  pub bytes : (t : Told) → told journal.disk ≡ Some t → List ℕ
-  pub synced : (t : Told) (is : told journal.disk ≡ Some t) → t.now.first ≡ all_synced (bytes t is)
-  pub begins : (t : Told) (is : told journal.disk ≡ Some t) →
-      BeginsBut (bytes t is) (before_gate commands) (framed (prepared journal) ++ 0 ∷ [])
+-- The prepared record stands whole behind the gate.
+abbrev pub IsStaged : {D : Type 0} → (D → Option Told) → Journal D → List (List ℕ) → Type 0
+IsStaged told journal commands = (t : Told) → told journal.disk ≡ Some t →
+    AtGate t.now.first commands (prepared journal) journal.end

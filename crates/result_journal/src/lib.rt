@@ -5,5 +5,17 @@ mod journal;
 mod laws;
 mod write_through;
 
-pub use journal::Journal;
+pub use journal::{Full, Journal};
 pub use laws::one_reading;
+
+use fault_counts::Failed;
+
+/// A call on the disk failed, and the disk counts it in its faults.
+#[derive(Clone, Copy, Debug)]
+pub struct DiskFailed;
+
+impl From<Failed> for DiskFailed {
+    fn from(_: Failed) -> Self {
+        DiskFailed
+    }
+}
