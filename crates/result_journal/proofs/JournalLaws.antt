@@ -1,13 +1,14 @@
 -- What stands at each step of the journal's calls.
-use Rattle.std.proofs.Common.{refl, ◌≡◌, ◌⊎◌, inl, inr, ⊎_elim, ℕ, ◌+◌, ◌≤◌, Bool, true, false, MatchBool, Option, None, Some, Result, Ok, Err, List, [], ◌∷◌, ◌++◌, length, sym, ◌∙◌, ap, subst, arith}
+use Rattle.std.proofs.Common.{refl, ◌≡◌, ◌⊎◌, inl, inr, ⊎_elim, ℕ, ◌+◌, ◌≤◌, Bool, true, false, MatchBool, Option, None, Some, Result, Ok, Err, OnOk, OnErr, List, [], ◌∷◌, ◌++◌, length, sym, ◌∙◌, ap, subst, arith}
 use Rattle.disks.specs.Parts.{Part, Image, IsPartImage, MayLeave, all_synced, written_over, write_begun}
 use Rattle.disks.specs.Moments.{Told, AtEachMoment}
 use Rattle.disks.specs.Calls.{ReadsAsImage}
+use Rattle.disks.proofs.MomentLaws.{at_first}
 use Rattle.result_journal.specs.Grammar.{framed, Bodies, Reads}
 use Rattle.result_journal.specs.Steps.{WritesThrough, BeginsBut, IsStaged}
-use Rattle.result_journal.specs.Journals.{ReadsAs, BeforeOrAfter, AtRest, AtGate, IsPrepared, StandsFor, prepared, before_gate}
+use Rattle.result_journal.specs.Journals.{ReadsAs, BeforeOrAfter, Leaves, TakesMoments, AtRest, AtGate, IsPrepared, StandsFor, prepared, before_gate}
 use Rattle.result_journal.specs.declared.journal.Journal.{Journal}
-use Rattle.result_journal.proofs.StandLaws.{at_rest_reads, at_gate_reads, length-piece, rest_long, rest_write, rest_synced, rest_staged, staged_at_gate, gate_write, gate_long, gate_begins, opened, closed_again}
+use Rattle.result_journal.proofs.StandLaws.{stands_leave, at_rest_reads, at_gate_reads, length-piece, rest_long, rest_write, rest_synced, rest_staged, staged_at_gate, gate_write, gate_long, gate_begins, opened, closed_again}
 use Rattle.result_journal.proofs.StepLaws.{EachStep, at_each_step, part_when_done, part_when_failed}
 
 -- A write behind the gate, of anything.
@@ -170,3 +171,101 @@ module _ {D : Type 0} (told : D → Option Told) (journal : Journal D) (commands
         let d = part_when_done E journal.end (0 ∷ []) (told journal.disk) new writes u is in
         subst (λ (p : Part). AtRest p commands journal.end) (sym d.2)
           (closed_again d.0.now.first commands (prepared journal) journal.end (staged d.0 d.1) (as_image d.0 d.1).first)
+
+pub stage_staged_on : {D E : Type 0} (told : D → Option Told) (journal : Journal D) →
+    ReadsAsImage (told journal.disk) → (piece : List ℕ) (disk : D) (result : Result Unit E) →
+    journal.is_settled ≡ true → journal.is_prepared ≡ true → piece ≡ journal.staged.items →
+    WritesThrough (journal.end + 1) piece (told journal.disk) result (told disk) →
+    OnOk result ((commands : List (List ℕ)) → StandsFor told journal commands →
+      IsStaged told (record journal { disk = disk }) commands)
+stage_staged_on {D} {E} told journal as_image piece disk (Ok done) settled is_prepared is writes = λ commands stands.
+    stage_staged told journal commands stands as_image E piece disk settled is_prepared is writes
+stage_staged_on told journal as_image piece disk (Err e) settled is_prepared is writes = tt
+
+-- The length of a prepared record.
+pub staged_length : {D : Type 0} (journal : Journal D) → IsPrepared journal →
+    length journal.staged.items ≡ 5 + length (prepared journal)
+staged_length journal p = ap (λ (l : List ℕ). length l) p.form ∙ length-piece (prepared journal)
+
+pub open_stands : {D : Type 0} (told : D → Option Told) (journal : Journal D) (commands : List (List ℕ))
+    (stands : StandsFor told journal commands) → ReadsAsImage (told journal.disk) →
+    IsStaged told journal commands → (E : Type 0) (disk : D) (size : ℕ) → size ≡ length journal.staged.items →
+    journal.is_prepared ≡ true → WritesThrough {E = E} journal.end (1 ∷ []) (told journal.disk) (Ok tt) (told disk) →
+    StandsFor told (record journal { disk = disk; end = journal.end + size; is_prepared = false; is_settled = true })
+      (commands ++ prepared journal ∷ [])
+open_stands told journal commands stands as_image staged E disk size is is_prepared writes = record {
+  when_prepared = λ none. absurd (cc);
+  when_unsettled = λ unsettled. absurd (cc);
+  on_disk = λ u here.
+      let long : size ≡ 5 + length (prepared journal) = is ∙ staged_length journal (stands.when_prepared is_prepared) in
+      subst (λ (n : ℕ). AtRest u.now.first (commands ++ prepared journal ∷ []) (journal.end + n)) (sym long)
+        (open_done told journal commands stands as_image staged E (told disk) writes u here);
+}
+
+-- What holds at each error.
+pub on_each_err : {T E P : Type 0} (result : Result T E) → P → OnErr result P
+on_each_err (Ok x) p = tt
+on_each_err (Err e) p = p
+
+pub unsettled_stands : {D : Type 0} (told : D → Option Told) (journal : Journal D) (commands : List (List ℕ)) →
+    StandsFor told journal commands → (disk : D) → journal.is_settled ≡ false →
+    ((u : Told) → told disk ≡ Some u → AtGate u.now.first commands (prepared journal) journal.end) →
+    StandsFor told (record journal { disk = disk }) commands
+unsettled_stands told journal commands stands disk unsettled at = record {
+  when_prepared = λ is. let p = stands.when_prepared is in record { is_body = p.is_body; form = p.form; room = p.room };
+  when_unsettled = stands.when_unsettled;
+  on_disk = λ u is. subst (λ (b : Bool). MatchBool b (AtRest u.now.first commands journal.end)
+      (AtGate u.now.first commands (prepared journal) journal.end)) (sym unsettled) (at u is);
+}
+
+pub settle_stands : {D : Type 0} (told : D → Option Told) (journal : Journal D) (commands : List (List ℕ)) →
+    StandsFor told journal commands → (disk : D) →
+    ((u : Told) → told disk ≡ Some u → AtRest u.now.first commands journal.end) →
+    StandsFor told (record journal { disk = disk; is_settled = true }) commands
+settle_stands told journal commands stands disk at = record {
+  when_prepared = λ is. let p = stands.when_prepared is in record { is_body = p.is_body; form = p.form; room = p.room };
+  when_unsettled = λ unsettled. absurd (cc);
+  on_disk = at;
+}
+
+-- Where nothing is done, each image reads as it stands.
+still : (told : Option Told) (P : Image → Type 0) →
+    ((t : Told) → told ≡ Some t → (image : Image) → MayLeave t.now image → P image) → AtEachMoment told told P
+still None P here = refl
+still (Some t) P here = at_first t P (here t refl)
+
+pub still_moments : {D : Type 0} (told : D → Option Told) (journal : Journal D) (commands : List (List ℕ)) →
+    StandsFor told journal commands →
+    AtEachMoment (told journal.disk) (told journal.disk) (BeforeOrAfter commands (prepared journal))
+still_moments told journal commands stands =
+    still (told journal.disk) (BeforeOrAfter commands (prepared journal)) (λ t is image may.
+      by_gate journal.is_settled t image may (stands.on_disk t is))
+  where
+    by_gate : (settled : Bool) (t : Told) (image : Image) → MayLeave t.now image →
+        MatchBool settled (AtRest t.now.first commands journal.end)
+          (AtGate t.now.first commands (prepared journal) journal.end) →
+        BeforeOrAfter commands (prepared journal) image
+    by_gate true t image may rest = inl (at_rest_reads t.now.first commands journal.end image.first rest may.first)
+    by_gate false t image may at =
+        at_gate_reads t.now.first commands (prepared journal) journal.end image.first at may.first
+
+pub same_command : {D : Type 0} (old new : Journal D) → new ≡ record old { disk = new.disk } →
+    prepared new ≡ prepared old
+same_command old new same = ap (λ (j : Journal _). prepared j) same
+
+pub settled_leaves : {D : Type 0} (told : D → Option Told) (journal : Journal D) (commands : List (List ℕ)) →
+    journal.is_settled ≡ true → StandsFor told journal commands → Leaves (told journal.disk) (ReadsAs commands)
+settled_leaves told journal commands settled stands =
+    subst (λ (b : Bool). MatchBool b (Leaves (told journal.disk) (ReadsAs commands))
+      (Leaves (told journal.disk) (BeforeOrAfter commands (prepared journal)))) settled
+      (stands_leave told journal commands stands)
+
+pub takes_both : (old mid new : Option Told) (P : Image → Type 0) → AtEachMoment old mid P → TakesMoments 2 old mid →
+    TakesMoments 2 mid new → TakesMoments 4 old new
+takes_both old None new P at one other = λ t v is_t is_v. absurd (gone old t is_t at)
+  where
+    gone : (told : Option Told) (t : Told) → told ≡ Some t → AtEachMoment told None P → ⊥
+    gone None t is each = absurd (cc)
+    gone (Some u) t is each = each
+takes_both old (Some u) new P at one other = λ t v is_t is_v.
+    omega (arith, one t u is_t refl, other u v refl is_v)
