@@ -79,23 +79,20 @@ drop_twice m (suc n) (b ∷ bytes) =
     drop_twice m n bytes ∙ ap (λ (k : ℕ). drop k (b ∷ bytes)) (let e : suc (n + m) ≡ suc n + m = omega arith in e)
 
 -- Where the four bytes and the body and one byte more are there, a framed body stands.
-pub frame_made : (bytes : List ℕ) → ((k : ℕ) → get_or bytes k 0 < 256) → (n : ℕ) → 4 ≤ length bytes →
-    n ≡ from_le_bytes w32 (take 4 bytes) → 1 ≤ n → n ≤ 2 ^ 23 → 4 + n < length bytes →
+pub frame_made : (bytes : List ℕ) (n : ℕ) → to_le_bytes w32 n ≡ take 4 bytes → 1 ≤ n → n ≤ 2 ^ 23 →
+    4 + n < length bytes →
     (f : BeginsFramed bytes) × (f.body ≡ take n (drop 4 bytes)) × (f.gate ∷ f.rest ≡ drop (4 + n) bytes)
-frame_made bytes are_bytes n four is some few inside =
+frame_made bytes n word some few inside =
     let body = take n (drop 4 bytes) in
     let size : length body ≡ n = length-take-le n (drop 4 bytes) (omega (arith, length-drop 4 bytes)) in
-    let small : (i : ℕ) → get_or (take 4 bytes) i 0 < 256 = λ i. front_byte bytes are_bytes 4 i in
-    let word : to_le_bytes w32 (length body) ≡ take 4 bytes =
-        ap (λ (k : ℕ). to_le_bytes w32 k) size
-        ∙ le_bytes_4 (take 4 bytes) n (length-take-le 4 bytes four) small is in
+    let four : to_le_bytes w32 (length body) ≡ take 4 bytes = ap (λ (k : ℕ). to_le_bytes w32 k) size ∙ word in
     let tail : drop (4 + n) bytes ≡ get_or bytes (4 + n) 0 ∷ drop (4 + n + 1) bytes =
         drop_more bytes (4 + n) 0 inside in
     let rest_of : drop 4 bytes ≡ body ++ drop (4 + n) bytes =
         sym (take-append-drop n (drop 4 bytes)) ∙ ap (λ (l : List ℕ). body ++ l) (drop_twice n 4 bytes) in
     let whole : bytes ≡ framed body ++ drop (4 + n) bytes =
         sym (take-append-drop 4 bytes)
-        ∙ ap (λ (l : List ℕ). l ++ drop 4 bytes) (sym word)
+        ∙ ap (λ (l : List ℕ). l ++ drop 4 bytes) (sym four)
         ∙ ap (λ (l : List ℕ). to_le_bytes w32 (length body) ++ l) rest_of
         ∙ sym (append_assoc (to_le_bytes w32 (length body)) body (drop (4 + n) bytes)) in
     (
@@ -107,3 +104,10 @@ frame_made bytes are_bytes n four is some few inside =
       refl,
       sym tail,
     )
+
+-- The four bytes of a length say it.
+pub length_said : (bytes : List ℕ) → ((k : ℕ) → get_or bytes k 0 < 256) → 4 ≤ length bytes →
+    to_le_bytes w32 (from_le_bytes w32 (take 4 bytes)) ≡ take 4 bytes
+length_said bytes are_bytes four =
+    le_bytes_4 (take 4 bytes) (from_le_bytes w32 (take 4 bytes)) (length-take-le 4 bytes four)
+      (λ i. front_byte bytes are_bytes 4 i) refl

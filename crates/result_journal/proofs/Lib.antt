@@ -4,3 +4,5 @@ pub mod FrontLaws
 pub mod StandLaws
 pub mod StepLaws
 pub mod JournalLaws
+pub mod WholeLaws
+pub mod OpenLaws

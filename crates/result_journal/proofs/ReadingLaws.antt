@@ -4,7 +4,7 @@ use Rattle.std.proofs.lemmas.List.{append_cancel_left, drop_more, ext_get_or, le
 use Rattle.std.proofs.lemmas.Bool.{cases_eq, cases_lt}
 use Rattle.std.specs.Int.{w32, to_le_bytes, from_le_bytes}
 use Rattle.result_journal.specs.Grammar.{head, IsBody, framed, records, AreBodies, BeginsFramed, IsJournal, IsDamaged, IsOfHead, IsForeign, IsNewer, Reading, Bodies, Foreign, Newer, Broken, LongReads, Reads}
-use Rattle.result_journal.proofs.FrameLaws.{one_frame, frame_bounds, frame_made, drop_twice}
+use Rattle.result_journal.proofs.FrameLaws.{one_frame, frame_bounds, frame_made, length_said}
 
 -- Records end at a closed gate, or at an open one behind which no framed body stands.
 pub data Ends (gate : ℕ) (rest : List ℕ) : Type 0 where
@@ -62,7 +62,7 @@ frame_or_not bytes are_bytes =
         | inr some ↦ elim (cases_lt (2 ^ 23) n) [
           | inl many ↦ inr (λ f. let b = frame_bounds bytes f in absurd (omega (arith, b.few)))
           | inr few ↦ elim (cases_lt (4 + n) (length bytes)) [
-            | inl inside ↦ inl (frame_made bytes are_bytes n four refl some few inside).0
+            | inl inside ↦ inl (frame_made bytes n (length_said bytes are_bytes four) some few inside).0
             | inr past ↦ inr (λ f. let b = frame_bounds bytes f in absurd (omega (arith, b.inside)))
           ]
         ]

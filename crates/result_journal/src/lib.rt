@@ -3,10 +3,13 @@
 
 mod journal;
 mod laws;
+mod opening;
+mod read_whole;
 mod write_through;
 
 pub use journal::{Full, Journal};
 pub use laws::one_reading;
+pub use opening::{OpenFault, Opening};
 
 use fault_counts::Failed;
 
