@@ -6,3 +6,4 @@ pub mod StepLaws
 pub mod JournalLaws
 pub mod WholeLaws
 pub mod OpenLaws
+pub mod BeginLaws

@@ -6,14 +6,15 @@ use Rattle.std.proofs.lemmas.Bool.{cases_lt}
 use Rattle.std.specs.Int.{w32, to_le_bytes, from_le_bytes}
 use Rattle.result_journal.specs.Whole.{FillsRoom}
 use Rattle.result_journal.specs.Grammar.{head, records, framed, IsBody, AreBodies, BeginsFramed, IsDamaged, Bodies, Broken, Reads}
-use Rattle.result_journal.specs.Journals.{before_gate}
+use Rattle.result_journal.specs.Journals.{before_gate, StandsBut, StandsFor}
+use Rattle.disks.specs.Parts.{Part}
 use Rattle.result_journal.specs.Openings.{IsWholeAt, IsBrokenAt, IsBehind, HasGiven, FindsLength, BrokenFault, IfFits, ShownWhereTold}
 use Rattle.disks.specs.Moments.{Told}
 use Rattle.result_journal.specs.declared.opening.Opening.{Opening}
 use Rattle.result_journal.specs.declared.opening.OpenFault.{OpenFault}
 use Rattle.result_journal.specs.declared.opening.OpenFault.TheVariants.{NotAJournal, Damaged, NewerVersion, DiskFailed, Memory}
 use Rattle.result_journal.proofs.FrameLaws.{drop_twice, frame_bounds, frame_made, length-framed}
-use Rattle.result_journal.proofs.StandLaws.{records-push, bodies-push, before_gate-push, reads_closed}
+use Rattle.result_journal.proofs.StandLaws.{synced_stands, bodies-push, before_gate-push, reads_closed}
 
 -- The byte at a place, and the bytes behind it, in what was read from there.
 module _ (bytes room : List ℕ) (at : ℕ) (size : ℕ) (long : length room ≡ size) (fills : FillsRoom bytes at room true) where
@@ -228,3 +229,31 @@ pub shown_at : {T : Type 0} (told : Option Told) (result : Result T OpenFault) (
     IsErrAnd result (λ e. e ≡ fault) → ShownWhereTold told fault → IfErr result (ShownWhereTold told)
 shown_at told (Ok value) fault is shown = tt
 shown_at told (Err e) fault is shown = subst (λ (f : OpenFault). ShownWhereTold told f) (sym is) shown
+
+-- The journal of an opening that has ended.
+pub ready_stands : {D : Type 0} (told : D → Option Told) (opening : Opening D) (given : List (List ℕ)) →
+    HasGiven told opening given → opening.is_ended ≡ true →
+    StandsFor told (record {
+      disk = opening.disk; end = opening.place; staged = opening.staged; is_prepared = false; is_settled = true;
+    }) given
+ready_stands told opening given h ended = record {
+  when_prepared = λ none. absurd (cc);
+  when_unsettled = λ none. absurd (cc);
+  on_disk = λ t is.
+      let b = h.on_disk t is in
+      let bytes = t.now.first.bytes in
+      let inside : opening.place < length bytes = omega (arith, h.inside, b.whole) in
+      record {
+        gate = get_or bytes opening.place 0;
+        closed = h.when_ended ended t is;
+        are_bodies = b.are_bodies;
+        place = b.after_records;
+        stands = subst (λ (p : Part). StandsBut p (opening.place + 1) (before_gate given ++ get_or bytes opening.place 0 ∷ []))
+            (sym b.synced)
+            (synced_stands bytes (before_gate given ++ get_or bytes opening.place 0 ∷ []) (opening.place + 1) (record {
+              rest = drop (opening.place + 1) bytes;
+              form = at_gate_form bytes given opening.place b.are_bodies b.before b.after_records inside
+                  ∙ sym (append_assoc (before_gate given) (get_or bytes opening.place 0 ∷ []) (drop (opening.place + 1) bytes));
+            }));
+      };
+}

@@ -4,3 +4,4 @@ pub mod Steps
 pub mod Full
 pub mod Whole
 pub mod Openings
+pub mod Begins

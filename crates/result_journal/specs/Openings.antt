@@ -7,6 +7,7 @@ use Rattle.disks.specs.Parts.{Part, Image, MayLeave, all_synced}
 use Rattle.disks.specs.Moments.{Told}
 use Rattle.result_journal.specs.Grammar.{AreBodies, BeginsFramed, IsDamaged, Reading, Bodies, Foreign, Newer, Broken, Reads, IsOfHead}
 use Rattle.result_journal.specs.Journals.{before_gate}
+use Rattle.result_journal.specs.Begins.{BeginsAs}
 use Rattle.result_journal.specs.declared.opening.Opening.{Opening}
 use Rattle.result_journal.specs.declared.opening.OpenFault.{OpenFault}
 use Rattle.result_journal.specs.declared.opening.OpenFault.TheVariants.{NotAJournal, Damaged, NewerVersion, DiskFailed, Memory}
@@ -111,3 +112,7 @@ IsNoFaultOfBytes Memory = Unit {0}
 IsNoFaultOfBytes (NotAJournal at) = ⊥
 IsNoFaultOfBytes (Damaged at byte) = ⊥
 IsNoFaultOfBytes (NewerVersion found) = ⊥
+
+-- What part 0 holds is begun from what it held.
+abbrev pub OpensAs : Option Told → Option Told → Type 0
+OpensAs old new = (t u : Told) → old ≡ Some t → new ≡ Some u → BeginsAs t.now.first.bytes u.now.first.bytes

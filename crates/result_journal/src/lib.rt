@@ -1,6 +1,7 @@
 //! A journal of commands on a disk, of which a stop at any moment leaves a prefix.
 #![tactic(auto)]
 
+mod begin;
 mod journal;
 mod laws;
 mod opening;

@@ -5,8 +5,9 @@ ghost use Rattle.disks.specs.Moments.{Told, AtEachMoment};
 ghost use Rattle.disks.specs.Calls.{WhereTold};
 ghost use Rattle.result_journal.specs.Grammar.{Reads, Bodies, IsBody};
 ghost use Rattle.result_journal.specs.Journals.{StandsFor, disk_of, end_of, is_settled, is_prepared};
-ghost use Rattle.result_journal.specs.Openings.{HasGiven, HasGivenSome, opened_disk, next_gate, is_ended, LeftBeforeOrAlike, ReadsAlike, ShownWhereTold, CountsOpening, FindsLength, IfFits, BrokenFault, IsNoFaultOfBytes};
+ghost use Rattle.result_journal.specs.Openings.{HasGiven, HasGivenSome, IsBehind, OpensAs, FaultCause, opened_disk, next_gate, is_ended, LeftBeforeOrAlike, ReadsAlike, ShownWhereTold, CountsOpening, FindsLength, IfFits, BrokenFault, IsNoFaultOfBytes};
 
+use crate::begin::{EMPTY_SIZE, check_head, is_empty_journal, write_empty_journal};
 use crate::journal::Journal;
 use crate::read_whole::read_whole;
 use disks::Disk;
@@ -61,6 +62,78 @@ const OPEN: u8 = 1;
 const GREATEST_BODY: u32 = 1 << 23;
 
 impl<D: Disk> Opening<D> {
+    /// Syncs part 0, and reads its head. At most nine bytes that aren't an empty journal are begun anew: the head and a
+    /// closed gate are written, the part is cut to nine bytes, and it is synced.
+    ///
+    /// At each moment inside the call a crash leaves what one before it might have left, or what is read as the part was.
+    pub fn begin(alloc: Global, disk: D) -> Result<Opening<D>, (OpenFault, D)>
+        ensures opened { IfOk result (λ o. HasGiven D.told o []) }
+        ensures begins { IfOk result (λ o. OpensAs (D.told disk) (D.told (opened_disk o))) }
+        ensures going { IfOk result (λ o. is_ended o ≡ false) }
+        ensures place { IfOk result (λ o. next_gate o ≡ 8) }
+        ensures shown { IfErr result (λ e. ShownWhereTold (D.told disk) e.0) }
+
+        ensures any_moment { IfOk result (λ o. AtEachMoment (D.told disk) (D.told (opened_disk o))
+            (LeftBeforeOrAlike (D.told disk))) }
+        ensures any_moment_err { IfErr result (λ e. AtEachMoment (D.told disk) (D.told e.1)
+            (LeftBeforeOrAlike (D.told disk))) }
+
+        ensures no_cause { IfOk result (λ o. D.faults (opened_disk o) ≡ D.faults disk) }
+        ensures cause { IfErr result (λ e. FaultCause (D.faults disk) e.0 (D.faults e.1)) }
+    {
+        let mut disk = disk;
+        match begin_part(&mut disk) {
+            Ok(size) => Ok(Opening {
+                disk,
+                size,
+                place: 8,
+                is_ended: false,
+                staged: Vec::new(alloc),
+            }),
+            Err(fault) => Err((fault, disk)),
+        }
+    }
+
+    /// The journal, whose records were all read.
+    pub fn ready(self) -> Journal<D>
+        requires given { HasGivenSome D.told self }
+        requires ended { is_ended self ≡ true }
+        ensures stands { (given : List (List ℕ)) → HasGiven D.told self given → StandsFor D.told result given }
+        ensures settled { is_settled result ≡ true }
+        ensures prepared { is_prepared result ≡ false }
+        ensures end { end_of result ≡ next_gate self }
+        ensures disk { disk_of result ≡ opened_disk self }
+    {
+        let Opening {
+            disk,
+            size: _,
+            place,
+            is_ended: _,
+            staged,
+        } = self;
+        Journal {
+            disk,
+            end: place,
+            staged,
+            is_prepared: false,
+            is_settled: true,
+        }
+    }
+
+    /// The disk, as it is.
+    pub fn give_up(self) -> D
+        ensures { result ≡ opened_disk self }
+    {
+        let Opening {
+            disk,
+            size: _,
+            place: _,
+            is_ended: _,
+            staged: _,
+        } = self;
+        disk
+    }
+
     /// Puts the next record's body into `into`, and answers the place of its first byte, or `None` at the closed gate.
     ///
     /// `into` is left empty by `None` and by a fault.
@@ -197,6 +270,27 @@ impl<D: Disk> Opening<D> {
         }
         Ok(body)
     }
+}
+
+// Syncs part 0 and judges its head, or begins it anew. Answers its size.
+fn begin_part<D: Disk>(disk: &mut D) -> Result<u64, OpenFault>
+    ensures size { IfOk result (λ size. 9 ≤ size) }
+    ensures begun { IfOk result (λ size. (t : Told) → D.told disk.new ≡ Some t → IsBehind t.now.first [] 8 size) }
+    ensures begins { OnOk result (OpensAs (D.told disk.old) (D.told disk.new)) }
+    ensures shown { IfErr result (ShownWhereTold (D.told disk.old)) }
+    ensures any_moment { AtEachMoment (D.told disk.old) (D.told disk.new) (LeftBeforeOrAlike (D.told disk.old)) }
+    ensures cause { CountsOpening (D.faults disk.old) result (D.faults disk.new) }
+{
+    disk.sync(0)?;
+    let size = disk.len(0)?;
+    if size > EMPTY_SIZE {
+        check_head(disk)?;
+        return Ok(size);
+    }
+    if !is_empty_journal(disk, size)? {
+        write_empty_journal(disk)?;
+    }
+    Ok(EMPTY_SIZE)
 }
 
 // The length that the four bytes behind a gate say.
