@@ -77,11 +77,11 @@ pub at_next : (t u : Told) (number : ℕ) (part : Part) (P : Image → Type 0) �
     ((image : Image) → MayLeave (with_part u.now number part) image → P image) →
     AtEachMoment (Some t) (Some (after u number part)) P
 at_next t u number part P so_far here = (
-    record {
-      later = with_part u.now number part ∷ so_far.0.later;
-      all = ap (λ (l : List Parts). with_part u.now number part ∷ l) so_far.0.all;
-    },
-    λ image left. ⊎_elim (λ now. here image now.1) (λ before. so_far.1 image before) left,
+  record {
+    later = with_part u.now number part ∷ so_far.0.later;
+    all = ap (λ (l : List Parts). with_part u.now number part ∷ l) so_far.0.all;
+  },
+  λ image left. ⊎_elim (λ now. here image now.1) (λ before. so_far.1 image before) left,
 )
 
 -- and over two calls in a row.
@@ -92,8 +92,8 @@ at_both None (Some mid) new P Q R p q first second = absurd (cc)
 at_both (Some old) None new P Q R p q first second = absurd first
 at_both (Some old) (Some mid) None P Q R p q first second = second
 at_both (Some old) (Some mid) (Some new) P Q R p q first second = (
-    goes_on_twice old mid new first.0 second.0,
-    λ image left. ⊎_elim (λ one. p image (first.1 image one)) (λ other. q image (second.1 image other))
+  goes_on_twice old mid new first.0 second.0,
+  λ image left. ⊎_elim (λ one. p image (first.1 image one)) (λ other. q image (second.1 image other))
       (of_first_or_second old mid new first.0 second.0 image left),
 )
 

@@ -1,10 +1,7 @@
 -- A disk of two parts: what a read gives of each, and what a crash may leave.
 use Rattle.std.specs.Prelude.{◌≡◌, ℕ, zero, suc, ◌+◌, ◌<◌, ◌≤◌, min, max, Bool, false, ◌&&◌, ◌||◌, nat_lt, nat_le, List, [], ◌∷◌, ◌++◌, length, take, drop, slice_index}
-
--- So many bytes from a place on.
-pub record Range : Type 0 where
-  pub at : ℕ
-  pub count : ℕ
+use Rattle.std.specs.List.{list_any}
+use Rattle.disks.specs.declared.range.Range.{Range}
 
 -- A part: what a read gives, its bytes after its last sync, the least and the greatest length since then, and the
 -- ranges whose write was begun since then.
@@ -26,9 +23,7 @@ pub record Image : Type 0 where
 
 -- A place lies in one of the ranges.
 abbrev pub is_among : List Range → ℕ → Bool
-is_among [] k = false
-is_among (range ∷ ranges) k =
-    (nat_le range.at k && nat_lt k (range.at + range.count)) || is_among ranges k
+is_among ranges k = list_any (λ r. nat_le r.at k && nat_lt k (r.at + r.count)) ranges
 
 -- A crash may leave these bytes of a part: their number lies between the least and the greatest length, and each place
 -- below the least length that no write was begun at holds what was synced.

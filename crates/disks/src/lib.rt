@@ -2,8 +2,16 @@
 #![tactic(auto)]
 
 mod disk;
+mod file;
+mod image;
 mod laws;
+mod memory;
+mod overwritten;
+mod part_state;
+mod range;
 
 pub use disk::Disk;
 pub use fault_counts::Failed;
 pub use laws::moments_add_up;
+pub use memory::MemoryDisk;
+pub use range::Range;
