@@ -1,0 +1,25 @@
+//! A journal of commands on a disk, of which a stop at any moment leaves a prefix.
+#![tactic(auto)]
+
+mod begin;
+mod journal;
+mod laws;
+mod opening;
+mod read_whole;
+mod write_through;
+
+pub use journal::{Full, Journal};
+pub use laws::one_reading;
+pub use opening::{OpenFault, Opening};
+
+use fault_counts::Failed;
+
+/// A call on the disk failed, and the disk counts it in its faults.
+#[derive(Clone, Copy, Debug)]
+pub struct DiskFailed;
+
+impl From<Failed> for DiskFailed {
+    fn from(_: Failed) -> Self {
+        DiskFailed
+    }
+}
