@@ -3,7 +3,8 @@ use Rattle.std.proofs.Common.{◌≡◌, ◌≢◌, ◌⊎◌, inl, inr, ⊎_eli
 use Rattle.std.proofs.lemmas.Bool.{cases_eq, cases_lt}
 use Rattle.std.proofs.lemmas.Bool.Decides.{nat_tests}
 use Rattle.std.proofs.lemmas.List.{append-nil}
-use Rattle.disks.specs.Parts.{Part, Range, IsPartImage, is_among, all_synced, written_over, write_begun}
+use Rattle.disks.specs.declared.range.Range.{Range}
+use Rattle.disks.specs.Parts.{Part, IsPartImage, is_among, all_synced, written_over, write_begun}
 use Rattle.result_journal.specs.Grammar.{head, IsBody, framed, records, AreBodies, Reading, Bodies, Reads}
 use Rattle.result_journal.specs.Steps.{BeginsBut}
 use Rattle.disks.specs.Moments.{Told}

@@ -5,12 +5,14 @@ mod begin;
 mod journal;
 mod laws;
 mod opening;
+mod plain;
 mod read_whole;
 mod write_through;
 
 pub use journal::{Full, Journal};
 pub use laws::one_reading;
 pub use opening::{OpenFault, Opening};
+pub use plain::PlainJournal;
 
 use fault_counts::Failed;
 
@@ -23,3 +25,6 @@ impl From<Failed> for DiskFailed {
         DiskFailed
     }
 }
+
+#[cfg(test)]
+mod tests;

@@ -161,6 +161,8 @@ impl<D: Disk> Opening<D> {
         ensures err_keeps { OnErr result ((given : List (List ℕ)) →
             HasGiven D.told self.old given → HasGiven D.told self.new given) }
 
+        ensures still { HasGivenSome D.told self.new }
+
         // The disk isn't changed.
         ensures told { D.told (opened_disk self.new) ≡ D.told (opened_disk self.old) }
         ensures cause { CountsOpening (D.faults (opened_disk self.old)) result (D.faults (opened_disk self.new)) }

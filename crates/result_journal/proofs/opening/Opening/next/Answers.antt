@@ -1,4 +1,4 @@
-use Rattle.std.proofs.Common.{refl, false}
+use Rattle.std.proofs.Common.{refl, false, [], ◌∷◌, ◌++◌}
 use Rattle.result_journal.proofs.JournalLaws.{on_each_err}
 use Rattle.result_journal.proofs.OpenLaws.{going_opening, same_opening, ended_opening, ended_reads, broken_shown, given_next, shown_at}
 use Rattle.result_journal.proofs.opening.Opening.next.Goals as goal
@@ -37,3 +37,31 @@ returns-clause-gives g c = λ given h.
       (going_opening g.D.Disk.told c.args.self.now given h) refl c.next_length.ensures.same c.next_length.ensures.told
       c.body.ensures.same c.body.ensures.told c.in-Some.is c.in_ok-count.ensures.inside c.in_ok-count.ensures.found
       c.in_ok-into.ensures.body
+
+pub returns-in_err-count-clause-still : goal.returns-in_err-count-clause-still
+returns-in_err-count-clause-still g c = (c.requires.0,
+    same_opening g.D.Disk.told (record c.args.self.now { is_ended = false }) c.next_length.new.self c.requires.0
+      c.next_length.ensures.same c.next_length.ensures.told
+      (going_opening g.D.Disk.told c.args.self.now c.requires.0 c.requires.1))
+
+pub returns-in_default-clause-still : goal.returns-in_default-clause-still
+returns-in_default-clause-still g c = (c.requires.0,
+    ended_opening g.D.Disk.told (record c.args.self.now { is_ended = false }) c.next_length.new.self c.requires.0
+      c.next_length.ensures.same c.next_length.ensures.told
+      (going_opening g.D.Disk.told c.args.self.now c.requires.0 c.requires.1)
+      c.in_ok-count.field-0 c.in_default.is c.in_ok-count.ensures.found)
+
+pub returns-in_err-into-clause-still : goal.returns-in_err-into-clause-still
+returns-in_err-into-clause-still g c = (c.requires.0,
+    same_opening g.D.Disk.told c.next_length.new.self c.body.new.self c.requires.0 c.body.ensures.same c.body.ensures.told
+      (same_opening g.D.Disk.told (record c.args.self.now { is_ended = false }) c.next_length.new.self c.requires.0
+        c.next_length.ensures.same c.next_length.ensures.told
+        (going_opening g.D.Disk.told c.args.self.now c.requires.0 c.requires.1)))
+
+pub returns-clause-still : goal.returns-clause-still
+returns-clause-still g c = (c.requires.0 ++ c.in_ok-into.field-0.items ∷ [],
+    given_next g.D.Disk.told (record c.args.self.now { is_ended = false }) c.next_length.new.self c.body.new.self c.requires.0
+      c.in_ok-count.field-0 c.in-Some.count c.in_ok-into.field-0.items
+      (going_opening g.D.Disk.told c.args.self.now c.requires.0 c.requires.1) refl c.next_length.ensures.same
+      c.next_length.ensures.told c.body.ensures.same c.body.ensures.told c.in-Some.is c.in_ok-count.ensures.inside
+      c.in_ok-count.ensures.found c.in_ok-into.ensures.body)
