@@ -9,12 +9,11 @@ mod plain;
 mod read_whole;
 mod write_through;
 
+use fault_counts::Failed;
 pub use journal::{Full, Journal};
 pub use laws::one_reading;
 pub use opening::{OpenFault, Opening};
 pub use plain::PlainJournal;
-
-use fault_counts::Failed;
 
 /// A call on the disk failed, and the disk counts it in its faults.
 #[derive(Clone, Copy, Debug)]

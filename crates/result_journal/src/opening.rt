@@ -59,6 +59,7 @@ pub struct Opening<D: Disk> {
 }
 
 const OPEN: u8 = 1;
+
 const GREATEST_BODY: u32 = 1 << 23;
 
 impl<D: Disk> Opening<D> {
