@@ -1,6 +1,6 @@
 -- A part of a disk in memory, as contracts see it.
 use Rattle.std.specs.Prelude.{ℕ, List}
-use Rattle.disks.specs.Parts.{Part, IsPartImage}
+use Rattle.disks.specs.Parts.{Part}
 use Rattle.disks.specs.declared.range.Range.{Range}
 
 -- The part of these lists.

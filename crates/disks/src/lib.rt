@@ -12,6 +12,10 @@ mod range;
 
 pub use disk::Disk;
 pub use fault_counts::Failed;
+pub use file::FileDisk;
 pub use laws::moments_add_up;
 pub use memory::MemoryDisk;
 pub use range::Range;
+
+#[cfg(test)]
+mod tests;

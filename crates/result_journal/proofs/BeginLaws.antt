@@ -33,7 +33,7 @@ still_short t short = at_first t IsShortImage (λ image may. omega (arith, may.f
 same_short : (t : Told) (new : Option Told) → IsShort (Some t) → new ≡ Some t → StaysShort (Some t) new
 same_short t new short same =
     subst (λ (n : Option Told). StaysShort (Some t) n) (sym same)
-      (record { moments = still_short t short; short = short })
+    (record { moments = still_short t short; short = short })
 
 next_short : (t : Told) (part : Part) (new : Option Told) → IsShort (Some t) → part.greatest ≤ 9 →
     new ≡ Some (after t 0 part) → StaysShort (Some t) new
@@ -51,10 +51,10 @@ begun_short : (t : Told) (begun : List ℕ → Part) (new : Option Told) → IsS
     ((bytes : List ℕ) → (begun bytes).greatest ≤ 9) → MayHaveBegun t 0 begun new → StaysShort (Some t) new
 begun_short t begun new short small may =
     ⊎_elim
-      (λ (same : new ≡ Some t). same_short t new short same)
-      (λ (b : (bytes : List ℕ) × (new ≡ Some (after t 0 (begun bytes)))).
-        next_short t (begun b.0) new short (small b.0) b.1)
-      may
+    (λ (same : new ≡ Some t). same_short t new short same)
+    (λ (b : (bytes : List ℕ) × (new ≡ Some (after t 0 (begun bytes)))).
+    next_short t (begun b.0) new short (small b.0) b.1)
+    may
 
 pub writes_short : {E : Type 0} (piece : List ℕ) (old new : Option Told) (result : Result Unit E) →
     length piece ≤ 9 → IsShort old → Writes 0 0 piece old result new → StaysShort old new
@@ -62,7 +62,7 @@ writes_short piece None new result few short writes =
     subst (λ (n : Option Told). StaysShort None n) (sym writes) nothing_told
 writes_short piece (Some t) new (Ok done) few short writes =
     next_short t (write_begun t.now.first 0 (length piece) (written_over t.now.first.bytes 0 piece)) new short
-      (omega (arith, short t refl)) writes
+    (omega (arith, short t refl)) writes
 writes_short piece (Some t) new (Err e) few short writes =
     begun_short t (write_begun t.now.first 0 (length piece)) new short (λ bytes. omega (arith, short t refl)) writes
 
@@ -79,7 +79,7 @@ pub syncs_short : {E : Type 0} (old new : Option Told) (result : Result Unit E) 
 syncs_short None new result image short syncs = subst (λ (n : Option Told). StaysShort None n) (sym syncs) nothing_told
 syncs_short (Some t) new (Ok done) image short syncs =
     next_short t (all_synced t.now.first.bytes) new short
-      (omega (arith, short t refl, (image t refl).first.no_longer)) syncs
+    (omega (arith, short t refl, (image t refl).first.no_longer)) syncs
 syncs_short (Some t) new (Err e) image short syncs = same_short t new short syncs
 
 -- A synced part has one image.
@@ -130,13 +130,13 @@ pub sync_moments : {E : Type 0} (old new : Option Told) (result : Result Unit E)
 sync_moments None new result syncs = syncs
 sync_moments (Some t) new (Ok done) syncs =
     subst (λ (n : Option Told). AtEachMoment (Some t) n (LeftBeforeOrAlike (Some t))) (sym syncs)
-      (at_next t t 0 (all_synced t.now.first.bytes) (LeftBeforeOrAlike (Some t))
-        (at_first t (LeftBeforeOrAlike (Some t)) (λ image may. left_before t image may))
-        (λ image may. left_alike t image (λ reading reads.
-          subst (λ (l : List ℕ). Reads l reading) (sym (synced_image t.now.first.bytes image.first may.first)) reads)))
+    (at_next t t 0 (all_synced t.now.first.bytes) (LeftBeforeOrAlike (Some t))
+    (at_first t (LeftBeforeOrAlike (Some t)) (λ image may. left_before t image may))
+    (λ image may. left_alike t image (λ reading reads.
+    subst (λ (l : List ℕ). Reads l reading) (sym (synced_image t.now.first.bytes image.first may.first)) reads)))
 sync_moments (Some t) new (Err e) syncs =
     subst (λ (n : Option Told). AtEachMoment (Some t) n (LeftBeforeOrAlike (Some t))) (sym syncs)
-      (at_first t (LeftBeforeOrAlike (Some t)) (λ image may. left_before t image may))
+    (at_first t (LeftBeforeOrAlike (Some t)) (λ image may. left_before t image may))
 
 pub later_same : (old mid new : Option Told) (P : Image → Type 0) → new ≡ mid → AtEachMoment old mid P →
     AtEachMoment old new P
@@ -168,11 +168,11 @@ pub short_alike : (E : Type 0) (old mid : Option Told) (size : ℕ) → Syncs {E
     LeftBeforeOrAlike old image
 short_alike E old mid size syncs small long image short = λ t is. inr (λ reading reads.
     let few : length t.now.first.bytes ≤ 9 =
-        omega (arith, long (after t 0 (all_synced t.now.first.bytes)) (after_sync E old mid syncs t is), small) in
+    omega (arith, long (after t 0 (all_synced t.now.first.bytes)) (after_sync E old mid syncs t is), small) in
     ⊎_elim
-      (λ (none : (length t.now.first.bytes ≤ 9) × (reading ≡ Bodies [])). inl (short, none.1))
-      (λ (some : (9 < length t.now.first.bytes) × LongReads t.now.first.bytes reading). absurd (omega (arith, few, some.0)))
-      reads)
+    (λ (none : (length t.now.first.bytes ≤ 9) × (reading ≡ Bodies [])). inl (short, none.1))
+    (λ (some : (9 < length t.now.first.bytes) × LongReads t.now.first.bytes reading). absurd (omega (arith, few, some.0)))
+    reads)
 
 -- The bytes after the first sync are those before it.
 pub head_shown : (E : Type 0) (old mid : Option Told) (fault : OpenFault) → Syncs {E = E} 0 old (Ok tt) mid →

@@ -30,14 +30,14 @@ pub one_frame : (a b : List ℕ) (x y : List ℕ) → IsBody a → IsBody b → 
     (a ≡ b) × (x ≡ y)
 one_frame a b x y is_a is_b e =
     let whole : to_le_bytes w32 (length a) ++ (a ++ x) ≡ to_le_bytes w32 (length b) ++ (b ++ y) =
-        sym (append_assoc (to_le_bytes w32 (length a)) a x) ∙ e ∙ append_assoc (to_le_bytes w32 (length b)) b y in
+    sym (append_assoc (to_le_bytes w32 (length a)) a x) ∙ e ∙ append_assoc (to_le_bytes w32 (length b)) b y in
     let parts = split_front (to_le_bytes w32 (length a)) (a ++ x) (to_le_bytes w32 (length b)) (b ++ y) refl whole in
     let small_a : length a < 2 ^ 32 = omega (arith, is_a.few) in
     let small_b : length b < 2 ^ 32 = omega (arith, is_b.few) in
     let lengths : length a ≡ length b =
-        sym (from_le_bytes-to_le_bytes_4 (length a) small_a)
-        ∙ ap (λ (l : List ℕ). from_le_bytes w32 l) parts.0
-        ∙ from_le_bytes-to_le_bytes_4 (length b) small_b in
+    sym (from_le_bytes-to_le_bytes_4 (length a) small_a)
+    ∙ ap (λ (l : List ℕ). from_le_bytes w32 l) parts.0
+    ∙ from_le_bytes-to_le_bytes_4 (length b) small_b in
     split_front a x b y lengths parts.1
 
 -- What begins with a framed body says how long it is.
@@ -51,15 +51,15 @@ frame_bounds bytes f =
     let n = length f.body in
     let small : n < 2 ^ 32 = omega (arith, f.is_body.few) in
     let whole : bytes ≡ to_le_bytes w32 n ++ (f.body ++ f.gate ∷ f.rest) =
-        f.form ∙ append_assoc (to_le_bytes w32 n) f.body (f.gate ∷ f.rest) in
+    f.form ∙ append_assoc (to_le_bytes w32 n) f.body (f.gate ∷ f.rest) in
     let size : from_le_bytes w32 (take 4 bytes) ≡ n =
-        ap (λ (l : List ℕ). from_le_bytes w32 (take 4 l)) whole
-        ∙ ap (λ (l : List ℕ). from_le_bytes w32 l) (take_at (to_le_bytes w32 n) (f.body ++ f.gate ∷ f.rest) 4 refl)
-        ∙ from_le_bytes-to_le_bytes_4 n small in
+    ap (λ (l : List ℕ). from_le_bytes w32 (take 4 l)) whole
+    ∙ ap (λ (l : List ℕ). from_le_bytes w32 l) (take_at (to_le_bytes w32 n) (f.body ++ f.gate ∷ f.rest) 4 refl)
+    ∙ from_le_bytes-to_le_bytes_4 n small in
     let long : length bytes ≡ 4 + n + (1 + length f.rest) =
-        ap (λ (l : List ℕ). length l) f.form ∙ length-append (framed f.body) (f.gate ∷ f.rest)
-        ∙ ap (λ (k : ℕ). k + length (f.gate ∷ f.rest)) (length-framed f.body)
-        ∙ (omega arith) in
+    ap (λ (l : List ℕ). length l) f.form ∙ length-append (framed f.body) (f.gate ∷ f.rest)
+    ∙ ap (λ (k : ℕ). k + length (f.gate ∷ f.rest)) (length-framed f.body)
+    ∙ (omega arith) in
     record {
       some = omega (arith, f.is_body.some, size);
       few = omega (arith, f.is_body.few, size);
@@ -87,17 +87,18 @@ frame_made bytes n word some few inside =
     let size : length body ≡ n = length-take-le n (drop 4 bytes) (omega (arith, length-drop 4 bytes)) in
     let four : to_le_bytes w32 (length body) ≡ take 4 bytes = ap (λ (k : ℕ). to_le_bytes w32 k) size ∙ word in
     let tail : drop (4 + n) bytes ≡ get_or bytes (4 + n) 0 ∷ drop (4 + n + 1) bytes =
-        drop_more bytes (4 + n) 0 inside in
+    drop_more bytes (4 + n) 0 inside in
     let rest_of : drop 4 bytes ≡ body ++ drop (4 + n) bytes =
-        sym (take-append-drop n (drop 4 bytes)) ∙ ap (λ (l : List ℕ). body ++ l) (drop_twice n 4 bytes) in
+    sym (take-append-drop n (drop 4 bytes)) ∙ ap (λ (l : List ℕ). body ++ l) (drop_twice n 4 bytes) in
     let whole : bytes ≡ framed body ++ drop (4 + n) bytes =
-        sym (take-append-drop 4 bytes)
-        ∙ ap (λ (l : List ℕ). l ++ drop 4 bytes) (sym four)
-        ∙ ap (λ (l : List ℕ). to_le_bytes w32 (length body) ++ l) rest_of
-        ∙ sym (append_assoc (to_le_bytes w32 (length body)) body (drop (4 + n) bytes)) in
-    (
+    sym (take-append-drop 4 bytes)
+    ∙ ap (λ (l : List ℕ). l ++ drop 4 bytes) (sym four)
+    ∙ ap (λ (l : List ℕ). to_le_bytes w32 (length body) ++ l) rest_of
+    ∙ sym (append_assoc (to_le_bytes w32 (length body)) body (drop (4 + n) bytes)) in (
       record {
-        body = body; gate = get_or bytes (4 + n) 0; rest = drop (4 + n + 1) bytes;
+        body = body;
+        gate = get_or bytes (4 + n) 0;
+        rest = drop (4 + n + 1) bytes;
         is_body = record { some = omega (arith, size); few = omega (arith, size) };
         form = whole ∙ ap (λ (l : List ℕ). framed body ++ l) tail;
       },
@@ -110,4 +111,4 @@ pub length_said : (bytes : List ℕ) → ((k : ℕ) → get_or bytes k 0 < 256) 
     to_le_bytes w32 (from_le_bytes w32 (take 4 bytes)) ≡ take 4 bytes
 length_said bytes are_bytes four =
     le_bytes_4 (take 4 bytes) (from_le_bytes w32 (take 4 bytes)) (length-take-le 4 bytes four)
-      (λ i. front_byte bytes are_bytes 4 i) refl
+    (λ i. front_byte bytes are_bytes 4 i) refl

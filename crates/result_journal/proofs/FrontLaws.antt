@@ -21,7 +21,7 @@ begins (b ∷ list) (f ∷ front) long same =
 
 pub begins_but : (list front back : List ℕ) (h : ℕ) → length (front ++ h ∷ back) ≤ length list →
     ((k : ℕ) → k < length (front ++ h ∷ back) → k ≢ length front →
-      get_or list k 0 ≡ get_or (front ++ h ∷ back) k 0) → BeginsBut list front back
+    get_or list k 0 ≡ get_or (front ++ h ∷ back) k 0) → BeginsBut list front back
 begins_but [] [] back h long same = absurd (omega arith)
 begins_but (b ∷ list) [] back h long same =
     let more = begins list back (omega arith) (λ k below. same (suc k) (omega arith) (omega arith)) in

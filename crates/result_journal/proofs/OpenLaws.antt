@@ -76,13 +76,19 @@ module _ (bytes : List ℕ) (given : List (List ℕ)) (place : ℕ) (are : AreBo
   -- At an open gate with no whole record they are damaged.
   pub broken_reads : (at byte : ℕ) → place < length bytes → (length bytes ≤ 9 → get_or bytes 8 0 ≢ 1) →
       IsBrokenAt bytes place at byte → Reads bytes (Broken at byte)
-  broken_reads at byte inside short b = inr (long_past inside b.gate short, record {
-    bodies = given; rest = drop (place + 1) bytes; are_bodies = are; broken = b.broken;
-    form = at_gate_form inside ∙ ap (λ (g : ℕ). before_gate given ++ g ∷ drop (place + 1) bytes) b.gate;
-    place = b.there ∙ (let e : place + 1 ≡ 9 + length (records given) =
-        omega (arith, after_records, length-append head (records given)) in e);
-    there = b.byte_there ∙ first_of_rest bytes place inside;
-  })
+  broken_reads at byte inside short b = inr (
+    long_past inside b.gate short,
+    record {
+      bodies = given;
+      rest = drop (place + 1) bytes;
+      are_bodies = are;
+      broken = b.broken;
+      form = at_gate_form inside ∙ ap (λ (g : ℕ). before_gate given ++ g ∷ drop (place + 1) bytes) b.gate;
+      place = b.there ∙ (let e : place + 1 ≡ 9 + length (records given) =
+          omega (arith, after_records, length-append head (records given)) in e);
+      there = b.byte_there ∙ first_of_rest bytes place inside;
+    },
+  )
     where
       first_of_rest : (xs : List ℕ) (k : ℕ) → k < length xs → get_or xs (k + 1) 256 ≡ get_or (drop (k + 1) xs) 0 256
       first_of_rest xs k inside =
@@ -100,26 +106,32 @@ module _ (bytes : List ℕ) (given : List (List ℕ)) (place : ℕ) (are : AreBo
       let made = frame_made rest count w.word w.some w.few inside in
       let f = made.0 in
       let same : f.body ≡ body =
-          made.1 ∙ ap (λ (l : List ℕ). take count l) (drop_twice 4 (place + 1) bytes)
-          ∙ ap (λ (k : ℕ). take count (drop k bytes)) (let e : place + 1 + 4 ≡ place + 5 = omega arith in e) ∙ sym is in
+      made.1 ∙ ap (λ (l : List ℕ). take count l) (drop_twice 4 (place + 1) bytes)
+      ∙ ap (λ (k : ℕ). take count (drop k bytes)) (let e : place + 1 + 4 ≡ place + 5 = omega arith in e) ∙ sym is in
       let is_body : IsBody body = subst (λ (l : List ℕ). IsBody l) same f.is_body in
       let form : bytes ≡ before_gate (given ++ body ∷ []) ++ f.gate ∷ f.rest =
-          at_gate_form (omega (arith, w.inside))
-          ∙ ap (λ (g : ℕ). before_gate given ++ g ∷ rest) w.gate
-          ∙ ap (λ (l : List ℕ). before_gate given ++ 1 ∷ l) (f.form ∙ ap (λ (l : List ℕ). framed l ++ f.gate ∷ f.rest) same)
-          ∙ sym (before_gate-push given body (f.gate ∷ f.rest)) in
+      at_gate_form (omega (arith, w.inside))
+      ∙ ap (λ (g : ℕ). before_gate given ++ g ∷ rest) w.gate
+      ∙ ap (λ (l : List ℕ). before_gate given ++ 1 ∷ l) (f.form ∙ ap (λ (l : List ℕ). framed l ++ f.gate ∷ f.rest) same)
+      ∙ sym (before_gate-push given body (f.gate ∷ f.rest)) in
       let size : length body ≡ count =
-          ap (λ (l : List ℕ). length l) is ∙ length-take-le count (drop (place + 5) bytes)
-            (omega (arith, length-drop (place + 5) bytes, w.inside)) in
+      ap (λ (l : List ℕ). length l) is ∙ length-take-le count (drop (place + 5) bytes)
+      (omega (arith, length-drop (place + 5) bytes, w.inside)) in
       let long : place + 5 + count ≡ length (before_gate (given ++ body ∷ [])) =
-          omega (arith, ap (λ (l : List ℕ). length l) (before_gate-push given body []),
-            length-append (before_gate (given ++ body ∷ [])) [], length-append (before_gate given) (1 ∷ framed body ++ []),
-            length-append (framed body) [], length-framed body, after_records, size) in
-      (
+      omega (
+        arith,
+        ap (λ (l : List ℕ). length l) (before_gate-push given body []),
+        length-append (before_gate (given ++ body ∷ [])) [],
+        length-append (before_gate given) (1 ∷ framed body ++ []),
+        length-append (framed body) [],
+        length-framed body,
+        after_records,
+        size,
+      ) in (
         is_body,
         bodies-push given body are is_body,
         ap (λ (l : List ℕ). take (place + 5 + count) l) form
-          ∙ take_at (before_gate (given ++ body ∷ [])) (f.gate ∷ f.rest) (place + 5 + count) (sym long),
+            ∙ take_at (before_gate (given ++ body ∷ [])) (f.gate ∷ f.rest) (place + 5 + count) (sym long),
         long,
       )
 
@@ -138,12 +150,12 @@ same_opening told old new given same same_told h =
 pub ended_opening : {D : Type 0} (told : D → Option Told) (old new : Opening D) (given : List (List ℕ)) →
     new ≡ record old { disk = new.disk } → told new.disk ≡ told old.disk → HasGiven told old given →
     (found : Option ℕ) → found ≡ None → ((t : Told) → told old.disk ≡ Some t → old.size ≡ length t.now.first.bytes →
-      FindsLength t.now.first.bytes old.place found) →
+    FindsLength t.now.first.bytes old.place found) →
     HasGiven told (record new { is_ended = true }) given
 ended_opening told old new given same same_told h found none finds =
     let at : (t : Told) → told old.disk ≡ Some t → get_or t.now.first.bytes old.place 0 ≢ 1 =
-        λ t is. subst (λ (f : Option ℕ). FindsLength t.now.first.bytes old.place f) none
-          (finds t is (h.on_disk t is).whole) in
+    λ t is. subst (λ (f : Option ℕ). FindsLength t.now.first.bytes old.place f) none
+    (finds t is (h.on_disk t is).whole) in
     subst (λ (o : Opening _). HasGiven told (record o { is_ended = true }) given) (sym same) (record {
       inside = h.inside;
       on_disk = λ t is. h.on_disk t (sym same_told ∙ is);
@@ -153,23 +165,23 @@ ended_opening told old new given same same_told h found none finds =
 pub ended_reads : {D : Type 0} (told : D → Option Told) (old : Opening D) (given : List (List ℕ)) →
     HasGiven told old given → (found : Option ℕ) → found ≡ None →
     ((t : Told) → told old.disk ≡ Some t → old.size ≡ length t.now.first.bytes →
-      FindsLength t.now.first.bytes old.place found) →
+    FindsLength t.now.first.bytes old.place found) →
     (t : Told) → told old.disk ≡ Some t → Reads t.now.first.bytes (Bodies given)
 ended_reads told old given h found none finds t is =
     let b = h.on_disk t is in
     closed_reads t.now.first.bytes given old.place b.are_bodies b.before b.after_records
-      (omega (arith, h.inside, b.whole))
-      (subst (λ (f : Option ℕ). FindsLength t.now.first.bytes old.place f) none (finds t is b.whole))
+    (omega (arith, h.inside, b.whole))
+    (subst (λ (f : Option ℕ). FindsLength t.now.first.bytes old.place f) none (finds t is b.whole))
 
 pub broken_shown : {D : Type 0} (told : D → Option Told) (old : Opening D) (given : List (List ℕ)) →
     HasGiven told old given → (fault : OpenFault) → ((t : Told) → told old.disk ≡ Some t →
-      old.size ≡ length t.now.first.bytes → BrokenFault t.now.first.bytes old.place fault) →
+    old.size ≡ length t.now.first.bytes → BrokenFault t.now.first.bytes old.place fault) →
     ShownWhereTold (told old.disk) fault
 broken_shown told old given h (NotAJournal at) finds t is = absurd (finds t is (h.on_disk t is).whole)
 broken_shown told old given h (Damaged at byte) finds t is =
     let b = h.on_disk t is in
     broken_reads t.now.first.bytes given old.place b.are_bodies b.before b.after_records at byte
-      (omega (arith, h.inside, b.whole)) b.short (finds t is b.whole)
+    (omega (arith, h.inside, b.whole)) b.short (finds t is b.whole)
 broken_shown told old given h (NewerVersion found) finds t is = absurd (finds t is (h.on_disk t is).whole)
 broken_shown told old given h DiskFailed finds t is = tt
 broken_shown told old given h Memory finds t is = tt
@@ -179,28 +191,34 @@ pub given_opening : {D : Type 0} (told : D → Option Told) (old new : Opening D
     (body : List ℕ) → new ≡ record old { disk = new.disk } → told new.disk ≡ told old.disk → HasGiven told old given →
     old.place + 5 + count < old.size → old.is_ended ≡ false →
     ((t : Told) → told old.disk ≡ Some t → old.size ≡ length t.now.first.bytes →
-      IsWholeAt t.now.first.bytes old.place count) →
+    IsWholeAt t.now.first.bytes old.place count) →
     ((t : Told) → told old.disk ≡ Some t → body ≡ take count (drop (old.place + 5) t.now.first.bytes)) →
     HasGiven told (record new { place = new.place + 5 + count }) (given ++ body ∷ [])
 given_opening told old new given count body same same_told h inside going finds read =
     subst (λ (o : Opening _). HasGiven told (record o { place = o.place + 5 + count }) (given ++ body ∷ [])) (sym same)
-      (record {
-        inside = inside;
-        on_disk = λ t is.
-            let b = h.on_disk t (sym same_told ∙ is) in
-            let more = given_more t.now.first.bytes given old.place b.are_bodies b.before b.after_records count body
-                (finds t (sym same_told ∙ is) b.whole) (read t (sym same_told ∙ is)) in
-            record {
-              synced = b.synced; whole = b.whole; are_bodies = more.1; before = more.2; after_records = more.3;
-              short = b.short;
-            };
-        when_ended = λ ended. absurd (cc);
-      })
+    (record {
+      inside = inside;
+      on_disk = λ t is.
+          let b = h.on_disk t (sym same_told ∙ is) in
+          let more = given_more t.now.first.bytes given old.place b.are_bodies b.before b.after_records count body
+          (finds t (sym same_told ∙ is) b.whole) (read t (sym same_told ∙ is)) in
+          record {
+            synced = b.synced;
+            whole = b.whole;
+            are_bodies = more.1;
+            before = more.2;
+            after_records = more.3;
+            short = b.short;
+          };
+      when_ended = λ ended. absurd (cc);
+    })
 
 pub going_opening : {D : Type 0} (told : D → Option Told) (old : Opening D) (given : List (List ℕ)) →
     HasGiven told old given → HasGiven told (record old { is_ended = false }) given
 going_opening told old given h = record {
-  inside = h.inside; on_disk = h.on_disk; when_ended = λ ended. absurd (cc);
+  inside = h.inside;
+  on_disk = h.on_disk;
+  when_ended = λ ended. absurd (cc);
 }
 
 pub given_next : {D : Type 0} (told : D → Option Told) (old mid new : Opening D) (given : List (List ℕ))
@@ -209,7 +227,7 @@ pub given_next : {D : Type 0} (told : D → Option Told) (old mid new : Opening 
     new ≡ record mid { disk = new.disk } → told new.disk ≡ told mid.disk →
     found ≡ Some count → IfFits old.place old.size found →
     ((t : Told) → told old.disk ≡ Some t → old.size ≡ length t.now.first.bytes →
-      FindsLength t.now.first.bytes old.place found) →
+    FindsLength t.now.first.bytes old.place found) →
     ((t : Told) → told mid.disk ≡ Some t → body ≡ take count (drop (mid.place + 5) t.now.first.bytes)) →
     HasGiven told (record new { place = new.place + 5 + count }) (given ++ body ∷ [])
 given_next {D} told old mid new given found count body h going same_mid told_mid same_new told_new is fits finds read =
@@ -217,13 +235,13 @@ given_next {D} told old mid new given found count body h going same_mid told_mid
     let sizes : mid.size ≡ old.size = ap (λ (o : Opening D). o.size) same_mid in
     let ends : mid.is_ended ≡ false = ap (λ (o : Opening D). o.is_ended) same_mid ∙ going in
     let whole : IfFits old.place old.size (Some count) =
-        subst (λ (f : Option ℕ). IfFits old.place old.size f) is fits in
+    subst (λ (f : Option ℕ). IfFits old.place old.size f) is fits in
     given_opening told mid new given count body same_new told_new (same_opening told old mid given same_mid told_mid h)
-      (omega (arith, whole.2, places, sizes)) ends
-      (λ t here long. subst (λ (p : ℕ). IsWholeAt t.now.first.bytes p count) (sym places)
-        (subst (λ (f : Option ℕ). FindsLength t.now.first.bytes old.place f) is
-          (finds t (sym told_mid ∙ here) (sym sizes ∙ long))))
-      read
+    (omega (arith, whole.2, places, sizes)) ends
+    (λ t here long. subst (λ (p : ℕ). IsWholeAt t.now.first.bytes p count) (sym places)
+    (subst (λ (f : Option ℕ). FindsLength t.now.first.bytes old.place f) is
+    (finds t (sym told_mid ∙ here) (sym sizes ∙ long))))
+    read
 
 pub shown_at : {T : Type 0} (told : Option Told) (result : Result T OpenFault) (fault : OpenFault) →
     IsErrAnd result (λ e. e ≡ fault) → ShownWhereTold told fault → IfErr result (ShownWhereTold told)
@@ -234,7 +252,11 @@ shown_at told (Err e) fault is shown = subst (λ (f : OpenFault). ShownWhereTold
 pub ready_stands : {D : Type 0} (told : D → Option Told) (opening : Opening D) (given : List (List ℕ)) →
     HasGiven told opening given → opening.is_ended ≡ true →
     StandsFor told (record {
-      disk = opening.disk; end = opening.place; staged = opening.staged; is_prepared = false; is_settled = true;
+      disk = opening.disk;
+      end = opening.place;
+      staged = opening.staged;
+      is_prepared = false;
+      is_settled = true;
     }) given
 ready_stands told opening given h ended = record {
   when_prepared = λ none. absurd (cc);

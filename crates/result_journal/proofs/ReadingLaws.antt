@@ -33,7 +33,10 @@ goes_on gate rest body bodies g r is_body (Without open_gate none) e =
     let next = front_of bodies g r in
     let behind : rest ≡ (framed body ++ records bodies) ++ g ∷ r = cc in
     none (record {
-      body = body; gate = next.0; rest = next.1; is_body = is_body;
+      body = body;
+      gate = next.0;
+      rest = next.1;
+      is_body = is_body;
       form = behind ∙ append_assoc (framed body) (records bodies) (g ∷ r)
           ∙ ap (λ (l : List ℕ). framed body ++ l) next.2;
     })
@@ -46,7 +49,7 @@ same_walk (a ∷ xs) [] g h x y are_as are_bs ends_g ends_h e = absurd (goes_on 
 same_walk (a ∷ xs) (b ∷ bs) g h x y are_as are_bs ends_g ends_h e =
     let behind : (framed a ++ records xs) ++ g ∷ x ≡ (framed b ++ records bs) ++ h ∷ y = cc in
     let frames = one_frame a b (records xs ++ g ∷ x) (records bs ++ h ∷ y) are_as.0 are_bs.0
-        (sym (append_assoc (framed a) (records xs) (g ∷ x)) ∙ behind ∙ append_assoc (framed b) (records bs) (h ∷ y)) in
+    (sym (append_assoc (framed a) (records xs) (g ∷ x)) ∙ behind ∙ append_assoc (framed b) (records bs) (h ∷ y)) in
     let rest = same_walk xs bs g h x y are_as.1 are_bs.1 ends_g ends_h frames.1 in
     let first : a ≡ b = frames.0 in
     let others : xs ≡ bs = rest.0 in
@@ -75,11 +78,14 @@ byte_behind (b ∷ front) rest are k = byte_behind front rest (λ i. are (suc i)
 
 record_before : (gate : ℕ) (rest : List ℕ) → gate ≡ 1 → (f : BeginsFramed rest) → Walked (f.gate ∷ f.rest) → Walked (gate ∷ rest)
 record_before gate rest open_gate f w = record {
-  bodies = f.body ∷ w.bodies; gate = w.gate; rest = w.rest; are_bodies = (f.is_body, w.are_bodies);
+  bodies = f.body ∷ w.bodies;
+  gate = w.gate;
+  rest = w.rest;
+  are_bodies = (f.is_body, w.are_bodies);
   form =
       let behind : rest ≡ (framed f.body ++ records w.bodies) ++ w.gate ∷ w.rest =
-          f.form ∙ ap (λ (l : List ℕ). framed f.body ++ l) w.form
-          ∙ sym (append_assoc (framed f.body) (records w.bodies) (w.gate ∷ w.rest)) in
+      f.form ∙ ap (λ (l : List ℕ). framed f.body ++ l) w.form
+      ∙ sym (append_assoc (framed f.body) (records w.bodies) (w.gate ∷ w.rest)) in
       (cc);
   ends = w.ends;
 }
@@ -89,8 +95,13 @@ at_gate : (gate : ℕ) (rest : List ℕ) → ((k : ℕ) → get_or rest k 0 < 25
 at_gate gate rest are next = elim (cases_eq gate 1) [
   | inr closed ↦ record { bodies = []; gate = gate; rest = rest; are_bodies = tt; form = refl; ends = Closed closed }
   | inl open_gate ↦ ⊎_elim (next open_gate) (λ none. record {
-      bodies = []; gate = gate; rest = rest; are_bodies = tt; form = refl; ends = Without open_gate none;
-    }) (frame_or_not rest are)
+    bodies = [];
+    gate = gate;
+    rest = rest;
+    are_bodies = tt;
+    form = refl;
+    ends = Without open_gate none;
+  }) (frame_or_not rest are)
 ]
 
 length_behind : (rest : List ℕ) (f : BeginsFramed rest) → length f.rest < length rest
@@ -102,8 +113,8 @@ walk zero gate rest small are = at_gate gate rest are
     (λ open_gate f. absurd (omega (arith, length_behind rest f, small)))
 walk (suc n) gate rest small are = at_gate gate rest are (λ open_gate f. record_before gate rest open_gate f
     (walk n f.gate f.rest (omega (arith, length_behind rest f, small))
-      (λ k. byte_behind (framed f.body) (f.gate ∷ f.rest)
-        (λ i. subst (λ (l : List ℕ). get_or l i 0 < 256) f.form (are i)) (suc k))))
+    (λ k. byte_behind (framed f.body) (f.gate ∷ f.rest)
+    (λ i. subst (λ (l : List ℕ). get_or l i 0 < 256) f.form (are i)) (suc k))))
 
 -- A head of version 1 is one of a journal,
 pub head_of_head : (rest : List ℕ) (k : ℕ) → k < 8 → IsOfHead k (get_or (head ++ rest) k 0)
@@ -129,12 +140,12 @@ first_place : (bytes : List ℕ) (n : ℕ) → n ≤ 8 →
 first_place bytes zero small = inl (λ k below. absurd (omega arith))
 first_place bytes (suc n) small = ⊎_elim
     (λ below. ⊎_elim
-      (λ here. inl (λ k less. elim (cases_lt k n) [
-        | inl lower ↦ below k lower
-        | inr upper ↦ let same : n ≡ k = omega arith in subst (λ (i : ℕ). IsOfHead i (get_or bytes i 0)) same here
-      ]))
-      (λ strange. inr (n, record { inside = omega arith; before = below; first = strange }))
-      (of_head_or_not n (get_or bytes n 0)))
+    (λ here. inl (λ k less. elim (cases_lt k n) [
+      | inl lower ↦ below k lower
+      | inr upper ↦ let same : n ≡ k = omega arith in subst (λ (i : ℕ). IsOfHead i (get_or bytes i 0)) same here
+    ]))
+    (λ strange. inr (n, record { inside = omega arith; before = below; first = strange }))
+    (of_head_or_not n (get_or bytes n 0)))
     (λ found. inr found)
     (first_place bytes n (omega arith))
   where
@@ -165,7 +176,7 @@ pub begins_with_head : (bytes : List ℕ) → 8 ≤ length bytes → ((k : ℕ) 
 begins_with_head bytes long each version =
     let size : length (take 8 bytes) ≡ 8 = length-take-le 8 bytes long in
     let front : take 8 bytes ≡ head = ext_get_or 0 (take 8 bytes) head size
-        (λ k below. get_or-take 8 bytes k 0 (omega (arith, size, below)) ∙ place k (omega (arith, size, below))) in
+    (λ k below. get_or-take 8 bytes k 0 (omega (arith, size, below)) ∙ place k (omega (arith, size, below))) in
     sym (take-append-drop 8 bytes) ∙ ap (λ (l : List ℕ). l ++ drop 8 bytes) front
   where
     place : (k : ℕ) → k < 8 → get_or bytes k 0 ≡ get_or head k 0
@@ -190,14 +201,14 @@ same_records : (bytes : List ℕ) (xs ys : List (List ℕ)) (g h : ℕ) (x y : L
     (xs ≡ ys) × (g ≡ h) × (x ≡ y)
 same_records bytes xs ys g h x y are_xs are_ys ends_g ends_h one other =
     same_walk xs ys g h x y are_xs are_ys ends_g ends_h
-      (append_cancel_left head (records xs ++ g ∷ x) (records ys ++ h ∷ y)
-        (sym (behind_head bytes xs g x one) ∙ behind_head bytes ys h y other))
+    (append_cancel_left head (records xs ++ g ∷ x) (records ys ++ h ∷ y)
+    (sym (behind_head bytes xs g x one) ∙ behind_head bytes ys h y other))
 
 heads : (bytes : List ℕ) (bodies : List (List ℕ)) (gate : ℕ) (rest : List ℕ) →
     bytes ≡ head ++ records bodies ++ gate ∷ rest → (k : ℕ) → k < 8 → IsOfHead k (get_or bytes k 0)
 heads bytes bodies gate rest form k below =
     subst (λ (l : List ℕ). IsOfHead k (get_or l k 0)) (sym (behind_head bytes bodies gate rest form))
-      (head_of_head (records bodies ++ gate ∷ rest) k below)
+    (head_of_head (records bodies ++ gate ∷ rest) k below)
 
 version_one : (bytes : List ℕ) (bodies : List (List ℕ)) (gate : ℕ) (rest : List ℕ) →
     bytes ≡ head ++ records bodies ++ gate ∷ rest → get_or bytes 7 0 ≡ 49
@@ -207,13 +218,13 @@ version_one bytes bodies gate rest form =
 same_reading : (bytes : List ℕ) (one other : Reading) → LongReads bytes one → LongReads bytes other → one ≡ other
 same_reading bytes (Bodies xs) (Bodies ys) a b =
     ap Bodies (same_records bytes xs ys a.gate b.gate a.rest b.rest a.are_bodies b.are_bodies
-      (Closed a.closed) (Closed b.closed) a.form b.form).0
+    (Closed a.closed) (Closed b.closed) a.form b.form).0
 same_reading bytes (Bodies xs) (Foreign at) a b = absurd (b.first (heads bytes xs a.gate a.rest a.form at b.inside))
 same_reading bytes (Bodies xs) (Newer found) a b =
     absurd (b.newer (b.version ∙ version_one bytes xs a.gate a.rest a.form))
 same_reading bytes (Bodies xs) (Broken at byte) a b =
     absurd (a.closed (same_records bytes xs b.bodies a.gate 1 a.rest b.rest a.are_bodies b.are_bodies
-      (Closed a.closed) (Without refl b.broken) a.form b.form).1)
+    (Closed a.closed) (Without refl b.broken) a.form b.form).1)
 same_reading bytes (Foreign at) (Bodies ys) a b = absurd (a.first (heads bytes ys b.gate b.rest b.form at a.inside))
 same_reading bytes (Foreign at) (Foreign bt) a b = elim (cases_eq at bt) [
   | inl same ↦ ap Foreign same
@@ -233,16 +244,16 @@ same_reading bytes (Newer found) (Broken bt byte) a b =
     absurd (a.newer (a.version ∙ version_one bytes b.bodies 1 b.rest b.form))
 same_reading bytes (Broken at byte) (Bodies ys) a b =
     absurd (b.closed (sym (same_records bytes a.bodies ys 1 b.gate a.rest b.rest a.are_bodies b.are_bodies
-      (Without refl a.broken) (Closed b.closed) a.form b.form).1))
+    (Without refl a.broken) (Closed b.closed) a.form b.form).1))
 same_reading bytes (Broken at byte) (Foreign bt) a b =
     absurd (b.first (heads bytes a.bodies 1 a.rest a.form bt b.inside))
 same_reading bytes (Broken at byte) (Newer found) a b =
     absurd (b.newer (b.version ∙ version_one bytes a.bodies 1 a.rest a.form))
 same_reading bytes (Broken at byte) (Broken bt other) a b =
     let same = same_records bytes a.bodies b.bodies 1 1 a.rest b.rest a.are_bodies b.are_bodies
-        (Without refl a.broken) (Without refl b.broken) a.form b.form in
+    (Without refl a.broken) (Without refl b.broken) a.form b.form in
     let places : at ≡ bt =
-        a.place ∙ ap (λ (xs : List (List ℕ)). 9 + length (records xs)) same.0 ∙ sym b.place in
+    a.place ∙ ap (λ (xs : List (List ℕ)). 9 + length (records xs)) same.0 ∙ sym b.place in
     let there : byte ≡ other = a.there ∙ ap (λ (l : List ℕ). get_or l 0 256) same.2 ∙ sym b.there in
     (cc)
 
@@ -255,15 +266,35 @@ no_other_reading bytes one other (inr a) (inr b) = same_reading bytes one other 
 read_walk : (bytes : List ℕ) → 9 < length bytes → bytes ≡ head ++ drop 8 bytes → Walked (drop 8 bytes) →
     (reading : Reading) × Reads bytes reading
 read_walk bytes long front w = elim w.ends [
-  | Closed closed ↦ (Bodies w.bodies, inr (long, record {
-      gate = w.gate; rest = w.rest; closed = closed; are_bodies = w.are_bodies;
-      form = before_head bytes w.bodies w.gate w.rest (front ∙ ap (λ (l : List ℕ). head ++ l) w.form);
-    }))
-  | Without open_gate none ↦ (Broken (9 + length (records w.bodies)) (get_or w.rest 0 256), inr (long, record {
-      bodies = w.bodies; rest = w.rest; are_bodies = w.are_bodies; broken = none; place = refl; there = refl;
-      form = subst (λ (g : ℕ). bytes ≡ head ++ records w.bodies ++ g ∷ w.rest) open_gate
-          (before_head bytes w.bodies w.gate w.rest (front ∙ ap (λ (l : List ℕ). head ++ l) w.form));
-    }))
+  | Closed closed ↦ (
+    Bodies w.bodies,
+    inr (
+      long,
+      record {
+        gate = w.gate;
+        rest = w.rest;
+        closed = closed;
+        are_bodies = w.are_bodies;
+        form = before_head bytes w.bodies w.gate w.rest (front ∙ ap (λ (l : List ℕ). head ++ l) w.form);
+      },
+    ),
+  )
+  | Without open_gate none ↦ (
+    Broken (9 + length (records w.bodies)) (get_or w.rest 0 256),
+    inr (
+      long,
+      record {
+        bodies = w.bodies;
+        rest = w.rest;
+        are_bodies = w.are_bodies;
+        broken = none;
+        place = refl;
+        there = refl;
+        form = subst (λ (g : ℕ). bytes ≡ head ++ records w.bodies ++ g ∷ w.rest) open_gate
+            (before_head bytes w.bodies w.gate w.rest (front ∙ ap (λ (l : List ℕ). head ++ l) w.form));
+      },
+    ),
+  )
 ]
 
 -- Where the bytes are numbers below 256, there is a reading.
@@ -271,17 +302,17 @@ pub some_reading : (bytes : List ℕ) → ((k : ℕ) → get_or bytes k 0 < 256)
 some_reading bytes are = elim (cases_lt 9 (length bytes)) [
   | inr short ↦ (Bodies [], inl (short, refl))
   | inl long ↦ ⊎_elim
-    (λ each. elim (cases_eq (get_or bytes 7 0) 49) [
-      | inr other ↦ (Newer (get_or bytes 7 0), inr (long, record { head = each; version = refl; newer = other }))
-      | inl version ↦
-          let front = begins_with_head bytes (omega arith) each version in
-          let tail : drop 8 bytes ≡ get_or bytes 8 0 ∷ drop 9 bytes = drop_more bytes 8 0 (omega arith) in
-          let walked : Walked (drop 8 bytes) = subst Walked (sym tail)
-              (walk (length (drop 9 bytes)) (get_or bytes 8 0) (drop 9 bytes) (omega arith)
-                (byte_behind (take 9 bytes) (drop 9 bytes)
-                  (λ k. subst (λ (l : List ℕ). get_or l k 0 < 256) (sym (take-append-drop 9 bytes)) (are k)))) in
-          read_walk bytes long front walked
-    ])
-    (λ found. (Foreign found.0, inr (long, found.1)))
-    (first_place bytes 8 (omega arith))
+      (λ each. elim (cases_eq (get_or bytes 7 0) 49) [
+        | inr other ↦ (Newer (get_or bytes 7 0), inr (long, record { head = each; version = refl; newer = other }))
+        | inl version ↦
+            let front = begins_with_head bytes (omega arith) each version in
+            let tail : drop 8 bytes ≡ get_or bytes 8 0 ∷ drop 9 bytes = drop_more bytes 8 0 (omega arith) in
+            let walked : Walked (drop 8 bytes) = subst Walked (sym tail)
+            (walk (length (drop 9 bytes)) (get_or bytes 8 0) (drop 9 bytes) (omega arith)
+            (byte_behind (take 9 bytes) (drop 9 bytes)
+            (λ k. subst (λ (l : List ℕ). get_or l k 0 < 256) (sym (take-append-drop 9 bytes)) (are k)))) in
+            read_walk bytes long front walked
+      ])
+      (λ found. (Foreign found.0, inr (long, found.1)))
+      (first_place bytes 8 (omega arith))
 ]

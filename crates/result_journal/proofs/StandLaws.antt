@@ -3,7 +3,8 @@ use Rattle.std.proofs.Common.{◌≡◌, ◌≢◌, ◌⊎◌, inl, inr, ⊎_eli
 use Rattle.std.proofs.lemmas.Bool.{cases_eq, cases_lt}
 use Rattle.std.proofs.lemmas.Bool.Decides.{nat_tests}
 use Rattle.std.proofs.lemmas.List.{append-nil}
-use Rattle.disks.specs.Parts.{Part, Range, IsPartImage, is_among, all_synced, written_over, write_begun}
+use Rattle.disks.specs.declared.range.Range.{Range}
+use Rattle.disks.specs.Parts.{Part, IsPartImage, is_among, all_synced, written_over, write_begun}
 use Rattle.result_journal.specs.Grammar.{head, IsBody, framed, records, AreBodies, Reading, Bodies, Reads}
 use Rattle.result_journal.specs.Steps.{BeginsBut}
 use Rattle.disks.specs.Moments.{Told}
@@ -23,15 +24,15 @@ pub image_begins : (part : Part) (front image : List ℕ) (free : ℕ) → lengt
     IsPartImage part image → Begins image front
 image_begins part front image free past stands is =
     begins image front (omega (arith, stands.long, is.no_shorter))
-      (λ k below. let apart : k ≢ free = omega arith in
-        is.kept k (omega (arith, stands.long)) (stands.untouched k below apart) ∙ stands.kept k below apart)
+    (λ k below. let apart : k ≢ free = omega arith in
+    is.kept k (omega (arith, stands.long)) (stands.untouched k below apart) ∙ stands.kept k below apart)
 
 pub image_begins_but : (part : Part) (front back image : List ℕ) (h free : ℕ) → free ≡ length front →
     StandsBut part free (front ++ h ∷ back) → IsPartImage part image → BeginsBut image front back
 image_begins_but part front back image h free place stands is =
     begins_but image front back h (omega (arith, stands.long, is.no_shorter))
-      (λ k below apart. let other : k ≢ free = omega arith in
-        is.kept k (omega (arith, stands.long)) (stands.untouched k below other) ∙ stands.kept k below other)
+    (λ k below apart. let other : k ≢ free = omega arith in
+    is.kept k (omega (arith, stands.long)) (stands.untouched k below other) ∙ stands.kept k below other)
 
 -- A write that is begun elsewhere leaves it so, and a write at the free place does.
 pub write_elsewhere : (part : Part) (front : List ℕ) (free at count : ℕ) (bytes : List ℕ) →
@@ -89,8 +90,13 @@ reads_closed image [] gate rest closed are form = elim (cases_lt 9 (length image
 ]
 reads_closed image (c ∷ commands) gate rest closed are form =
     let more : 9 < length image =
-        omega (arith, ap (λ (l : List ℕ). length l) form, length-append (before_gate (c ∷ commands)) (gate ∷ rest),
-          length-append head (records (c ∷ commands)), length-append (framed c) (records commands)) in
+    omega (
+      arith,
+      ap (λ (l : List ℕ). length l) form,
+      length-append (before_gate (c ∷ commands)) (gate ∷ rest),
+      length-append head (records (c ∷ commands)),
+      length-append (framed c) (records commands),
+    ) in
     inr (more, record { gate = gate; rest = rest; closed = closed; are_bodies = are; form = form })
 
 -- At rest each image reads as the commands,
@@ -101,7 +107,7 @@ at_rest_reads part commands end image rest is =
     let long : length front ≤ end + 1 = omega (arith, length-append (before_gate commands) (rest.gate ∷ []), rest.place) in
     let b = image_begins part front image (end + 1) long rest.stands is in
     reads_closed image commands rest.gate b.rest rest.closed rest.are_bodies
-      (b.form ∙ append_assoc (before_gate commands) (rest.gate ∷ []) b.rest)
+    (b.form ∙ append_assoc (before_gate commands) (rest.gate ∷ []) b.rest)
 
 -- and at the gate as the commands, or as these and the one behind it.
 pub at_gate_reads : (part : Part) (commands : List (List ℕ)) (command : List ℕ) (end : ℕ) (image : List ℕ) →
@@ -114,22 +120,22 @@ at_gate_reads part commands command end image at is =
       | inl open_gate ↦ inr (reads_closed image (commands ++ command ∷ []) 0 b.rest (omega arith)
           (bodies-push commands command at.are_bodies at.is_body)
           (subst (λ (g : ℕ). image ≡ before_gate commands ++ g ∷ ((framed command ++ 0 ∷ []) ++ b.rest)) open_gate b.form
-            ∙ ap (λ (l : List ℕ). before_gate commands ++ 1 ∷ l) (append_assoc (framed command) (0 ∷ []) b.rest)
-            ∙ sym (before_gate-push commands command (0 ∷ b.rest))))
+          ∙ ap (λ (l : List ℕ). before_gate commands ++ 1 ∷ l) (append_assoc (framed command) (0 ∷ []) b.rest)
+          ∙ sym (before_gate-push commands command (0 ∷ b.rest))))
     ]
 
 -- What a journal that stands for commands leaves.
 pub stands_leave : {D : Type 0} (told : D → Option Told) (journal : Journal D) (commands : List (List ℕ)) →
     StandsFor told journal commands → MatchBool journal.is_settled
-      (Leaves (told journal.disk) (ReadsAs commands))
-      (Leaves (told journal.disk) (BeforeOrAfter commands (prepared journal)))
+    (Leaves (told journal.disk) (ReadsAs commands))
+    (Leaves (told journal.disk) (BeforeOrAfter commands (prepared journal)))
 stands_leave told journal commands stands = by_gate journal.is_settled stands.on_disk
   where
     by_gate : (settled : Bool) → ((t : Told) → told journal.disk ≡ Some t →
         MatchBool settled (AtRest t.now.first commands journal.end)
-          (AtGate t.now.first commands (prepared journal) journal.end)) →
+        (AtGate t.now.first commands (prepared journal) journal.end)) →
         MatchBool settled (Leaves (told journal.disk) (ReadsAs commands))
-          (Leaves (told journal.disk) (BeforeOrAfter commands (prepared journal)))
+        (Leaves (told journal.disk) (BeforeOrAfter commands (prepared journal)))
     by_gate true at = λ t is image may. at_rest_reads t.now.first commands journal.end image.first (at t is) may.first
     by_gate false at = λ t is image may.
         at_gate_reads t.now.first commands (prepared journal) journal.end image.first (at t is) may.first
@@ -156,7 +162,10 @@ module _ (part : Part) (commands : List (List ℕ)) (end : ℕ) (rest : AtRest p
   -- A write behind the gate leaves it at rest,
   pub rest_write : (count : ℕ) (bytes : List ℕ) → AtRest (write_begun part (end + 1) count bytes) commands end
   rest_write count bytes = record {
-    gate = rest.gate; closed = rest.closed; are_bodies = rest.are_bodies; place = rest.place;
+    gate = rest.gate;
+    closed = rest.closed;
+    are_bodies = rest.are_bodies;
+    place = rest.place;
     stands = write_elsewhere part (before_gate commands ++ rest.gate ∷ []) (end + 1) (end + 1) count bytes
         (λ k below other. inl (omega (arith, length-front commands rest.gate end rest.place))) rest.stands;
   }
@@ -166,7 +175,7 @@ module _ (part : Part) (commands : List (List ℕ)) (end : ℕ) (rest : AtRest p
   written piece is =
       let b = rest_begins part.bytes is in
       let w = written_behind (before_gate commands ++ rest.gate ∷ []) b.rest piece (end + 1)
-          (sym (length-front commands rest.gate end rest.place)) in
+      (sym (length-front commands rest.gate end rest.place)) in
       record {
         rest = w.rest;
         form = ap (λ (l : List ℕ). written_over l (end + 1) piece) b.form ∙ w.form;
@@ -178,7 +187,10 @@ module _ (part : Part) (commands : List (List ℕ)) (end : ℕ) (rest : AtRest p
   rest_synced piece is =
       let w = written piece is in
       record {
-        gate = rest.gate; closed = rest.closed; are_bodies = rest.are_bodies; place = rest.place;
+        gate = rest.gate;
+        closed = rest.closed;
+        are_bodies = rest.are_bodies;
+        place = rest.place;
         stands = synced_stands (written_over part.bytes (end + 1) piece) (before_gate commands ++ rest.gate ∷ []) (end + 1)
             (record {
               rest = piece ++ w.rest;
@@ -191,7 +203,8 @@ module _ (part : Part) (commands : List (List ℕ)) (end : ℕ) (rest : AtRest p
   rest_staged piece is =
       let w = written piece is in
       record {
-        there = rest.gate; rest = w.rest;
+        there = rest.gate;
+        rest = w.rest;
         form = w.form
             ∙ append_assoc (before_gate commands ++ rest.gate ∷ []) piece w.rest
             ∙ append_assoc (before_gate commands) (rest.gate ∷ []) (piece ++ w.rest);
@@ -202,7 +215,9 @@ pub staged_at_gate : (bytes : List ℕ) (commands : List (List ℕ)) (command : 
     IsBody command → end ≡ length (before_gate commands) →
     BeginsBut bytes (before_gate commands) (framed command ++ 0 ∷ []) → AtGate (all_synced bytes) commands command end
 staged_at_gate bytes commands command end are is place b = record {
-  are_bodies = are; is_body = is; place = place;
+  are_bodies = are;
+  is_body = is;
+  place = place;
   stands = synced_stands_but bytes (before_gate commands) (framed command ++ 0 ∷ []) 0 end place b;
 }
 
@@ -215,9 +230,15 @@ opened_end : (commands : List (List ℕ)) (command : List ℕ) (end : ℕ) → e
     end + (5 + length command) ≡ length (before_gate (commands ++ command ∷ []))
 opened_end commands command end place =
     let longer = ap (λ (l : List ℕ). length l) (before_gate-push commands command []) in
-    omega (arith, longer, length-append (before_gate (commands ++ command ∷ [])) [],
-      length-append (before_gate commands) (1 ∷ framed command ++ []), length-append (framed command) [],
-      length-framed command, place)
+    omega (
+      arith,
+      longer,
+      length-append (before_gate (commands ++ command ∷ [])) [],
+      length-append (before_gate commands) (1 ∷ framed command ++ []),
+      length-append (framed command) [],
+      length-framed command,
+      place,
+    )
 
 -- The gate is opened, and it is at rest with one command more.
 pub opened : (bytes : List ℕ) (commands : List (List ℕ)) (command : List ℕ) (end : ℕ) → AreBodies commands →
@@ -227,13 +248,15 @@ pub opened : (bytes : List ℕ) (commands : List (List ℕ)) (command : List ℕ
 opened bytes commands command end are is place b =
     let front = before_gate (commands ++ command ∷ []) in
     let form : written_over bytes end (1 ∷ []) ≡ (front ++ 0 ∷ []) ++ b.rest =
-        ap (λ (l : List ℕ). written_over l end (1 ∷ [])) b.form
-        ∙ written_byte (before_gate commands) ((framed command ++ 0 ∷ []) ++ b.rest) b.there 1 end place
-        ∙ ap (λ (l : List ℕ). before_gate commands ++ 1 ∷ l) (append_assoc (framed command) (0 ∷ []) b.rest)
-        ∙ sym (before_gate-push commands command (0 ∷ b.rest))
-        ∙ sym (append_assoc front (0 ∷ []) b.rest) in
+    ap (λ (l : List ℕ). written_over l end (1 ∷ [])) b.form
+    ∙ written_byte (before_gate commands) ((framed command ++ 0 ∷ []) ++ b.rest) b.there 1 end place
+    ∙ ap (λ (l : List ℕ). before_gate commands ++ 1 ∷ l) (append_assoc (framed command) (0 ∷ []) b.rest)
+    ∙ sym (before_gate-push commands command (0 ∷ b.rest))
+    ∙ sym (append_assoc front (0 ∷ []) b.rest) in
     record {
-      gate = 0; closed = omega arith; are_bodies = bodies-push commands command are is;
+      gate = 0;
+      closed = omega arith;
+      are_bodies = bodies-push commands command are is;
       place = opened_end commands command end place;
       stands = synced_stands (written_over bytes end (1 ∷ [])) (front ++ 0 ∷ []) (end + (5 + length command) + 1)
           (record { rest = b.rest; form = form });
@@ -244,7 +267,9 @@ module _ (part : Part) (commands : List (List ℕ)) (command : List ℕ) (end : 
   -- A write of the gate leaves it so,
   pub gate_write : (bytes : List ℕ) → AtGate (write_begun part end 1 bytes) commands command end
   gate_write bytes = record {
-    are_bodies = at.are_bodies; is_body = at.is_body; place = at.place;
+    are_bodies = at.are_bodies;
+    is_body = at.is_body;
+    place = at.place;
     stands = write_elsewhere part (before_gate commands ++ 0 ∷ (framed command ++ 0 ∷ [])) end end 1 bytes
         (λ k below other. elim (cases_lt k end) [ inl less ↦ inl less | inr more ↦ inr (omega arith) ]) at.stands;
   }
@@ -262,12 +287,15 @@ module _ (part : Part) (commands : List (List ℕ)) (command : List ℕ) (end : 
   closed_again is =
       let b = gate_begins is in
       let form : written_over part.bytes end (0 ∷ []) ≡
-              (before_gate commands ++ 0 ∷ []) ++ ((framed command ++ 0 ∷ []) ++ b.rest) =
-          ap (λ (l : List ℕ). written_over l end (0 ∷ [])) b.form
-          ∙ written_byte (before_gate commands) ((framed command ++ 0 ∷ []) ++ b.rest) b.there 0 end at.place
-          ∙ sym (append_assoc (before_gate commands) (0 ∷ []) ((framed command ++ 0 ∷ []) ++ b.rest)) in
+      (before_gate commands ++ 0 ∷ []) ++ ((framed command ++ 0 ∷ []) ++ b.rest) =
+      ap (λ (l : List ℕ). written_over l end (0 ∷ [])) b.form
+      ∙ written_byte (before_gate commands) ((framed command ++ 0 ∷ []) ++ b.rest) b.there 0 end at.place
+      ∙ sym (append_assoc (before_gate commands) (0 ∷ []) ((framed command ++ 0 ∷ []) ++ b.rest)) in
       record {
-        gate = 0; closed = omega arith; are_bodies = at.are_bodies; place = at.place;
+        gate = 0;
+        closed = omega arith;
+        are_bodies = at.are_bodies;
+        place = at.place;
         stands = synced_stands (written_over part.bytes end (0 ∷ [])) (before_gate commands ++ 0 ∷ []) (end + 1)
             (record { rest = (framed command ++ 0 ∷ []) ++ b.rest; form = form });
       }

@@ -29,12 +29,12 @@ at_each_step at piece (Some t) new (Err e') Q writes each =
     let P : Image → Type 0 = λ image. Q image.first in
     let first = at_first t P (λ image may. e.before image.first may.first) in
     ⊎_elim
-      (λ (same : new ≡ Some t). subst (λ (n : Option Told). AtEachMoment (Some t) n P) (sym same) first)
-      (λ (begun : (bytes : List ℕ) × (new ≡ Some (after t 0 (write_begun t.now.first at (length piece) bytes)))).
-        subst (λ (n : Option Told). AtEachMoment (Some t) n P) (sym begun.1)
-          (at_next t t 0 (write_begun t.now.first at (length piece) begun.0) P first
-            (λ image may. e.during begun.0 image.first may.first)))
-      writes
+    (λ (same : new ≡ Some t). subst (λ (n : Option Told). AtEachMoment (Some t) n P) (sym same) first)
+    (λ (begun : (bytes : List ℕ) × (new ≡ Some (after t 0 (write_begun t.now.first at (length piece) bytes)))).
+    subst (λ (n : Option Told). AtEachMoment (Some t) n P) (sym begun.1)
+    (at_next t t 0 (write_begun t.now.first at (length piece) begun.0) P first
+    (λ image may. e.during begun.0 image.first may.first)))
+    writes
 
 same_told : (o : Option Told) (t u : Told) → o ≡ Some t → o ≡ Some u → t ≡ u
 same_told o t u one other = cc
@@ -51,13 +51,14 @@ part_when_done E at piece (Some t) new writes u here =
 pub part_when_failed : {E : Type 0} (at : ℕ) (piece : List ℕ) (old new : Option Told) (e : E) →
     WritesThrough at piece old (Err e) new → (u : Told) → new ≡ Some u →
     (t : Told) × (old ≡ Some t) × ((u.now.first ≡ t.now.first)
-      ⊎ ((bytes : List ℕ) × (u.now.first ≡ write_begun t.now.first at (length piece) bytes)))
+    ⊎ ((bytes : List ℕ) × (u.now.first ≡ write_begun t.now.first at (length piece) bytes)))
 part_when_failed at piece None new e writes u here = absurd (cc)
 part_when_failed at piece (Some t) new e writes u here = (
-    t, refl,
-    ⊎_elim
+  t,
+  refl,
+  ⊎_elim
       (λ (same : new ≡ Some t). inl (ap (λ (told : Told). told.now.first) (same_told new u t here same)))
       (λ (begun : (bytes : List ℕ) × (new ≡ Some (after t 0 (write_begun t.now.first at (length piece) bytes)))).
-        inr (begun.0, ap (λ (told : Told). told.now.first) (same_told new u _ here begun.1)))
+      inr (begun.0, ap (λ (told : Told). told.now.first) (same_told new u _ here begun.1)))
       writes,
 )

@@ -22,7 +22,7 @@ read_more bytes at done count before room so_far front gives some = record {
   read = take-add done count room
       ∙ ap (λ (l : List ℕ). l ++ take count (drop done room)) (front ∙ so_far.read)
       ∙ ap (λ (l : List ℕ). take done (drop at bytes) ++ l)
-        (gives.given ∙ ap (λ (l : List ℕ). take count l) (sym (drop_twice done at bytes)))
+      (gives.given ∙ ap (λ (l : List ℕ). take count l) (sym (drop_twice done at bytes)))
       ∙ sym (take-add done count (drop at bytes));
 }
 

@@ -73,7 +73,7 @@ pub record StandsFor {D : Type 0} (told : D → Option Told) (journal : Journal 
   pub when_unsettled : journal.is_settled ≡ false → journal.is_prepared ≡ true
   pub on_disk : (t : Told) → told journal.disk ≡ Some t →
       MatchBool journal.is_settled (AtRest t.now.first commands journal.end)
-        (AtGate t.now.first commands (prepared journal) journal.end)
+      (AtGate t.now.first commands (prepared journal) journal.end)
 
 abbrev pub StandsForSome : {D : Type 0} → (D → Option Told) → Journal D → Type 0
 StandsForSome told journal = (commands : List (List ℕ)) × StandsFor told journal commands

@@ -14,6 +14,7 @@ use fault_counts::Failed;
 
 /// The name and version 1, and a closed gate.
 const EMPTY_JOURNAL: [u8; 9] = [82, 68, 66, 74, 82, 78, 76, 49, 0];
+
 pub const EMPTY_SIZE: u64 = 9;
 
 // Writes an empty journal over at most nine bytes, cuts to it, and syncs.

@@ -18,6 +18,7 @@ const GREATEST_LENGTH: u64 = 1 << 30;
 
 /// The gate of a record that counts, and of one that doesn't.
 const OPEN: u8 = 1;
+
 const CLOSED: u8 = 0;
 
 /// Why a record can't be prepared.

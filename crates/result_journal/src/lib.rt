@@ -5,14 +5,15 @@ mod begin;
 mod journal;
 mod laws;
 mod opening;
+mod plain;
 mod read_whole;
 mod write_through;
 
+use fault_counts::Failed;
 pub use journal::{Full, Journal};
 pub use laws::one_reading;
 pub use opening::{OpenFault, Opening};
-
-use fault_counts::Failed;
+pub use plain::PlainJournal;
 
 /// A call on the disk failed, and the disk counts it in its faults.
 #[derive(Clone, Copy, Debug)]
@@ -23,3 +24,6 @@ impl From<Failed> for DiskFailed {
         DiskFailed
     }
 }
+
+#[cfg(test)]
+mod tests;

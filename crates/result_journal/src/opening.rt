@@ -59,6 +59,7 @@ pub struct Opening<D: Disk> {
 }
 
 const OPEN: u8 = 1;
+
 const GREATEST_BODY: u32 = 1 << 23;
 
 impl<D: Disk> Opening<D> {
@@ -160,6 +161,8 @@ impl<D: Disk> Opening<D> {
         ensures err { OnErr result (into.new.items ≡ []) }
         ensures err_keeps { OnErr result ((given : List (List ℕ)) →
             HasGiven D.told self.old given → HasGiven D.told self.new given) }
+
+        ensures still { HasGivenSome D.told self.new }
 
         // The disk isn't changed.
         ensures told { D.told (opened_disk self.new) ≡ D.told (opened_disk self.old) }

@@ -7,6 +7,6 @@ pub returns-clause-judged : goal.returns-clause-judged
 returns-clause-judged g c = λ t is long.
     let whole : c.in_ok-whole.whole ≡ true = search rules in
     judged t.now.first.bytes c.read_whole.new.room (omega arith)
-      (subst (λ (b : Bool). FillsRoom t.now.first.bytes 0 c.read_whole.new.room b) whole (c.in_ok-whole.ensures.fills t is))
-      c.judge_head.result
-      c.judge_head.ensures.judged
+    (subst (λ (b : Bool). FillsRoom t.now.first.bytes 0 c.read_whole.new.room b) whole (c.in_ok-whole.ensures.fills t is))
+    c.judge_head.result
+    c.judge_head.ensures.judged

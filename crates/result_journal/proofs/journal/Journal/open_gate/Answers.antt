@@ -9,7 +9,7 @@ write_through-requires g c = open_long g.D.Disk.told c.args.self.now c.requires.
 pub returns-in_err-write_through-clause-any_moment : goal.returns-in_err-write_through-clause-any_moment
 returns-in_err-write_through-clause-any_moment g c = λ commands stands staged.
     open_moments g.D.Disk.told c.args.self.now commands stands (g.met.D.Disk.reads_as_image c.args.self.now.disk) staged
-      (g.D.Disk.told c.write_through.new.disk) c.write_through.result c.write_through.ensures.writes
+    (g.D.Disk.told c.write_through.new.disk) c.write_through.result c.write_through.ensures.writes
 
 pub returns-in_err-write_through-clause-err : goal.returns-in_err-write_through-clause-err
 returns-in_err-write_through-clause-err g c = on_each_err c.from_residual.result (λ commands stands staged.
@@ -24,10 +24,10 @@ returns-in_err-write_through-clause-err g c = on_each_err c.from_residual.result
 pub returns-clause-any_moment : goal.returns-clause-any_moment
 returns-clause-any_moment g c = λ commands stands staged.
     open_moments g.D.Disk.told c.args.self.now commands stands (g.met.D.Disk.reads_as_image c.args.self.now.disk) staged
-      (g.D.Disk.told c.write_through.new.disk) c.write_through.result c.write_through.ensures.writes
+    (g.D.Disk.told c.write_through.new.disk) c.write_through.result c.write_through.ensures.writes
 
 pub returns-clause-ok : goal.returns-clause-ok
 returns-clause-ok g c = λ commands stands staged.
     let size : c.len.result ≡ length c.args.self.now.staged.items = search rules in
     open_stands g.D.Disk.told c.args.self.now commands stands (g.met.D.Disk.reads_as_image c.args.self.now.disk) staged
-      _ c.write_through.new.disk c.len.result size c.requires.prepared c.in_ok-write_through.ensures.writes
+    _ c.write_through.new.disk c.len.result size c.requires.prepared c.in_ok-write_through.ensures.writes
