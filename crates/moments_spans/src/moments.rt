@@ -206,7 +206,7 @@ impl Moment {
     /// year 1 or after the year 9999 in UTC. Takes no memory, and so never answers `Memory`.
     pub fn parse(alloc: Global, text: &[u8]) -> Result<Moment, NameFault>
         ensures said { IfOk result (λ m. IsMomentText text.now m) }
-            ensures wrong { IfErr result (IsMomentFault text.now) }
+        ensures wrong { IfErr result (IsMomentFault text.now) }
     {
         let _ = alloc;
         read(text)

@@ -1,8 +1,8 @@
 -- The name of an artifact has no fault.
-use Rattle.std.proofs.Common.{◌≡◌, ℕ, true, not, List, [], ◌∷◌, ◌++◌, codes, None, refl, ap, ◌∙◌, append_assoc, arith}
-use Rattle.std.specs.Prelude.{◌==◌}
+use Rattle.std.proofs.Common.{◌≡◌, ℕ, ◌+◌, ◌≤◌, ◌<◌, cond, get_or, inl, inr, length, true, false, not, List, [], ◌∷◌, ◌++◌, drop, codes, None, refl, ap, ◌∙◌, append_assoc, arith}
+use Rattle.std.specs.Prelude.{◌==◌, nat_lt}
 use Rattle.std.specs.List.{list_all}
-use Rattle.std.proofs.lemmas.Bool.{and_parts, and_from}
+use Rattle.std.proofs.lemmas.Bool.{and_parts, and_from, cases_Bool, eqb-true}
 use Rattle.std.proofs.lemmas.Bool.Decides.{nat_tests}
 use Rattle.name_parts.specs.declared.alphabets.Alphabet.TheVariants as alphabet
 use Rattle.name_parts.specs.declared.parts.PartForm.TheVariants.{Letters, TestId}
@@ -15,7 +15,7 @@ use Rattle.name_parts.specs.Escapes.{escaped, escaped_fault}
 use Rattle.names_realms.specs.Names.{IsArtifactId, IsInvocationId, IsResultId, IsTestId, invocation_name, invocation_id_fault, result_id_fault}
 use Rattle.names_realms.specs.ResultNames.{IsResultName, result_name}
 use Rattle.names_realms.specs.Parents.{IsParentName, parent_name}
-use Rattle.names_realms.specs.ArtifactNames.{artifact_tail, artifact_name, IsArtifactName, artifact_tail_fault, result_and_artifact_fault, result_artifact_tail_fault, test_and_rest_fault, test_artifact_tail_fault, behind_id_fault, artifact_parts_fault, artifact_named_fault, artifact_name_fault}
+use Rattle.names_realms.specs.ArtifactNames.{goes_to_tests, artifact_tail, artifact_name, IsArtifactName, artifact_tail_fault, result_and_artifact_fault, result_artifact_tail_fault, test_and_rest_fault, test_artifact_tail_fault, behind_id_fault, artifact_parts_fault, artifact_named_fault, artifact_name_fault}
 use Rattle.name_parts.proofs.PartLemmas.{IsPart-part_fault}
 use Rattle.name_parts.proofs.EscapeLemmas.{escaped-fault}
 use Rattle.name_parts.proofs.ByteLemmas.{IsPart-bytes, escaped_without_slash, invocation_without_slash}
@@ -50,13 +50,58 @@ long-None test result artifact is is' is'' =
     behind-None (codes "/tests/") (escaped test ++ (codes "/results/" ++ (result ++ artifact_tail artifact))) test_and_rest_fault
     (up_to_slash-None (escaped_fault TestId) result_artifact_tail_fault (escaped test) _ (escaped_without_slash test) (escaped-fault TestId test (IsPart-bytes TestId test is) is) middle)
 
+-- which of the two a text goes on as, by its first two bytes
+not_more : (n : ℕ) → nat_lt (1 + n) 1 ≡ false
+not_more n = grind (arith, nat_tests)
+
+less : (n : ℕ) → nat_lt 1 (1 + (1 + n)) ≡ true
+less n = grind (arith, nat_tests)
+
+by_second : (c : ℕ) (bs : List ℕ) → goes_to_tests (47 ∷ c ∷ bs) ≡ (c == 116)
+unfolding goes_to_tests
+by_second c bs =
+    elim (cases_Bool (c == 116)) [
+      | inl is ↦ let same : c ≡ 116 = eqb-true c 116 is in rw same (less _)
+      | inr other ↦ rw other (not_more _)
+    ]
+
+other_first : (b : ℕ) (bs : List ℕ) → (b == 47) ≡ false → goes_to_tests (b ∷ bs) ≡ false
+unfolding goes_to_tests
+other_first b bs other = rw other refl
+
+one_byte : (b : ℕ) → goes_to_tests (b ∷ []) ≡ false
+unfolding goes_to_tests
+one_byte b =
+    elim (b == 47) as (λ t. nat_lt (cond t (1 + 0) 0) (cond t (1 + 0) 0) ≡ false) [
+      | true ↦ refl
+      | false ↦ refl
+    ]
+
+no_byte : goes_to_tests [] ≡ false
+unfolding goes_to_tests
+no_byte = refl
+
+pub goes-short : (text : List ℕ) → length text < 2 → goes_to_tests text ≡ false
+goes-short [] few = no_byte
+goes-short (b ∷ []) few = one_byte b
+goes-short (b ∷ c ∷ bs) few = absurd (omega (arith, few))
+
+pub goes-by_second : (text : List ℕ) → 2 ≤ length text → get_or text 0 0 ≡ 47 → goes_to_tests text ≡ (get_or text 1 0 == 116)
+goes-by_second [] some is = absurd (omega (arith, some))
+goes-by_second (b ∷ []) some is = absurd (omega (arith, some))
+goes-by_second (b ∷ c ∷ bs) some is = ap (λ x. goes_to_tests (x ∷ c ∷ bs)) is ∙ by_second c bs
+
+pub goes-other : (text : List ℕ) → (get_or text 0 0 == 47) ≡ false → goes_to_tests text ≡ false
+goes-other [] other = no_byte
+goes-other (b ∷ bs) other = other_first b bs other
+
 tests-None : (test result artifact : List ℕ) → IsTestId test → IsResultId result → IsArtifactId artifact → behind_id_fault (long_tail test result artifact) ≡ None
 unfolding long_tail behind_id_fault
-tests-None test result artifact is is' is'' = long-None test result artifact is is' is''
+tests-None test result artifact is is' is'' = rw (by_second 116 (drop 2 (codes "/tests/") ++ (escaped test ++ (codes "/results/" ++ (result ++ artifact_tail artifact))))) (long-None test result artifact is is' is'')
 
 artifacts-None : (artifact : List ℕ) → IsArtifactId artifact → behind_id_fault (artifact_tail artifact) ≡ None
 unfolding behind_id_fault
-artifacts-None artifact is = tail-None artifact is
+artifacts-None artifact is = rw (by_second 97 (drop 2 (artifact_tail artifact))) (tail-None artifact is)
 
 -- an invocation's id, and what stands behind it
 named-None : (id tail : List ℕ) → IsInvocationId id → behind_id_fault (47 ∷ tail) ≡ None → artifact_name_fault (codes "invocations/" ++ (id ++ 47 ∷ tail)) ≡ None

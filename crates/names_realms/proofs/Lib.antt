@@ -1,8 +1,11 @@
 pub mod InvocationNameLemmas
 pub mod RealmLemmas
+pub mod CutLaws
+pub mod RealmPlaces
 pub mod PairLemmas
 pub mod VariantLemmas
 pub mod ResultNameLemmas
 pub mod ParentLemmas
+pub mod WritingLemmas
 pub mod ArtifactNameLemmas
 pub mod NameLaws

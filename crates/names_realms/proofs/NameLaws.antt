@@ -1,8 +1,6 @@
 -- One text names at most one value.
-use Rattle.std.proofs.Common.{◌≡◌, ℕ, true, not, List, ◌∷◌, ◌++◌, length, get_or, take, drop, codes, refl, sym, ap, ◌∙◌, append_assoc, length-append, arith}
-use Rattle.std.specs.Prelude.{◌==◌}
-use Rattle.std.specs.List.{list_all}
-use Rattle.std.proofs.lemmas.List.{append_cancel_left, take_at, drop_at}
+use Rattle.std.proofs.Common.{◌≡◌, ℕ, List, ◌∷◌, ◌++◌, length, get_or, codes, sym, ap, ◌∙◌, append_assoc, length-append, arith}
+use Rattle.std.proofs.lemmas.List.{append_cancel_left}
 use Rattle.name_parts.specs.declared.alphabets.Alphabet.TheVariants as alphabet
 use Rattle.name_parts.specs.declared.parts.PartForm.TheVariants.{Letters, TestId}
 use Rattle.names_realms.specs.declared.result_names.ResultName.{ResultName}
@@ -17,21 +15,11 @@ use Rattle.names_realms.specs.ArtifactNames.{artifact_name, artifact_tail}
 use Rattle.names_realms.specs.Laws.{OneArtifactNamed, OneInvocationNamed, OneParentNamed, OneResultNamed}
 use Rattle.name_parts.proofs.CutLemmas.{cut_before, no_cut}
 use Rattle.name_parts.proofs.ByteLemmas.{escaped_without_slash, invocation_without_slash, unescaped}
+use Rattle.names_realms.proofs.CutLaws.{Lacks, cut_alike}
 use Rattle.names_realms.proofs.ArtifactNameLemmas.{result_without_slash}
 
-abbrev HasNoSlash : List ℕ → Type 0
-HasNoSlash bs = list_all (λ x. not (x == 47)) bs ≡ true
-
--- two texts that are one are cut at one slash
-cut_alike : (p q s t : List ℕ) → HasNoSlash p → HasNoSlash q → p ++ 47 ∷ s ≡ q ++ 47 ∷ t → (p ≡ q) × ((47 ∷ s) ≡ (47 ∷ t))
-cut_alike p q s t no_p no_q e =
-    let same : length p ≡ length q = sym (cut_before 47 p s no_p) ∙ ap slash_place e ∙ cut_before 47 q t no_q in (
-      sym (take_at p (47 ∷ s) (length p) refl) ∙ ap (take (length p)) e ∙ take_at q (47 ∷ t) (length p) (sym same),
-      sym (drop_at p (47 ∷ s) (length p) refl) ∙ ap (drop (length p)) e ∙ drop_at q (47 ∷ t) (length p) (sym same),
-    )
-
--- and a text without a slash is none with one
-cut_apart : (p q t : List ℕ) → HasNoSlash p → HasNoSlash q → p ≡ q ++ 47 ∷ t → ⊥
+-- a text without a slash is none with one
+cut_apart : (p q t : List ℕ) → Lacks 47 p → Lacks 47 q → p ≡ q ++ 47 ∷ t → ⊥
 cut_apart p q t no_p no_q e =
     let place : length p ≡ length q = sym (no_cut 47 p no_p) ∙ ap slash_place e ∙ cut_before 47 q t no_q in
     omega (arith, place, ap length e, length-append q (47 ∷ t))
@@ -51,9 +39,9 @@ same_parts : (r s : ResultName) (text : List ℕ) → IsResultName r text → Is
 unfolding result_name
 same_parts r s text is is' =
     let all = append_cancel_left (codes "invocations/") (r.invocation ++ test_tail r.test r.result) (s.invocation ++ test_tail s.test s.result) (sym is.spelling ∙ is'.spelling) in
-    let first = cut_alike r.invocation s.invocation _ _ (invocation_without_slash r.invocation is.invocation) (invocation_without_slash s.invocation is'.invocation) all in
+    let first = cut_alike 47 r.invocation s.invocation _ _ (invocation_without_slash r.invocation is.invocation) (invocation_without_slash s.invocation is'.invocation) all in
     let rest = append_cancel_left (codes "/tests/") (escaped r.test ++ result_tail r.result) (escaped s.test ++ result_tail s.result) first.1 in
-    let second = cut_alike (escaped r.test) (escaped s.test) _ _ (escaped_without_slash r.test) (escaped_without_slash s.test) rest in
+    let second = cut_alike 47 (escaped r.test) (escaped s.test) _ _ (escaped_without_slash r.test) (escaped_without_slash s.test) rest in
     (first.0, unescaped TestId r.test s.test is.test is'.test second.0, append_cancel_left (codes "/results/") r.result s.result second.1)
 
 pub one_result_named : OneResultNamed
@@ -89,24 +77,24 @@ regrouped r artifact = simp append_assoc
 of_invocations : (id other x y : List ℕ) → IsInvocationId id → IsInvocationId other → IsArtifactId x → IsArtifactId y → invocation_name id ++ artifact_tail x ≡ invocation_name other ++ artifact_tail y → (id ≡ other) × (x ≡ y)
 of_invocations id other x y is is' ax ay e =
     let all = append_cancel_left (codes "invocations/") (id ++ artifact_tail x) (other ++ artifact_tail y) e in
-    let cut = cut_alike id other _ _ (invocation_without_slash id is) (invocation_without_slash other is') all in
+    let cut = cut_alike 47 id other _ _ (invocation_without_slash id is) (invocation_without_slash other is') all in
     (cut.0, same_artifact x y ax ay cut.1)
 
 of_either : (id : List ℕ) (r : ResultName) (text x y : List ℕ) → IsInvocationId id → IsResultName r text → invocation_name id ++ artifact_tail x ≡ result_name r ++ artifact_tail y → ⊥
 of_either id r text x y is is' e =
     let all = append_cancel_left (codes "invocations/") (id ++ artifact_tail x) (r.invocation ++ long_tail r y) (e ∙ regrouped r y) in
-    let cut = cut_alike id r.invocation _ _ (invocation_without_slash id is) (invocation_without_slash r.invocation is'.invocation) all in
+    let cut = cut_alike 47 id r.invocation _ _ (invocation_without_slash id is) (invocation_without_slash r.invocation is'.invocation) all in
     let behind : 97 ≡ 116 = ap (λ (t : List ℕ). get_or t 1 0) cut.1 in
     omega (arith, behind)
 
 of_results : (r s : ResultName) (text other x y : List ℕ) → IsResultName r text → IsResultName s other → IsArtifactId x → IsArtifactId y → result_name r ++ artifact_tail x ≡ result_name s ++ artifact_tail y → (r ≡ s) × (x ≡ y)
 of_results r s text other x y is is' ax ay e =
     let all = append_cancel_left (codes "invocations/") (r.invocation ++ long_tail r x) (s.invocation ++ long_tail s y) (sym (regrouped r x) ∙ e ∙ regrouped s y) in
-    let first = cut_alike r.invocation s.invocation _ _ (invocation_without_slash r.invocation is.invocation) (invocation_without_slash s.invocation is'.invocation) all in
+    let first = cut_alike 47 r.invocation s.invocation _ _ (invocation_without_slash r.invocation is.invocation) (invocation_without_slash s.invocation is'.invocation) all in
     let rest = append_cancel_left (codes "/tests/") (escaped r.test ++ (codes "/results/" ++ (r.result ++ artifact_tail x))) (escaped s.test ++ (codes "/results/" ++ (s.result ++ artifact_tail y))) first.1 in
-    let second = cut_alike (escaped r.test) (escaped s.test) _ _ (escaped_without_slash r.test) (escaped_without_slash s.test) rest in
+    let second = cut_alike 47 (escaped r.test) (escaped s.test) _ _ (escaped_without_slash r.test) (escaped_without_slash s.test) rest in
     let last = append_cancel_left (codes "/results/") (r.result ++ artifact_tail x) (s.result ++ artifact_tail y) second.1 in
-    let third = cut_alike r.result s.result _ _ (result_without_slash r.result is.result) (result_without_slash s.result is'.result) last in
+    let third = cut_alike 47 r.result s.result _ _ (result_without_slash r.result is.result) (result_without_slash s.result is'.result) last in
     (same_record r s (first.0, unescaped TestId r.test s.test is.test is'.test second.0, third.0), same_artifact x y ax ay third.1)
 
 of_parents : (p q : Parent) (text other x y : List ℕ) → IsParentName p text → IsParentName q other → IsArtifactId x → IsArtifactId y → parent_name p ++ artifact_tail x ≡ parent_name q ++ artifact_tail y → (p ≡ q) × (x ≡ y)

@@ -36,7 +36,7 @@ subrealm-None (b ∷ bs) e =
     ] e
 
 -- no part behind a colon begins with `@`
-no_at : (b : ℕ) → may_follow alphabet.Subrealm b ≡ true → (b == 64) ≡ false
+pub no_at : (b : ℕ) → may_follow alphabet.Subrealm b ≡ true → (b == 64) ≡ false
 no_at b e = grind (arith, nat_tests)
 
 root_or_part : (text : List ℕ) → IsSubrealm text → (bad_subrealm_place text ≡ None) × (length text ≤ 400)
@@ -58,7 +58,7 @@ none_colon : (text : List ℕ) → list_all (may_follow alphabet.Project) text �
 none_colon [] e = refl
 none_colon (b ∷ bs) e = let parts = and_parts _ _ e in and_from _ _ (no_colon b parts.0) (none_colon bs parts.1)
 
-project_without_colon : (text : List ℕ) → IsPart (Letters alphabet.Project) text → list_all (λ x. not (x == 58)) text ≡ true
+pub project_without_colon : (text : List ℕ) → IsPart (Letters alphabet.Project) text → list_all (λ x. not (x == 58)) text ≡ true
 project_without_colon [] is = refl
 project_without_colon (b ∷ bs) is = and_from _ _ (no_colon b (and_parts _ _ is.letters).0) (none_colon bs (and_parts _ _ is.letters).1)
 
@@ -79,7 +79,7 @@ pub realm_fault-None : (text : List ℕ) → realm_fault text ≡ None → IsRea
 realm_fault-None [] e = cc
 realm_fault-None (b ∷ bs) e = two_parts-None (b ∷ bs) (grind (arith, nat_tests))
 
-filled : (n : ℕ) (x y : Option NameFault) → cond (suc n == 0) x y ≡ y
+pub filled : (n : ℕ) (x y : Option NameFault) → cond (suc n == 0) x y ≡ y
 filled n x y = grind (arith, nat_tests)
 
 neither : (f g : Option NameFault) → f ≡ None → g ≡ None → option_or f g ≡ None

@@ -1,5 +1,6 @@
 -- Names of artifacts: `{parent}/artifacts/{escaped artifact id}`.
-use Rattle.std.specs.Prelude.{◌≡◌, ℕ, ◌==◌, if◌then◌else◌, Bool, false, List, [], ◌∷◌, ◌++◌, codes, Option}
+use Rattle.std.specs.Prelude.{◌≡◌, ℕ, if◌then◌else◌, nat_eq, nat_lt, Bool, List, ◌++◌, codes, Option}
+use Rattle.std.specs.List.{common_prefix_len}
 use Rattle.name_parts.specs.declared.faults.NameFault.{NameFault}
 use Rattle.name_parts.specs.declared.alphabets.Alphabet.TheVariants as alphabet
 use Rattle.name_parts.specs.declared.parts.PartForm.TheVariants.{Letters, TestId}
@@ -39,11 +40,9 @@ test_and_rest_fault text = up_to_slash (escaped_fault TestId) result_artifact_ta
 unfoldable pub test_artifact_tail_fault : List ℕ → Option NameFault
 test_artifact_tail_fault text = behind (codes "/tests/") test_and_rest_fault text
 
--- Behind an invocation's id go on both `/artifacts/` and `/tests/`: the byte behind the slash tells which.
-abbrev pub goes_to_tests : List ℕ → Bool
-goes_to_tests [] = false
-goes_to_tests (b ∷ []) = false
-goes_to_tests (b ∷ c ∷ bs) = c == 116
+-- Behind an invocation's id go on both `/artifacts/` and `/tests/`: the one with which the text has the longer common front counts.
+unfoldable pub goes_to_tests : List ℕ → Bool
+goes_to_tests text = nat_lt (common_prefix_len nat_eq text (codes "/artifacts/")) (common_prefix_len nat_eq text (codes "/tests/"))
 
 unfoldable pub behind_id_fault : List ℕ → Option NameFault
 behind_id_fault text = if goes_to_tests text then test_artifact_tail_fault text else artifact_tail_fault text

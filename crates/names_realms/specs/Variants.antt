@@ -1,5 +1,6 @@
 -- Variants: pairs in the order of their keys, and their label.
 use Rattle.std.specs.Prelude.{◌≡◌, ℕ, List, [], ◌∷◌, ◌++◌, take, slice_get, Some, IsPermutation}
+use Rattle.std.specs.Global.{Vec}
 use Rattle.std.specs.List.{flat_map}
 use Rattle.std.specs.Ordering.{nat_cmp}
 use Rattle.std.specs.Cmp.Lexicographic.{slice_cmp}
@@ -18,17 +19,6 @@ IsAscending [] = Unit {0}
 IsAscending (p ∷ []) = Unit {0}
 IsAscending (p ∷ q ∷ ps) = IsBefore p q × IsAscending (q ∷ ps)
 
--- the last pair, if there is one, comes before this one
-abbrev pub EndsBefore : List Pair → Pair → Type 0
-EndsBefore [] p = Unit {0}
-EndsBefore (q ∷ []) p = IsBefore q p
-EndsBefore (q ∷ r ∷ ps) p = EndsBefore (r ∷ ps) p
-
--- this pair comes before the first, if there is one
-abbrev pub BeginsAfter : Pair → List Pair → Type 0
-BeginsAfter p [] = Unit {0}
-BeginsAfter p (q ∷ ps) = IsBefore p q
-
 -- The pairs before this place can be put in order, and one of them has the key of the pair at this place.
 abbrev pub IsFirstRepeat : List Pair → ℕ → Type 0
 IsFirstRepeat pairs at =
@@ -43,3 +33,7 @@ pair_bytes p = p.key ++ (58 ∷ (p.value ++ 10 ∷ []))
 -- the first 16 digits of the digest of the pairs
 unfoldable pub label_of : List Pair → List ℕ
 label_of pairs = take 16 (encode_lower (sha256 (flat_map pair_bytes pairs)))
+
+-- a key and its value as a pair
+abbrev pub pair_of : Vec ℕ × List ℕ → Pair
+pair_of e = record { key = e.0.items; value = e.1 }

@@ -1,5 +1,5 @@
 //! Names of artifacts.
-ghost use Rattle.std.specs.Prelude.{◌≡◌, ◌≢◌, ◌≤◌, ◌++◌, List, ℕ, codes, length, IfOk, IfErr, OnOk, OnErr, None, Some};
+ghost use Rattle.std.specs.Prelude.{◌≡◌, ◌≢◌, ◌≤◌, ◌++◌, List, ℕ, codes, length, take, IfOk, IfErr, OnOk, OnErr, None, Some};
 ghost use Rattle.name_parts.specs.Parts.{place_of};
 ghost use Rattle.name_parts.specs.Escapes.{escaped};
 ghost use Rattle.names_realms.specs.Names.{IsArtifactId, IsInvocationId, IsResultId, IsTestId, result_id_fault};
@@ -8,11 +8,11 @@ ghost use Rattle.names_realms.specs.declared.artifact_names.ArtifactName.{Artifa
 ghost use Rattle.names_realms.specs.ArtifactNames.{IsArtifactName, artifact_name, artifact_name_fault, artifact_named_fault, artifact_parts_fault, artifact_tail, artifact_tail_fault, behind_id_fault, goes_to_tests, result_and_artifact_fault, result_artifact_tail_fault, test_and_rest_fault, test_artifact_tail_fault};
 
 use crate::ids::{ArtifactId, InvocationId, ResultId, TestId};
-use crate::parents::{Parent, push_parent_name};
+use crate::parents::{Parent, parent_name_len, push_parent_name};
 use crate::result_names::{ResultName, read_invocation, read_test};
 use name_parts::{
-    Alphabet, NameFault, PartForm, append, append_escaped, len_before, moved, read_escaped,
-    read_part, rest_behind,
+    Alphabet, NameFault, PartForm, all_or_nothing, append, append_escaped, escaped_len, len_before,
+    moved, read_escaped, read_part, rest_behind,
 };
 use std::alloc::{AllocError, Global};
 
@@ -126,12 +126,12 @@ fn read_test_tail(alloc: Global, text: &[u8]) -> Result<Ids, NameFault>
     }
 }
 
-/// Whether the text goes on as `/tests/` rather than `/artifacts/`.
+/// Whether the text has a longer front in common with `/tests/` than with `/artifacts/`.
 fn is_tests(text: &[u8]) -> bool
     ensures { result ≡ goes_to_tests text.now }
 {
     match text {
-        [_, second, ..] => *second == b't',
+        [first, second, ..] => *first == b'/' && *second == b't',
         _ => false,
     }
 }
@@ -241,25 +241,34 @@ fn read_whole(alloc: Global, text: &[u8]) -> Result<ArtifactName, NameFault>
     read_named(alloc, text)
 }
 
-/// Appends `/artifacts/` and an escaped artifact id.
-fn push_artifact_tail(alloc: Global, out: &mut Vec<u8>, id: &ArtifactId) -> Result<(), AllocError>
-    ensures { OnOk result (out.new.items ≡ out.old.items ++ artifact_tail id.now) }
+/// How many bytes the name of an artifact has.
+#[tactic(auto, unfolding(crate::specs::ArtifactNames::artifact_name))]
+fn artifact_name_len(name: &ArtifactName) -> usize
+    ensures len { result ≡ length (artifact_name name.now) }
+    ensures named { IsArtifactName name.now (artifact_name name.now) }
 {
-    append(out, b"/artifacts/")?;
-    append_escaped(alloc, out, id.as_slice())
+    let parent = parent_name_len(&name.parent);
+    let id = escaped_len(name.artifact.as_slice());
+    parent + 11 + id
 }
 
-/// Appends the name of an artifact.
-#[tactic(auto, unfolding(crate::specs::ArtifactNames::artifact_name))]
-fn push_artifact_name(
-    alloc: Global,
-    out: &mut Vec<u8>,
-    name: &ArtifactName,
-) -> Result<(), AllocError>
-    ensures { OnOk result (out.new.items ≡ out.old.items ++ artifact_name name.now) }
+/// Appends `/artifacts/` and an escaped artifact id, or only a front of it.
+fn push_artifact_tail(out: &mut Vec<u8>, id: &ArtifactId) -> Result<(), AllocError>
+    ensures ok { OnOk result (out.new.items ≡ out.old.items ++ artifact_tail id.now) }
+    ensures front { take (length out.old.items) out.new.items ≡ out.old.items }
 {
-    push_parent_name(alloc, out, &name.parent)?;
-    push_artifact_tail(alloc, out, &name.artifact)
+    append(out, b"/artifacts/")?;
+    append_escaped(out, id.as_slice())
+}
+
+/// Appends the name of an artifact, or only a front of it.
+#[tactic(auto, unfolding(crate::specs::ArtifactNames::artifact_name))]
+fn push_artifact_name(out: &mut Vec<u8>, name: &ArtifactName) -> Result<(), AllocError>
+    ensures ok { OnOk result (out.new.items ≡ out.old.items ++ artifact_name name.now) }
+    ensures front { take (length out.old.items) out.new.items ≡ out.old.items }
+{
+    push_parent_name(out, &name.parent)?;
+    push_artifact_tail(out, &name.artifact)
 }
 
 impl ArtifactName {
@@ -274,11 +283,14 @@ impl ArtifactName {
 
     /// Appends the one spelling of the name, all of it or nothing.
     pub fn write_to(&self, alloc: Global, out: &mut Vec<u8>) -> Result<(), AllocError>
+        ensures named { IsArtifactName self.now (artifact_name self.now) }
         ensures ok { OnOk result (out.new.items ≡ out.old.items ++ artifact_name self.now) }
         ensures err { OnErr result (out.new.items ≡ out.old.items) }
     {
-        let mut text = Vec::new(alloc);
-        push_artifact_name(alloc, &mut text, self)?;
-        append(out, text.as_slice())
+        let _ = alloc;
+        out.reserve(artifact_name_len(self))?;
+        let before = out.len();
+        let pushed = push_artifact_name(out, self);
+        all_or_nothing(out, before, pushed)
     }
 }

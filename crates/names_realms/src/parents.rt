@@ -1,12 +1,14 @@
 //! What holds artifacts.
-ghost use Rattle.std.specs.Prelude.{◌≡◌, ◌≢◌, ◌≤◌, ◌++◌, List, ℕ, codes, length, IfOk, IfErr, OnOk, OnErr, Some};
+ghost use Rattle.std.specs.Prelude.{◌≡◌, ◌≢◌, ◌≤◌, ◌++◌, List, ℕ, codes, length, take, IfOk, IfErr, OnOk, OnErr, Some};
 ghost use Rattle.name_parts.specs.Parts.{place_of};
 ghost use Rattle.names_realms.specs.declared.parents.Parent.{Parent};
 ghost use Rattle.names_realms.specs.Parents.{IsParentName, parent_fault, parent_name, parent_named_fault, parent_parts_fault};
 
 use crate::ids::InvocationId;
-use crate::result_names::{ResultName, push_result_name, read_all_parts, read_invocation};
-use name_parts::{NameFault, append, len_before, moved, rest_behind};
+use crate::result_names::{
+    ResultName, push_result_name, read_all_parts, read_invocation, result_name_len,
+};
+use name_parts::{NameFault, all_or_nothing, append, len_before, moved, rest_behind};
 use std::alloc::{AllocError, Global};
 
 /// What holds artifacts: an invocation, or a result.
@@ -59,25 +61,35 @@ fn read_whole(alloc: Global, text: &[u8]) -> Result<Parent, NameFault>
     read_named(alloc, text)
 }
 
-/// Appends the name of an invocation.
+/// How many bytes a parent's name has.
+pub(crate) fn parent_name_len(parent: &Parent) -> usize
+    ensures len { result ≡ length (parent_name parent.now) }
+    ensures few { result ≤ 2000 }
+    ensures named { IsParentName parent.now (parent_name parent.now) }
+{
+    match parent {
+        Parent::Invocation(id) => 12 + id.as_slice().len(),
+        Parent::Result(name) => result_name_len(name),
+    }
+}
+
+/// Appends the name of an invocation, or only a front of it.
 fn push_invocation_name(out: &mut Vec<u8>, id: &InvocationId) -> Result<(), AllocError>
-    ensures { OnOk result (out.new.items ≡ out.old.items ++ (codes "invocations/" ++ id.now)) }
+    ensures ok { OnOk result (out.new.items ≡ out.old.items ++ (codes "invocations/" ++ id.now)) }
+    ensures front { take (length out.old.items) out.new.items ≡ out.old.items }
 {
     append(out, b"invocations/")?;
     append(out, id.as_slice())
 }
 
-/// Appends a parent's name.
-pub(crate) fn push_parent_name(
-    alloc: Global,
-    out: &mut Vec<u8>,
-    parent: &Parent,
-) -> Result<(), AllocError>
-    ensures { OnOk result (out.new.items ≡ out.old.items ++ parent_name parent.now) }
+/// Appends a parent's name, or only a front of it.
+pub(crate) fn push_parent_name(out: &mut Vec<u8>, parent: &Parent) -> Result<(), AllocError>
+    ensures ok { OnOk result (out.new.items ≡ out.old.items ++ parent_name parent.now) }
+    ensures front { take (length out.old.items) out.new.items ≡ out.old.items }
 {
     match parent {
         Parent::Invocation(id) => push_invocation_name(out, id),
-        Parent::Result(name) => push_result_name(alloc, out, name),
+        Parent::Result(name) => push_result_name(out, name),
     }
 }
 
@@ -93,11 +105,14 @@ impl Parent {
 
     /// Appends the one spelling of the name, all of it or nothing.
     pub fn write_to(&self, alloc: Global, out: &mut Vec<u8>) -> Result<(), AllocError>
+        ensures named { IsParentName self.now (parent_name self.now) }
         ensures ok { OnOk result (out.new.items ≡ out.old.items ++ parent_name self.now) }
         ensures err { OnErr result (out.new.items ≡ out.old.items) }
     {
-        let mut text = Vec::new(alloc);
-        push_parent_name(alloc, &mut text, self)?;
-        append(out, text.as_slice())
+        let _ = alloc;
+        out.reserve(parent_name_len(self))?;
+        let before = out.len();
+        let pushed = push_parent_name(out, self);
+        all_or_nothing(out, before, pushed)
     }
 }

@@ -94,6 +94,7 @@ impl Realm {
 
     /// Appends the realm, all of it or nothing.
     pub fn write_to(&self, alloc: Global, out: &mut Vec<u8>) -> Result<(), AllocError>
+        ensures grammar { IsRealm self.now }
         ensures ok { OnOk result (out.new.items ≡ out.old.items ++ self.now) }
         ensures err { OnErr result (out.new.items ≡ out.old.items) }
     {

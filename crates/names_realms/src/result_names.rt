@@ -1,5 +1,5 @@
 //! Names of results.
-ghost use Rattle.std.specs.Prelude.{◌≡◌, ◌≢◌, ◌≤◌, ◌++◌, ℕ, List, codes, length, IfOk, IfErr, OnOk, OnErr, None, Some};
+ghost use Rattle.std.specs.Prelude.{◌≡◌, ◌≢◌, ◌≤◌, ◌++◌, ℕ, List, codes, length, take, IfOk, IfErr, OnOk, OnErr, None, Some};
 ghost use Rattle.name_parts.specs.Parts.{place_of};
 ghost use Rattle.name_parts.specs.Escapes.{escaped, escaped_fault};
 ghost use Rattle.names_realms.specs.Names.{IsInvocationId, IsResultId, IsTestId, invocation_id_fault};
@@ -8,8 +8,8 @@ ghost use Rattle.names_realms.specs.ResultNames.{IsResultName, all_parts_fault, 
 
 use crate::ids::{InvocationId, ResultId, TestId};
 use name_parts::{
-    Alphabet, NameFault, PartForm, append, append_escaped, len_before, moved, read_behind,
-    read_escaped, read_part, rest_behind,
+    Alphabet, NameFault, PartForm, all_or_nothing, append, append_escaped, escaped_len, len_before,
+    moved, read_behind, read_escaped, read_part, rest_behind,
 };
 use std::alloc::{AllocError, Global};
 
@@ -141,40 +141,47 @@ fn read_whole(alloc: Global, text: &[u8]) -> Result<ResultName, NameFault>
     read_named(alloc, text)
 }
 
-/// Appends `/results/` and a result's id.
+/// How many bytes the name of a result has.
+#[tactic(auto, unfolding(crate::specs::ResultNames::result_name))]
+pub(crate) fn result_name_len(name: &ResultName) -> usize
+    ensures len { result ≡ length (result_name name.now) }
+    ensures few { result ≤ 2000 }
+    ensures named { IsResultName name.now (result_name name.now) }
+{
+    let invocation = name.invocation.as_slice().len();
+    let test = escaped_len(name.test.as_slice());
+    let id = name.result.as_slice().len();
+    12 + invocation + 7 + test + 9 + id
+}
+
+/// Appends `/results/` and a result's id, or only a front of it.
 fn push_result_tail(out: &mut Vec<u8>, id: &ResultId) -> Result<(), AllocError>
-    ensures { OnOk result (out.new.items ≡ out.old.items ++ result_tail id.now) }
+    ensures ok { OnOk result (out.new.items ≡ out.old.items ++ result_tail id.now) }
+    ensures front { take (length out.old.items) out.new.items ≡ out.old.items }
 {
     append(out, b"/results/")?;
     append(out, id.as_slice())
 }
 
-/// Appends what stands behind the invocation's id in the name of a result.
-fn push_test_tail(
-    alloc: Global,
-    out: &mut Vec<u8>,
-    test: &TestId,
-    id: &ResultId,
-) -> Result<(), AllocError>
-    ensures { OnOk result (out.new.items ≡ out.old.items ++ test_tail test.now id.now) }
+/// Appends what stands behind the invocation's id in the name of a result, or only a front of it.
+fn push_test_tail(out: &mut Vec<u8>, test: &TestId, id: &ResultId) -> Result<(), AllocError>
+    ensures ok { OnOk result (out.new.items ≡ out.old.items ++ test_tail test.now id.now) }
+    ensures front { take (length out.old.items) out.new.items ≡ out.old.items }
 {
     append(out, b"/tests/")?;
-    append_escaped(alloc, out, test.as_slice())?;
+    append_escaped(out, test.as_slice())?;
     push_result_tail(out, id)
 }
 
-/// Appends the name of a result.
+/// Appends the name of a result, or only a front of it.
 #[tactic(auto, unfolding(crate::specs::ResultNames::result_name))]
-pub(crate) fn push_result_name(
-    alloc: Global,
-    out: &mut Vec<u8>,
-    name: &ResultName,
-) -> Result<(), AllocError>
-    ensures { OnOk result (out.new.items ≡ out.old.items ++ result_name name.now) }
+pub(crate) fn push_result_name(out: &mut Vec<u8>, name: &ResultName) -> Result<(), AllocError>
+    ensures ok { OnOk result (out.new.items ≡ out.old.items ++ result_name name.now) }
+    ensures front { take (length out.old.items) out.new.items ≡ out.old.items }
 {
     append(out, b"invocations/")?;
     append(out, name.invocation.as_slice())?;
-    push_test_tail(alloc, out, &name.test, &name.result)
+    push_test_tail(out, &name.test, &name.result)
 }
 
 impl ResultName {
@@ -189,11 +196,14 @@ impl ResultName {
 
     /// Appends the one spelling of the name, all of it or nothing.
     pub fn write_to(&self, alloc: Global, out: &mut Vec<u8>) -> Result<(), AllocError>
+        ensures named { IsResultName self.now (result_name self.now) }
         ensures ok { OnOk result (out.new.items ≡ out.old.items ++ result_name self.now) }
         ensures err { OnErr result (out.new.items ≡ out.old.items) }
     {
-        let mut text = Vec::new(alloc);
-        push_result_name(alloc, &mut text, self)?;
-        append(out, text.as_slice())
+        let _ = alloc;
+        out.reserve(result_name_len(self))?;
+        let before = out.len();
+        let pushed = push_result_name(out, self);
+        all_or_nothing(out, before, pushed)
     }
 }

@@ -1,18 +1,16 @@
 //! Variants of tests, and their labels.
-ghost use Rattle.std.specs.Prelude.{◌≡◌, ◌≢◌, ◌++◌, ◌≤◌, ◌<◌, ℕ, List, ◌∷◌, [], take, drop, length, slice_get, IsPermutation, IfOk, IfErr, Some};
+ghost use Rattle.std.specs.Prelude.{◌≡◌, ◌≢◌, ◌++◌, ◌≤◌, ◌<◌, ℕ, List, ◌∷◌, [], take, drop, length, slice_get, IsPermutation, IfOk, IfErr, Some, map};
 ghost use Rattle.std.specs.List.{flat_map};
-ghost use Rattle.std.specs.Ordering.{nat_cmp};
-ghost use Rattle.std.specs.Cmp.Lexicographic.{slice_cmp};
 ghost use Rattle.sha2.specs.Sha256.{sha256};
 ghost use Rattle.sha2.specs.Hashers.{Holds256};
 ghost use Rattle.names_realms.specs.declared.pairs.Pair.{Pair};
-ghost use Rattle.names_realms.specs.Variants.{BeginsAfter, EndsBefore, IsAscending, IsFirstRepeat, label_of, pair_bytes};
+ghost use Rattle.names_realms.specs.Variants.{IsAscending, IsFirstRepeat, label_of, pair_bytes, pair_of};
 
 use crate::pairs::Pair;
-use name_parts::NameFault;
+use name_parts::{Bytes, NameFault};
 use sha2::{Digest, Sha256};
-use std::alloc::Global;
-use std::cmp::Ordering;
+use std::alloc::{AllocError, Global};
+use std::collections::BTreeMap;
 use std::marker::Model;
 
 /// The pairs of a variant, in the order of their keys as bytes. No key stands twice.
@@ -33,28 +31,17 @@ impl Model for Variant {
     ghost invariant = { λ v. IsAscending v.pairs.items };
 }
 
-/// How the keys of two pairs compare.
-fn compared(left: &Pair, right: &Pair) -> Ordering
-    ensures { result ≡ slice_cmp nat_cmp left.now.key right.now.key }
+/// Keys with their values, in the order of the keys, as pairs.
+fn in_order(alloc: Global, sorted: BTreeMap<Vec<u8>, Bytes>) -> Result<Vec<Pair>, AllocError>
+    ensures { IfOk result (λ pairs. pairs.items ≡ map pair_of sorted.entries) }
 {
-    left.key.as_slice().cmp(right.key.as_slice())
-}
-
-/// Where a pair stands among pairs in order, or the place of one with its key. The search begins at the end, since pairs that come
-/// in order are the usual case.
-fn place_for(pairs: &[Pair], pair: &Pair) -> Result<usize, usize>
-    ensures free { IfOk result (λ at. (at ≤ length pairs.now) × EndsBefore (take at pairs.now) pair.now × BeginsAfter pair.now (drop at pairs.now)) }
-    ensures taken { IfErr result (λ at. (earlier : Pair) × (slice_get pairs.now at ≡ Some earlier) × (earlier.key ≡ pair.now.key)) }
-{
-    let mut at = pairs.len();
-    while at > 0 {
-        match compared(pair, &pairs[at - 1]) {
-            Ordering::Less => at -= 1,
-            Ordering::Equal => return Err(at - 1),
-            Ordering::Greater => return Ok(at),
-        }
-    }
-    Ok(0)
+    sorted
+        .into_iter()
+        .map(|(key, value)| Pair {
+            key: Bytes::new(key),
+            value,
+        })
+        .collect(alloc)
 }
 
 /// Feeds one pair to a hasher.
@@ -106,14 +93,15 @@ impl Variant {
         ensures ok { IfOk result (λ v. IsPermutation pairs.items v × IsAscending v) }
         ensures fault { IfErr result (λ f. f ≢ NameFault.Memory → (at : ℕ) × (f ≡ NameFault.NotCanonical at) × IsFirstRepeat pairs.items at) }
     {
-        let mut sorted = Vec::new(alloc);
+        let mut sorted = BTreeMap::new(alloc);
         for pair in pairs {
-            match place_for(sorted.as_slice(), &pair) {
-                Ok(at) => sorted.insert(at, pair)?,
-                Err(_) => return Err(NameFault::NotCanonical { at: sorted.len() }),
+            let Pair { key, value } = pair;
+            if sorted.insert(key.into_vec(), value)?.is_some() {
+                return Err(NameFault::NotCanonical { at: sorted.len() });
             }
         }
-        Ok(Variant { pairs: sorted })
+        let pairs = in_order(alloc, sorted)?;
+        Ok(Variant { pairs })
     }
 
     /// The pairs, in the order of their keys.

@@ -1,5 +1,6 @@
 pub mod LineLaws
-pub mod ReplyLaws
+pub mod TurnLaws
+pub mod ClosingLaws
 pub mod Serving
 pub mod FramingLaws
 pub mod RunLaws

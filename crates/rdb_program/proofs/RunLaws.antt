@@ -1,154 +1,264 @@
 -- What a run's exit status says.
-use Rattle.std.proofs.Common.{◌≡◌, ◌≢◌, ℕ, ℤ, ◌⊎◌, inl, inr, List, Option, refl, ap, arith}
+use Rattle.std.proofs.Common.{◌≡◌, ◌≢◌, ℕ, ℤ, ◌<◌, ◌≤◌, ◌⊎◌, inl, inr, List, ◌++◌, length, map, Option, Some, None, Result, Ok, Err, refl, sym, ap, ◌∙◌, subst, arith, length-append}
+use Rattle.std.proofs.lemmas.List.{length-map}
 use Rattle.outside.specs.Bytes.{IsEnd}
+use Rattle.outside.specs.Ends.{Outgoing, Ends}
+use Rattle.outside.specs.Whole.{WritesWhole, CountsFault, CountsEnd}
+use Rattle.outside.specs.declared.whole.WriteEnd.{WriteEnd}
+use Rattle.outside.specs.declared.whole.WriteEnd.TheVariants as write_ends
 use Rattle.fault_counts.specs.Causes.{Rose}
+use Rattle.record_desk.specs.Exchange.{Exchange}
 use Rattle.http_wire.specs.Stream.{Framed}
 use Rattle.http_wire.specs.declared.message.End.{End}
 use Rattle.http_wire.specs.declared.message.End.TheVariants as stream_ends
 use Rattle.http_wire.specs.declared.message.Message.{Message}
-use Rattle.http_wire.specs.declared.message.WireFault.TheVariants as faults
+use Rattle.http_wire.specs.declared.message.WireFault.{WireFault}
 use Rattle.http_wire.proofs.StreamLaws.{framed_once}
 use Rattle.rdb_program.specs.Words.{IsAnswerWords}
-use Rattle.rdb_program.specs.Ends.{Ends}
-use Rattle.rdb_program.specs.Endings.{status_of, cause_status}
-use Rattle.rdb_program.specs.Connection.{CountsRead, CountsWrite, CountsStalls, IsRest}
-use Rattle.rdb_program.specs.Framing.{AreMessagesOf}
-use Rattle.rdb_program.specs.Statuses.{IsWhole, IsBroken, HasFault, HasStall, IsComplete}
-use Rattle.rdb_program.specs.Run.{IsRun}
+use Rattle.rdb_program.specs.Turns.{Turn, messages_of, reply_limit}
+use Rattle.rdb_program.specs.Causes.{row_of, IsLastWrite, CountsReads}
+use Rattle.rdb_program.specs.Connection.{Sent, Connection}
+use Rattle.rdb_program.specs.Framing.{Served, AreFirst, AreMessages}
+use Rattle.service_core.specs.Settings.{open_to_all}
+use Rattle.service_core.specs.World.{empty_world}
+use Rattle.service_core.specs.CoreState.{CoreState}
+use Rattle.record_desk.specs.Standing.{Moves}
+use Rattle.rdb_program.specs.Run.{status_of, IsHistory, IsRun}
+use Rattle.rdb_program.specs.Statuses.{IsWhole, IsFull, IsDone, IsBroken, HasFailed, HasStalled, EndsIn, StatusSays}
 use Rattle.rdb_program.specs.declared.ending.Cause.{Cause}
 use Rattle.rdb_program.specs.declared.ending.Cause.TheVariants as causes
 use Rattle.rdb_program.specs.declared.ending.Ending.{Ending}
 use Rattle.rdb_program.specs.declared.ending.Ending.TheVariants.{WordsRefused, Unstarted, Served as WasServed}
 
--- ---- the words
+-- ---- the counts of what was written
 
-cause_not_one : (cause : Cause) → cause_status cause ≢ 1
-cause_not_one causes.End e = omega (arith, e)
-cause_not_one (causes.Wire fault) e = omega (arith, e)
-cause_not_one causes.ReadFault e = omega (arith, e)
-cause_not_one causes.WriteFault e = omega (arith, e)
-cause_not_one causes.SinkTakesNothing e = omega (arith, e)
-cause_not_one causes.Memory e = omega (arith, e)
+faults_of : (asked : List Exchange → Type 0) (before : Ends) (cause : Cause) (after : Ends) (c : Connection asked before cause after)
+    → CountsFault before.outgoing.faults c.result after.outgoing.faults
+faults_of asked before cause after c =
+    subst (λ (n : ℕ). CountsFault n c.result after.outgoing.faults) c.sent.faults c.sent.writes.faults
 
-pub refused : (words : List (List ℕ)) (before : Ends) (tb : List ℤ → Type 0) (after : Ends) (ta : List ℤ → Type 0) (ending : Ending) → IsRun ending words before tb after ta
-    → status_of ending ≡ 1 → (¬ IsAnswerWords words) × (after ≡ before)
-refused words before tb after ta WordsRefused run is = (run.0, run.1)
-refused words before tb after ta Unstarted run is = absurd (omega (arith, is))
-refused words before tb after ta (WasServed cause) run is = absurd (cause_not_one cause is)
+stalls_of : (asked : List Exchange → Type 0) (before : Ends) (cause : Cause) (after : Ends) (c : Connection asked before cause after)
+    → CountsEnd before.outgoing.stalls c.result after.outgoing.stalls
+stalls_of asked before cause after c =
+    subst (λ (n : ℕ). CountsEnd n c.result after.outgoing.stalls) c.sent.stalls c.sent.writes.stalls
 
-pub accepted : (words : List (List ℕ)) (before : Ends) (tb : List ℤ → Type 0) (after : Ends) (ta : List ℤ → Type 0) (ending : Ending) → IsRun ending words before tb after ta
-    → status_of ending ≢ 1 → IsAnswerWords words
-accepted words before tb after ta WordsRefused run isnt = absurd (isnt refl)
-accepted words before tb after ta Unstarted run isnt = run.0
-accepted words before tb after ta (WasServed cause) run isnt = run.0
+no_fault : (a b : ℕ) (result : Result (Unit {0}) WriteEnd) → CountsFault a result b → result ≢ Err write_ends.WriteFault → b ≡ a
+no_fault a b (Ok done) counts other = counts
+no_fault a b (Err write_ends.WriteFault) counts other = absurd (other refl)
+no_fault a b (Err write_ends.SinkTakesNothing) counts other = counts
 
--- ---- the causes
+no_stall : (a b : ℕ) (result : Result (Unit {0}) WriteEnd) → CountsEnd a result b → result ≢ Err write_ends.SinkTakesNothing → b ≡ a
+no_stall a b (Ok done) counts other = counts
+no_stall a b (Err write_ends.WriteFault) counts other = counts
+no_stall a b (Err write_ends.SinkTakesNothing) counts other = absurd (other refl)
 
-end_read : (cause : Cause) (rest : List ℕ) (left : Option (List ℕ)) → IsRest cause rest left → cause_status cause ≡ 0 → IsEnd left
-end_read causes.End rest left is e = is.1
-end_read (causes.Wire fault) rest left is e = absurd (omega (arith, e))
-end_read causes.ReadFault rest left is e = absurd (omega (arith, e))
-end_read causes.WriteFault rest left is e = absurd (omega (arith, e))
-end_read causes.SinkTakesNothing rest left is e = absurd (omega (arith, e))
-end_read causes.Memory rest left is e = absurd (omega (arith, e))
+fault_there : (a b : ℕ) (result : Result (Unit {0}) WriteEnd) → CountsFault a result b → result ≡ Err write_ends.WriteFault → Rose a b
+fault_there a b result counts is = (subst (λ (r : Result (Unit {0}) WriteEnd). CountsFault a r b) is counts).1
 
-whole : (cause : Cause) (ms : List Message) (stream : List ℕ) → AreMessagesOf cause ms stream → cause_status cause ≡ 0 → Framed stream ms stream_ends.Finished
-whole causes.End ms stream are e = are
-whole (causes.Wire fault) ms stream are e = absurd (omega (arith, e))
-whole causes.ReadFault ms stream are e = absurd (omega (arith, e))
-whole causes.WriteFault ms stream are e = absurd (omega (arith, e))
-whole causes.SinkTakesNothing ms stream are e = absurd (omega (arith, e))
-whole causes.Memory ms stream are e = absurd (omega (arith, e))
+stall_there : (a b : ℕ) (result : Result (Unit {0}) WriteEnd) → CountsEnd a result b → result ≡ Err write_ends.SinkTakesNothing → Rose a b
+stall_there a b result counts is = (subst (λ (r : Result (Unit {0}) WriteEnd). CountsEnd a r b) is counts).1
 
-broken : (cause : Cause) (ms : List Message) (stream : List ℕ) → AreMessagesOf cause ms stream → cause_status cause ≡ 8
-    → (end : End) × Framed stream ms end × (end ≢ stream_ends.Finished)
-broken (causes.Wire (faults.CutShort have)) ms stream are e = (stream_ends.CutShort have, are, λ (same : stream_ends.CutShort have ≡ stream_ends.Finished). cc)
-broken (causes.Wire faults.Unread) ms stream are e = (stream_ends.Unread, are, λ (same : stream_ends.Unread ≡ stream_ends.Finished). cc)
-broken (causes.Wire faults.ReadFault) ms stream are e = absurd are
-broken (causes.Wire faults.Memory) ms stream are e = absurd are
-broken causes.End ms stream are e = absurd (omega (arith, e))
-broken causes.ReadFault ms stream are e = absurd (omega (arith, e))
-broken causes.WriteFault ms stream are e = absurd (omega (arith, e))
-broken causes.SinkTakesNothing ms stream are e = absurd (omega (arith, e))
-broken causes.Memory ms stream are e = absurd (omega (arith, e))
+-- an end that is well is no other
+well_no_fault : (result : Result (Unit {0}) WriteEnd) → result ≡ Ok tt → result ≢ Err write_ends.WriteFault
+well_no_fault result well fault = let both : Ok tt ≡ Err write_ends.WriteFault = sym well ∙ fault in cc
 
-fault_rose : (cause : Cause) (a b c d : ℕ) → CountsRead cause a b → CountsWrite cause c d → cause_status cause ≡ 4 → Rose a b ⊎ Rose c d
-fault_rose causes.ReadFault a b c d reads writes e = inl reads.1
-fault_rose causes.WriteFault a b c d reads writes e = inr writes.1
-fault_rose causes.End a b c d reads writes e = absurd (omega (arith, e))
-fault_rose (causes.Wire fault) a b c d reads writes e = absurd (omega (arith, e))
-fault_rose causes.SinkTakesNothing a b c d reads writes e = absurd (omega (arith, e))
-fault_rose causes.Memory a b c d reads writes e = absurd (omega (arith, e))
+well_no_stall : (result : Result (Unit {0}) WriteEnd) → result ≡ Ok tt → result ≢ Err write_ends.SinkTakesNothing
+well_no_stall result well stall = let both : Ok tt ≡ Err write_ends.SinkTakesNothing = sym well ∙ stall in cc
 
-stall_rose : (cause : Cause) (a b : ℕ) → CountsStalls cause a b → cause_status cause ≡ 9 → Rose a b
-stall_rose causes.SinkTakesNothing a b counts e = counts.1
-stall_rose causes.End a b counts e = absurd (omega (arith, e))
-stall_rose (causes.Wire fault) a b counts e = absurd (omega (arith, e))
-stall_rose causes.ReadFault a b counts e = absurd (omega (arith, e))
-stall_rose causes.WriteFault a b counts e = absurd (omega (arith, e))
-stall_rose causes.Memory a b counts e = absurd (omega (arith, e))
+stall_no_fault : (result : Result (Unit {0}) WriteEnd) → result ≡ Err write_ends.SinkTakesNothing → result ≢ Err write_ends.WriteFault
+stall_no_fault result stall fault = let both : ◌≡◌ {A = Result (Unit {0}) WriteEnd} (Err write_ends.SinkTakesNothing) (Err write_ends.WriteFault) = sym stall ∙ fault in cc
 
-no_stall : (cause : Cause) (a b : ℕ) → CountsStalls cause a b → cause_status cause ≢ 9 → cause_status cause ≢ 8 → b ≡ a
-no_stall causes.End a b counts not9 not8 = counts
-no_stall causes.ReadFault a b counts not9 not8 = counts
-no_stall causes.WriteFault a b counts not9 not8 = counts
-no_stall causes.Memory a b counts not9 not8 = counts
-no_stall causes.SinkTakesNothing a b counts not9 not8 = absurd (not9 refl)
-no_stall (causes.Wire fault) a b counts not9 not8 = absurd (not8 refl)
+fault_no_stall : (result : Result (Unit {0}) WriteEnd) → result ≡ Err write_ends.WriteFault → result ≢ Err write_ends.SinkTakesNothing
+fault_no_stall result fault stall = stall_no_fault result stall fault
 
-zero_or_seven : (cause : Cause) → cause_status cause ≢ 4 → cause_status cause ≢ 8 → cause_status cause ≢ 9 → (cause_status cause ≡ 0) ⊎ (cause_status cause ≡ 7)
-zero_or_seven causes.End not4 not8 not9 = inl refl
-zero_or_seven causes.Memory not4 not8 not9 = inr refl
-zero_or_seven (causes.Wire fault) not4 not8 not9 = absurd (not8 refl)
-zero_or_seven causes.ReadFault not4 not8 not9 = absurd (not4 refl)
-zero_or_seven causes.WriteFault not4 not8 not9 = absurd (not4 refl)
-zero_or_seven causes.SinkTakesNothing not4 not8 not9 = absurd (not9 refl)
+-- ---- the statuses of causes
+
+abbrev status_at : Cause → ℕ
+status_at cause = (row_of cause).status
+
+not_one : (cause : Cause) → status_at cause ≢ 1
+not_one causes.End e = omega (arith, e)
+not_one causes.Closed e = omega (arith, e)
+not_one (causes.Wire fault) e = omega (arith, e)
+not_one causes.ReadFault e = omega (arith, e)
+not_one causes.WriteFault e = omega (arith, e)
+not_one causes.SinkTakesNothing e = omega (arith, e)
+not_one causes.Memory e = omega (arith, e)
+
+done_at : (asked : List Exchange → Type 0) (before : Ends) (cause : Cause) (after : Ends) → Served asked before cause after → status_at cause ≡ 0
+    → IsDone before after
+done_at asked before causes.End after s e = inl (s.connection.rest_is.1, λ stream told. (messages_of s.connection.turns, s.framed stream told))
+done_at asked before causes.Closed after s e =
+    inr (λ stream told. (
+      messages_of s.connection.turns,
+      s.framed stream told,
+      length-map s.connection.turns (λ (t : Turn). t.message) ∙ s.connection.last_is.1,
+    ))
+done_at asked before (causes.Wire fault) after s e = absurd (omega (arith, e))
+done_at asked before causes.ReadFault after s e = absurd (omega (arith, e))
+done_at asked before causes.WriteFault after s e = absurd (omega (arith, e))
+done_at asked before causes.SinkTakesNothing after s e = absurd (omega (arith, e))
+done_at asked before causes.Memory after s e = absurd (omega (arith, e))
+
+broken_at : (asked : List Exchange → Type 0) (before : Ends) (cause : Cause) (after : Ends) → Served asked before cause after → status_at cause ≡ 8
+    → IsBroken before
+broken_at asked before (causes.Wire fault) after s e = λ stream told. (messages_of s.connection.turns, fault, s.framed stream told)
+broken_at asked before causes.End after s e = absurd (omega (arith, e))
+broken_at asked before causes.Closed after s e = absurd (omega (arith, e))
+broken_at asked before causes.ReadFault after s e = absurd (omega (arith, e))
+broken_at asked before causes.WriteFault after s e = absurd (omega (arith, e))
+broken_at asked before causes.SinkTakesNothing after s e = absurd (omega (arith, e))
+broken_at asked before causes.Memory after s e = absurd (omega (arith, e))
+
+failed_at : (asked : List Exchange → Type 0) (before : Ends) (cause : Cause) (after : Ends) → Connection asked before cause after → status_at cause ≡ 4
+    → HasFailed before after
+failed_at asked before causes.ReadFault after c e = inl c.reads.1
+failed_at asked before causes.WriteFault after c e =
+    inr (fault_there before.outgoing.faults after.outgoing.faults c.result (faults_of asked before causes.WriteFault after c) c.last_write)
+failed_at asked before causes.End after c e = absurd (omega (arith, e))
+failed_at asked before causes.Closed after c e = absurd (omega (arith, e))
+failed_at asked before (causes.Wire fault) after c e = absurd (omega (arith, e))
+failed_at asked before causes.SinkTakesNothing after c e = absurd (omega (arith, e))
+failed_at asked before causes.Memory after c e = absurd (omega (arith, e))
+
+stalled_at : (asked : List Exchange → Type 0) (before : Ends) (cause : Cause) (after : Ends) → Connection asked before cause after → status_at cause ≡ 9
+    → HasStalled before after
+stalled_at asked before causes.SinkTakesNothing after c e =
+    stall_there before.outgoing.stalls after.outgoing.stalls c.result (stalls_of asked before causes.SinkTakesNothing after c) c.last_write
+stalled_at asked before causes.End after c e = absurd (omega (arith, e))
+stalled_at asked before causes.Closed after c e = absurd (omega (arith, e))
+stalled_at asked before (causes.Wire fault) after c e = absurd (omega (arith, e))
+stalled_at asked before causes.ReadFault after c e = absurd (omega (arith, e))
+stalled_at asked before causes.WriteFault after c e = absurd (omega (arith, e))
+stalled_at asked before causes.Memory after c e = absurd (omega (arith, e))
+
+no_read_fault_at : (cause : Cause) (a b : ℕ) → CountsReads cause a b → status_at cause ≢ 4 → b ≡ a
+no_read_fault_at causes.End a b counts isnt = counts
+no_read_fault_at causes.Closed a b counts isnt = counts
+no_read_fault_at (causes.Wire fault) a b counts isnt = counts
+no_read_fault_at causes.ReadFault a b counts isnt = absurd (isnt refl)
+no_read_fault_at causes.WriteFault a b counts isnt = counts
+no_read_fault_at causes.SinkTakesNothing a b counts isnt = counts
+no_read_fault_at causes.Memory a b counts isnt = counts
+
+not_fault_at : (cause : Cause) (result : Result (Unit {0}) WriteEnd) → IsLastWrite cause result → status_at cause ≢ 4 → status_at cause ≢ 7
+    → status_at cause ≢ 8 → result ≢ Err write_ends.WriteFault
+not_fault_at causes.End result is n4 n7 n8 = well_no_fault result is
+not_fault_at causes.Closed result is n4 n7 n8 = well_no_fault result is
+not_fault_at (causes.Wire fault) result is n4 n7 n8 = absurd (n8 refl)
+not_fault_at causes.ReadFault result is n4 n7 n8 = absurd (n4 refl)
+not_fault_at causes.WriteFault result is n4 n7 n8 = absurd (n4 refl)
+not_fault_at causes.SinkTakesNothing result is n4 n7 n8 = stall_no_fault result is
+not_fault_at causes.Memory result is n4 n7 n8 = absurd (n7 refl)
+
+not_stall_at : (cause : Cause) (result : Result (Unit {0}) WriteEnd) → IsLastWrite cause result → status_at cause ≢ 8 → status_at cause ≢ 9
+    → result ≢ Err write_ends.SinkTakesNothing
+not_stall_at causes.End result is n8 n9 = well_no_stall result is
+not_stall_at causes.Closed result is n8 n9 = well_no_stall result is
+not_stall_at (causes.Wire fault) result is n8 n9 = absurd (n8 refl)
+not_stall_at causes.ReadFault result is n8 n9 = well_no_stall result is
+not_stall_at causes.WriteFault result is n8 n9 = fault_no_stall result is
+not_stall_at causes.SinkTakesNothing result is n8 n9 = absurd (n9 refl)
+not_stall_at causes.Memory result is n8 n9 = is
+
+-- ---- which status a stream ends in
+
+-- as many messages as the limit are no fewer
+too_many : (ms first others : List Message) → ms ≡ first ++ others → length first ≡ reply_limit → ¬ (length ms < reply_limit)
+too_many ms first others parts full few = omega (arith, full, few, ap length parts, length-append first others)
+
+ends_at : (asked : List Exchange → Type 0) (before : Ends) (cause : Cause) (after : Ends) → Served asked before cause after
+    → (stream : List ℕ) (ms : List Message) (end : End) (status : ℕ) → before.incoming.left ≡ Some stream → Framed stream ms end
+    → length ms < reply_limit → ¬ HasFailed before after → ¬ HasStalled before after
+    → (end ≡ stream_ends.Finished → status ≡ 0) → ((fault : WireFault) → end ≡ stream_ends.Fault fault → status ≡ 8)
+    → (status_at cause ≡ status) ⊎ (status_at cause ≡ 7)
+ends_at asked before causes.End after s stream ms end status told framed few fine takes whole broken =
+    inl (sym (whole (sym (framed_once (messages_of s.connection.turns) ms stream stream_ends.Finished end (s.framed stream told) framed).1)))
+ends_at asked before (causes.Wire fault) after s stream ms end status told framed few fine takes whole broken =
+    inl (sym (broken fault (sym (framed_once (messages_of s.connection.turns) ms stream (stream_ends.Fault fault) end (s.framed stream told) framed).1)))
+ends_at asked before causes.Closed after s stream ms end status told framed few fine takes whole broken =
+    let first = s.framed stream told ms end framed in
+    absurd (too_many ms (messages_of s.connection.turns) first.0 first.1
+    (length-map s.connection.turns (λ (t : Turn). t.message) ∙ s.connection.last_is.1) few)
+ends_at asked before causes.ReadFault after s stream ms end status told framed few fine takes whole broken =
+    absurd (fine (failed_at asked before causes.ReadFault after s.connection refl))
+ends_at asked before causes.WriteFault after s stream ms end status told framed few fine takes whole broken =
+    absurd (fine (failed_at asked before causes.WriteFault after s.connection refl))
+ends_at asked before causes.SinkTakesNothing after s stream ms end status told framed few fine takes whole broken =
+    absurd (takes (stalled_at asked before causes.SinkTakesNothing after s.connection refl))
+ends_at asked before causes.Memory after s stream ms end status told framed few fine takes whole broken = inr refl
+
+fault_not_finished : (fault : WireFault) → stream_ends.Fault fault ≡ stream_ends.Finished → ⊥
+fault_not_finished fault e = cc
+
+finished_no_fault : (fault : WireFault) → stream_ends.Finished ≡ stream_ends.Fault fault → ⊥
+finished_no_fault fault e = cc
 
 -- ---- the runs
 
-pub all_read : (words : List (List ℕ)) (before : Ends) (tb : List ℤ → Type 0) (after : Ends) (ta : List ℤ → Type 0) (ending : Ending) → IsRun ending words before tb after ta
-    → status_of ending ≡ 0 → IsEnd after.left × IsWhole before
-all_read words before tb after ta WordsRefused run is = absurd (omega (arith, is))
-all_read words before tb after ta Unstarted run is = absurd (omega (arith, is))
-all_read words before tb after ta (WasServed cause) run is =
-    let c = run.1.connection in
-    (end_read cause c.rest after.left c.rest_is is, λ stream told. (c.messages, whole cause c.messages stream (run.1.framed stream told) is))
+says_served : (words : List (List ℕ)) (before : Ends) (tb : List ℤ → Type 0) (after : Ends) (ta : List ℤ → Type 0) (cause : Cause)
+    → IsRun (WasServed cause) words before tb after ta → StatusSays (status_at cause) words before after
+says_served words before tb after ta cause run =
+    let s = run.1 in
+    let c = s.connection in
+    record {
+      words_refused = λ is. absurd (not_one cause is);
+      words_accepted = λ isnt. run.0;
+      untouched = λ is. absurd (not_one cause is);
+      done = done_at _ before cause after s;
+      failed = failed_at _ before cause after c;
+      broken = broken_at _ before cause after s;
+      stalled = stalled_at _ before cause after c;
+      no_read_fault = no_read_fault_at cause before.incoming.faults after.incoming.faults c.reads;
+      no_write_fault = λ n4 n7 n8. no_fault before.outgoing.faults after.outgoing.faults c.result (faults_of _ before cause after c) (not_fault_at cause c.result c.last_write n4 n7 n8);
+      no_stall = λ n8 n9. no_stall before.outgoing.stalls after.outgoing.stalls c.result (stalls_of _ before cause after c) (not_stall_at cause c.result c.last_write n8 n9);
+      whole_stream = λ are stream ms told framed few fine takes.
+          ends_at _ before cause after s stream ms stream_ends.Finished 0 told framed few fine takes (λ e. refl) (λ fault e. absurd (finished_no_fault fault e));
+      broken_stream = λ are fault stream ms told framed few fine takes.
+          ends_at _ before cause after s stream ms (stream_ends.Fault fault) 8 told framed few fine takes (λ e. absurd (fault_not_finished fault e)) (λ f e. refl);
+    }
 
-pub stream_broken : (words : List (List ℕ)) (before : Ends) (tb : List ℤ → Type 0) (after : Ends) (ta : List ℤ → Type 0) (ending : Ending) → IsRun ending words before tb after ta
-    → status_of ending ≡ 8 → IsBroken before
-stream_broken words before tb after ta WordsRefused run is stream told = absurd (omega (arith, is))
-stream_broken words before tb after ta Unstarted run is stream told = absurd (omega (arith, is))
-stream_broken words before tb after ta (WasServed cause) run is stream told =
-    let end = broken cause run.1.connection.messages stream (run.1.framed stream told) is in
-    (run.1.connection.messages, end.0, end.1, end.2)
+pub says : (words : List (List ℕ)) (before : Ends) (tb : List ℤ → Type 0) (after : Ends) (ta : List ℤ → Type 0) (ending : Ending)
+    → IsRun ending words before tb after ta → StatusSays (status_of ending) words before after
+says words before tb after ta WordsRefused run = record {
+  words_refused = λ is. run.0;
+  words_accepted = λ isnt. absurd (isnt refl);
+  untouched = λ is. run.1;
+  done = λ is. absurd (omega (arith, is));
+  failed = λ is. absurd (omega (arith, is));
+  broken = λ is. absurd (omega (arith, is));
+  stalled = λ is. absurd (omega (arith, is));
+  no_read_fault = λ n4. ap (λ (e : Ends). e.incoming.faults) run.1;
+  no_write_fault = λ n4 n7 n8. ap (λ (e : Ends). e.outgoing.faults) run.1;
+  no_stall = λ n8 n9. ap (λ (e : Ends). e.outgoing.stalls) run.1;
+  whole_stream = λ are. absurd (run.0 are);
+  broken_stream = λ are. absurd (run.0 are);
+}
+says words before tb after ta Unstarted run = record {
+  words_refused = λ is. absurd (omega (arith, is));
+  words_accepted = λ isnt. run.0;
+  untouched = λ is. run.1;
+  done = λ is. absurd (omega (arith, is));
+  failed = λ is. absurd (omega (arith, is));
+  broken = λ is. absurd (omega (arith, is));
+  stalled = λ is. absurd (omega (arith, is));
+  no_read_fault = λ n4. ap (λ (e : Ends). e.incoming.faults) run.1;
+  no_write_fault = λ n4 n7 n8. ap (λ (e : Ends). e.outgoing.faults) run.1;
+  no_stall = λ n8 n9. ap (λ (e : Ends). e.outgoing.stalls) run.1;
+  whole_stream = λ are stream ms told framed few fine takes. inr refl;
+  broken_stream = λ are fault stream ms told framed few fine takes. inr refl;
+}
+says words before tb after ta (WasServed cause) run = says_served words before tb after ta cause run
 
-pub has_fault : (words : List (List ℕ)) (before : Ends) (tb : List ℤ → Type 0) (after : Ends) (ta : List ℤ → Type 0) (ending : Ending) → IsRun ending words before tb after ta
-    → status_of ending ≡ 4 → HasFault before after
-has_fault words before tb after ta WordsRefused run is = absurd (omega (arith, is))
-has_fault words before tb after ta Unstarted run is = absurd (omega (arith, is))
-has_fault words before tb after ta (WasServed cause) run is =
-    let c = run.1.connection in
-    fault_rose cause before.read_faults after.read_faults before.write_faults after.write_faults c.read_faults c.write_faults is
+-- ---- the history of a connection over an empty world
 
-pub has_stall : (words : List (List ℕ)) (before : Ends) (tb : List ℤ → Type 0) (after : Ends) (ta : List ℤ → Type 0) (ending : Ending) → IsRun ending words before tb after ta
-    → status_of ending ≡ 9 → HasStall before after
-has_stall words before tb after ta WordsRefused run is = absurd (omega (arith, is))
-has_stall words before tb after ta Unstarted run is = absurd (omega (arith, is))
-has_stall words before tb after ta (WasServed cause) run is = stall_rose cause before.stalls after.stalls run.1.connection.stalls is
-
-pub has_no_stall : (words : List (List ℕ)) (before : Ends) (tb : List ℤ → Type 0) (after : Ends) (ta : List ℤ → Type 0) (ending : Ending) → IsRun ending words before tb after ta
-    → status_of ending ≢ 9 → status_of ending ≢ 8 → after.stalls ≡ before.stalls
-has_no_stall words before tb after ta WordsRefused run not9 not8 = ap (λ (e : Ends). e.stalls) run.1
-has_no_stall words before tb after ta Unstarted run not9 not8 = ap (λ (e : Ends). e.stalls) run.1
-has_no_stall words before tb after ta (WasServed cause) run not9 not8 = no_stall cause before.stalls after.stalls run.1.connection.stalls not9 not8
-
-pub complete : (words : List (List ℕ)) (before : Ends) (tb : List ℤ → Type 0) (after : Ends) (ta : List ℤ → Type 0) (ending : Ending) → IsRun ending words before tb after ta
-    → IsAnswerWords words → IsComplete (status_of ending) before after
-complete words before tb after ta WordsRefused run are stream ms told framed fault stall = absurd (run.0 are)
-complete words before tb after ta Unstarted run are stream ms told framed fault stall = inr refl
-complete words before tb after ta (WasServed cause) run are stream ms told framed fault stall =
-    let c = run.1.connection in
-    zero_or_seven cause
-    (λ is. fault (fault_rose cause before.read_faults after.read_faults before.write_faults after.write_faults c.read_faults c.write_faults is))
-    (λ is. let end = broken cause c.messages stream (run.1.framed stream told) is in end.2 (framed_once c.messages ms stream end.0 stream_ends.Finished end.1 framed).1)
-    (λ is. stall (stall_rose cause before.stalls after.stalls c.stalls is))
+pub history_from : {T : Type 0} (tells : T → List ℤ → Type 0) (first last : CoreState) (start then now end : T) (es : List Exchange)
+    → first.settings ≡ open_to_all → first.world ≡ empty_world → start ≡ then → now ≡ end → Moves first (tells start) es last (tells now)
+    → IsHistory (tells then) es (tells end)
+history_from {T} tells first last start then now end es settings empty began ended moves = record {
+  first = first;
+  last = last;
+  settings = settings;
+  empty = empty;
+  moves = subst (λ (t : T). Moves first (tells then) es last (tells t)) ended (subst (λ (t : T). Moves first (tells t) es last (tells now)) began moves);
+}

@@ -1,425 +1,304 @@
 -- A connection that goes on: what holds between two messages.
-use Rattle.std.proofs.Common.{◌≡◌, ℕ, ℤ, ◌≤◌, ◌⊎◌, inl, inr, true, List, [], ◌∷◌, ◌++◌, length, map, Option, Some, None, Result, Ok, Err, refl, sym, ap, ◌∙◌, subst, append_assoc, append-nil, arith, length-append}
-use Rattle.std.proofs.lemmas.List.{map-append, length-map}
-use Rattle.std.specs.List.{AllByRecursion}
+use Rattle.std.proofs.Common.{◌≡◌, ◌≢◌, ℕ, ◌+◌, ◌≤◌, ◌<◌, ◌⊎◌, inl, inr, Bool, true, List, [], ◌∷◌, ◌++◌, length, map, Option, Some, None, Result, Ok, Err, refl, sym, ap, ◌∙◌, subst, append_assoc, append-nil, arith, length-append}
+use Rattle.std.proofs.lemmas.List.{map-append}
 use Rattle.outside.specs.Bytes.{Gave, Took}
-use Rattle.fault_counts.specs.Causes.{Rose}
-use Rattle.outside.specs.Whole.{CountsFault, CountsEnd}
+use Rattle.outside.specs.Ends.{Incoming, Outgoing, Ends}
+use Rattle.outside.specs.Whole.{WritesWhole}
 use Rattle.outside.specs.declared.whole.WriteEnd.{WriteEnd}
 use Rattle.outside.specs.declared.whole.WriteEnd.TheVariants as write_ends
-use Rattle.service_core.specs.World.{World}
-use Rattle.service_core.specs.History.{Entry, IsTimed}
-use Rattle.service_core.specs.ReplyBytes.{told_bytes}
+use Rattle.outside.proofs.Taken.{gave_nothing, gave_both, took_nothing, took_both}
+use Rattle.service_core.specs.declared.forms.Told.{Told}
+use Rattle.record_desk.specs.Exchange.{Exchange}
 use Rattle.http_wire.specs.WireState.{WireState}
 use Rattle.http_wire.specs.Held.{Reading}
-use Rattle.http_wire.specs.Held as held
-use Rattle.http_wire.specs.Out.{reply_bytes}
-use Rattle.http_wire.specs.Stream.{IsMessage}
+use Rattle.http_wire.specs.Stream.{IsMessage, Spells}
 use Rattle.http_wire.specs.declared.message.Message.{Message}
 use Rattle.http_wire.specs.declared.message.WireFault.{WireFault}
 use Rattle.http_wire.specs.declared.message.WireFault.TheVariants as faults
-use Rattle.rdb_program.specs.Ends.{Ends}
-use Rattle.rdb_program.specs.Endings.{cause_of}
-use Rattle.rdb_program.specs.Connection.{Answered, Connection, IsClocked, SentBehind, CountsStalls, tolds_of, closing_standin}
-use Rattle.rdb_program.specs.Turn.{Turn, entry_of}
-use Rattle.rdb_program.specs.Closing.{Closes}
+use Rattle.http_wire.proofs.StreamLaws.{spells_more}
+use Rattle.rdb_program.specs.Turns.{Turn, messages_of, exchange_in, exchanges_of, reply_limit, closes, replies}
+use Rattle.fault_counts.specs.Causes.{Rose}
+use Rattle.rdb_program.specs.Causes.{cause_of, row_of, closing_standin, IsLastWrite, CountsReads, IsRest}
+use Rattle.rdb_program.specs.Closing.{Closes, ClosesBy, WroteNothing}
+use Rattle.rdb_program.specs.Connection.{Sent, IsLastReply, IsLast, Connection, Answers}
 use Rattle.rdb_program.specs.declared.ending.Cause.{Cause}
 use Rattle.rdb_program.specs.declared.ending.Cause.TheVariants as causes
-use Rattle.fault_counts.proofs.CountLaws.{more_then_rose}
-use Rattle.outside.proofs.Taken.{gave_nothing, gave_both, took_nothing, took_both}
-use Rattle.http_wire.proofs.StreamLaws.{spells_more}
-use Rattle.rdb_program.proofs.ReplyLaws.{replies_more}
-use Rattle.service_core.proofs.HistoryLaws.{timed_goes_on}
+use Rattle.rdb_program.proofs.TurnLaws.{reply_of, replies_more}
 
 -- So many messages were answered, and their replies were written whole.
-pub record Serving (first : World) (before : Ends) (tells_before : List ℤ → Type 0) (wire : WireState) (now : Ends) (tells_now : List ℤ → Type 0) (world : World) : Type 0 where
-  pub messages : List Message
+pub record Serving (asked : List Exchange → Type 0) (before : Ends) (wire : WireState) (number : ℕ) (now : Ends) : Type 0 where
+  pub turns : List Turn
   pub text : List ℕ
-  pub history : List Entry
-  pub answers : List ℤ
+  pub counted : length turns ≡ number
   pub is_open : wire.is_open ≡ true
-  pub read : Gave before.left (text ++ wire.held) now.left
-  pub answered : Answered first messages text history answers world
-  pub clocked : IsClocked tells_before answers tells_now
-  pub wrote : Took before.written (reply_bytes messages (tolds_of history)) now.written
-  pub read_faults : before.read_faults ≤ now.read_faults
-  pub write_faults : before.write_faults ≤ now.write_faults
-  pub stalls : now.stalls ≡ before.stalls
+  pub read : Gave before.incoming.left (text ++ wire.held) now.incoming.left
+  pub spelled : Spells (messages_of turns) text
+  pub told : asked (exchanges_of turns)
+  pub wrote : Took before.outgoing.written (replies turns) now.outgoing.written
+  pub reads : now.incoming.faults ≡ before.incoming.faults
+  pub faults : now.outgoing.faults ≡ before.outgoing.faults
+  pub stalls : now.outgoing.stalls ≡ before.outgoing.stalls
 
-clocked_nothing : (tells : List ℤ → Type 0) → IsClocked tells [] tells
-clocked_nothing tells [] others same told = (refl, told)
-clocked_nothing tells (x ∷ xs) others same told = absurd (omega arith)
-
-pub begins : (first : World) (before : Ends) (tells : List ℤ → Type 0) (wire : WireState) → wire.held ≡ [] → wire.is_open ≡ true
-    → Serving first before tells wire before tells first
-begins first before tells wire empty is_open = record {
-  messages = [];
+pub begins : (asked : List Exchange → Type 0) (before : Ends) (wire : WireState) → asked [] → wire.held ≡ [] → wire.is_open ≡ true
+    → Serving asked before wire 0 before
+begins asked before wire nothing empty is_open = record {
+  turns = [];
   text = [];
-  history = [];
-  answers = [];
+  counted = refl;
   is_open = is_open;
-  read = let P : List ℕ → Type 0 = λ t. Gave before.left t before.left in subst P (sym empty) (gave_nothing before.left);
-  answered = record { spelled = refl; requests = refl; seats = tt; timed = refl };
-  clocked = clocked_nothing tells;
-  wrote = took_nothing before.written;
-  read_faults = omega arith;
-  write_faults = omega arith;
+  read = subst (λ (t : List ℕ). Gave before.incoming.left t before.incoming.left) (sym empty) (gave_nothing before.incoming.left);
+  spelled = refl;
+  told = nothing;
+  wrote = took_nothing before.outgoing.written;
+  reads = refl;
+  faults = refl;
   stalls = refl;
 }
 
 -- what was read more
 read_on : (a b c : Option (List ℕ)) (text here got : List ℕ) → Gave a (text ++ here) b → Gave b got c → Gave a (text ++ (here ++ got)) c
 read_on a b c text here got first then =
-    let P : List ℕ → Type 0 = λ t. Gave a t c in
-    subst P (append_assoc text here got) (gave_both a (text ++ here) got b c first then)
+    subst (λ (t : List ℕ). Gave a t c) (append_assoc text here got) (gave_both a (text ++ here) got b c first then)
 
--- a list that isn't empty has a last item
-split_last : (x : ℤ) (xs : List ℤ) → (front : List ℤ) × (last : ℤ) × (x ∷ xs ≡ front ++ last ∷ []) × (length front ≡ length xs)
-split_last x [] = ([], x, refl, refl)
-split_last x (y ∷ ys) =
-    let rest = split_last y ys in
-    (x ∷ rest.0, rest.1, ap (λ t. x ∷ t) rest.2, omega (arith, rest.3))
+read_message : (a b c : Option (List ℕ)) (text here got bytes held : List ℕ) → Gave a (text ++ here) b → Gave b got c → here ++ got ≡ bytes ++ held
+    → Gave a ((text ++ bytes) ++ held) c
+read_message a b c text here got bytes held first then parts =
+    subst (λ (t : List ℕ). Gave a t c) (ap (λ (t : List ℕ). text ++ t) parts ∙ sym (append_assoc text bytes held)) (read_on a b c text here got first then)
 
--- the clock's one answer more
-clocked_more : (tb tm tn : List ℤ → Type 0) (answers : List ℤ) (now : ℤ) → IsClocked tb answers tm
-    → ((given : ℤ) (others : List ℤ) → tm (given ∷ others) → (now ≡ given) × tn others) → IsClocked tb (answers ++ now ∷ []) tn
-clocked_more tb tm tn answers now before one [] others same told = absurd (omega (arith, same, length-append answers (now ∷ [])))
-clocked_more tb tm tn answers now before one (x ∷ xs) others same told =
-    let parts = split_last x xs in
-    let whole : (x ∷ xs) ++ others ≡ parts.0 ++ (parts.1 ∷ others) = ap (λ t. t ++ others) parts.2 ∙ append_assoc parts.0 (parts.1 ∷ []) others in
-    let short : length parts.0 ≡ length answers = omega (arith, same, parts.3, length-append answers (now ∷ [])) in
-    let front = before parts.0 (parts.1 ∷ others) short (subst tb whole told) in
-    let last = one parts.1 others front.1 in
-    (ap (λ t. t ++ now ∷ []) front.0 ∙ ap (λ n. parts.0 ++ n ∷ []) last.0 ∙ sym parts.2, last.1)
+wrote_nothing : (before after : Outgoing) → after ≡ before → WritesWhole {T = Unit {0}} before [] (Ok tt) after
+wrote_nothing before after same =
+    subst (λ (o : Outgoing). WritesWhole {T = Unit {0}} before [] (Ok tt) o) (sym same)
+    (record { written = took_nothing before.written; faults = refl; stalls = refl })
 
-seats_more : (h : List Entry) (e : Entry) → AllByRecursion (λ x. x.seat ≡ 0) h → e.seat ≡ 0 → AllByRecursion (λ x. x.seat ≡ 0) (h ++ e ∷ [])
-seats_more [] e all here = (here, tt)
-seats_more (x ∷ h) e all here = (all.0, seats_more h e all.1 here)
-
-same_length : (h : List Entry) (ms : List Message) → map (λ e. e.asked) h ≡ map (λ m. m.asked) ms → length ms ≡ length (tolds_of h)
-same_length h ms same =
-    sym (length-map ms (λ m. m.asked)) ∙ sym (ap length same) ∙ length-map h (λ e. e.asked) ∙ sym (length-map h (λ e. e.told))
-
-answered_more : (first mid last : World) (ms : List Message) (text : List ℕ) (h : List Entry) (answers : List ℤ) (m : Message) (bytes : List ℕ) (e : Entry) (now : ℤ)
-    → Answered first ms text h answers mid → IsMessage bytes m → IsTimed first (h ++ e ∷ []) (answers ++ now ∷ []) last → e.seat ≡ 0 → e.asked ≡ m.asked
-    → Answered first (ms ++ m ∷ []) (text ++ bytes) (h ++ e ∷ []) (answers ++ now ∷ []) last
-answered_more first mid last ms text h answers m bytes e now before is timed seat asked = record {
-  spelled = spells_more ms text bytes m before.spelled is;
-  requests = map-append (λ x. x.asked) h (e ∷ []) ∙ ap (λ t. t ++ e.asked ∷ []) before.requests ∙ ap (λ a. map (λ x. x.asked) ms ++ a ∷ []) asked
-      ∙ sym (map-append (λ x. x.asked) ms (m ∷ []));
-  seats = seats_more h e before.seats seat;
-  timed = timed;
+-- behind all replies these bytes were written
+sent_behind : (asked : List Exchange → Type 0) (before now after : Ends) (wire : WireState) (n : ℕ) (s : Serving asked before wire n now)
+    (last : List ℕ) (result : Result (Unit {0}) WriteEnd) → WritesWhole now.outgoing last result after.outgoing
+    → Sent before.outgoing (replies s.turns) last result after.outgoing
+sent_behind asked before now after wire n s last result writes = record {
+  between = now.outgoing;
+  whole = s.wrote;
+  faults = s.faults;
+  stalls = s.stalls;
+  writes = writes;
 }
 
-nil_front : (x y : List ℕ) → [] ≡ x ++ y → x ≡ []
-nil_front [] y e = refl
-nil_front (a ∷ x) y e = absurd (cc)
+-- The input was read to its end.
+pub ended : (asked : List Exchange → Type 0) (before now after : Ends) (wire wire' : WireState) (n : ℕ) → n < reply_limit
+    → Serving asked before wire n now → Reading wire now.incoming (Ok None) after.incoming wire' → after.outgoing ≡ now.outgoing
+    → Connection asked before causes.End after
+ended asked before now after wire wire' n few s reading same = record {
+  turns = s.turns;
+  text = s.text;
+  rest = wire.held ++ reading.got;
+  earlier = replies s.turns;
+  last = [];
+  result = Ok tt;
+  read = read_on before.incoming.left now.incoming.left after.incoming.left s.text wire.held reading.got s.read reading.gave;
+  spelled = s.spelled;
+  told = s.told;
+  few = omega (arith, s.counted, few);
+  sent = sent_behind asked before now after wire n s [] (Ok tt) (wrote_nothing now.outgoing after.outgoing same);
+  last_is = (refl, refl);
+  last_write = refl;
+  rest_is = (reading.answer.0, reading.answer.2);
+  reads = reading.faults ∙ s.reads;
+}
 
--- why not all was written, over a longer time
-cut_before : (rest : List ℕ) (f g h i j k : ℕ) → f ≤ g → i ≤ j → (rest ≡ []) ⊎ (Rose g h ⊎ Rose j k) → (rest ≡ []) ⊎ (Rose f h ⊎ Rose i k)
-cut_before rest f g h i j k fg ij (inl whole) = inl whole
-cut_before rest f g h i j k fg ij (inr (inl rose)) = inr (inl (more_then_rose f g h fg rose))
-cut_before rest f g h i j k fg ij (inr (inr rose)) = inr (inr (more_then_rose i j k ij rose))
+-- As many messages were answered as a connection answers.
+pub full : (asked : List Exchange → Type 0) (before now : Ends) (wire : WireState) (n : ℕ) → reply_limit ≤ n → n ≤ reply_limit
+    → Serving asked before wire n now → Connection asked before causes.Closed now
+full asked before now wire n least most s = record {
+  turns = s.turns;
+  text = s.text;
+  rest = wire.held;
+  earlier = replies s.turns;
+  last = [];
+  result = Ok tt;
+  read = s.read;
+  spelled = s.spelled;
+  told = s.told;
+  few = omega (arith, s.counted, most);
+  sent = sent_behind asked before now now wire n s [] (Ok tt) (wrote_nothing now.outgoing now.outgoing refl);
+  last_is = ((refl, refl), omega (arith, s.counted, least, most));
+  last_write = refl;
+  rest_is = tt;
+  reads = s.reads;
+}
 
--- The wire answered a fault, or no more is asked of it, and the connection is closed.
-pub closed : (first world : World) (before now after : Ends) (tb tn : List ℤ → Type 0) (wire : WireState) (behind : List ℕ) (fault : WireFault) (cause : Cause) (got : List ℕ)
-    → Serving first before tb wire now tn world
-    → Gave now.left got after.left
-    → held.IsAnswer (wire.held ++ got) (Err fault) after.left behind
-    → held.CountsRead {T = Option Message} now.read_faults (Err fault) after.read_faults
-    → Closes fault cause now.written now.write_faults now.stalls after.written after.write_faults after.stalls
-    → Connection first before tb cause after tn
-closed first world before now after tb tn wire behind (faults.CutShort have) cause got s gave answer counts closes =
-    let P : Cause → Type 0 = λ k. Connection first before tb k after tn in
-    let S : Cause → Type 0 = λ k. CountsStalls k now.stalls after.stalls in
-    let stalls = subst S closes.cause_is closes.stalls in
-    let replies = reply_bytes s.messages (tolds_of s.history) in
-    subst P (sym closes.cause_is) (record {
-      messages = s.messages;
-      text = s.text;
-      rest = wire.held ++ got;
-      history = s.history;
-      answers = s.answers;
-      last = world;
-      sent = replies ++ closes.front;
-      read = read_on before.left now.left after.left s.text wire.held got s.read gave;
-      answered = s.answered;
-      clocked = s.clocked;
-      wrote = took_both before.written replies closes.front now.written after.written s.wrote closes.took;
-      sent_is = ap (λ f. replies ++ f) (nil_front closes.front closes.rest closes.parts) ∙ append-nil replies;
-      rest_is = answer;
-      read_faults = omega (arith, s.read_faults, counts);
-      write_faults = omega (arith, s.write_faults, closes.write_faults);
-      stalls = omega (arith, s.stalls, stalls);
-    })
-closed first world before now after tb tn wire behind faults.Unread cause got s gave answer counts closes =
-    let P : Cause → Type 0 = λ k. Connection first before tb k after tn in
-    let S : Cause → Type 0 = λ k. CountsStalls k now.stalls after.stalls in
-    let stalls = subst S closes.cause_is closes.stalls in
-    let replies = reply_bytes s.messages (tolds_of s.history) in
-    let same : before.stalls ≤ now.stalls = omega (arith, s.stalls) in
-    subst P (sym closes.cause_is) (record {
-      messages = s.messages;
-      text = s.text;
-      rest = wire.held ++ got;
-      history = s.history;
-      answers = s.answers;
-      last = world;
-      sent = replies ++ closes.front;
-      read = read_on before.left now.left after.left s.text wire.held got s.read gave;
-      answered = s.answered;
-      clocked = s.clocked;
-      wrote = took_both before.written replies closes.front now.written after.written s.wrote closes.took;
-      sent_is = record {
-        front = closes.front;
-        rest = closes.rest;
-        parts = closes.parts;
-        sent_is = refl;
-        cut = cut_before closes.rest before.write_faults now.write_faults after.write_faults before.stalls now.stalls after.stalls s.write_faults same closes.cut;
-      };
-      rest_is = answer;
-      read_faults = omega (arith, s.read_faults, counts);
-      write_faults = omega (arith, s.write_faults, closes.write_faults);
-      stalls = omega (arith, s.stalls, stalls);
-    })
-closed first world before now after tb tn wire behind faults.ReadFault cause got s gave answer counts closes =
-    let P : Cause → Type 0 = λ k. Connection first before tb k after tn in
-    let S : Cause → Type 0 = λ k. CountsStalls k now.stalls after.stalls in
-    let stalls = subst S closes.cause_is closes.stalls in
-    let replies = reply_bytes s.messages (tolds_of s.history) in
-    subst P (sym closes.cause_is) (record {
-      messages = s.messages;
-      text = s.text;
-      rest = wire.held ++ got;
-      history = s.history;
-      answers = s.answers;
-      last = world;
-      sent = replies ++ closes.front;
-      read = read_on before.left now.left after.left s.text wire.held got s.read gave;
-      answered = s.answered;
-      clocked = s.clocked;
-      wrote = took_both before.written replies closes.front now.written after.written s.wrote closes.took;
-      sent_is = ap (λ f. replies ++ f) (nil_front closes.front closes.rest closes.parts) ∙ append-nil replies;
-      rest_is = answer;
-      read_faults = (omega (arith, s.read_faults, counts.0), more_then_rose before.read_faults now.read_faults after.read_faults s.read_faults counts.1);
-      write_faults = omega (arith, s.write_faults, closes.write_faults);
-      stalls = stalls ∙ s.stalls;
-    })
-closed first world before now after tb tn wire behind faults.Memory cause got s gave answer counts closes =
-    let P : Cause → Type 0 = λ k. Connection first before tb k after tn in
-    let S : Cause → Type 0 = λ k. CountsStalls k now.stalls after.stalls in
-    let replies = reply_bytes s.messages (tolds_of s.history) in
-    let same : before.stalls ≤ now.stalls = omega (arith, s.stalls) in
-    let sent_behind : SentBehind replies closing_standin (replies ++ closes.front) before after = record {
-      front = closes.front;
-      rest = closes.rest;
-      parts = closes.parts;
-      sent_is = refl;
-      cut = cut_before closes.rest before.write_faults now.write_faults after.write_faults before.stalls now.stalls after.stalls s.write_faults same closes.cut;
-    } in
-    elim closes.cause_is [
-      | inl memory ↦ subst P (sym memory) (record {
-        messages = s.messages;
-        text = s.text;
-        rest = wire.held ++ got;
-        history = s.history;
-        answers = s.answers;
-        last = world;
-        sent = replies ++ closes.front;
-        read = read_on before.left now.left after.left s.text wire.held got s.read gave;
-        answered = s.answered;
-        clocked = s.clocked;
-        wrote = took_both before.written replies closes.front now.written after.written s.wrote closes.took;
-        sent_is = sent_behind;
-        rest_is = tt;
-        read_faults = omega (arith, s.read_faults, counts);
-        write_faults = omega (arith, s.write_faults, closes.write_faults);
-        stalls = subst S memory closes.stalls ∙ s.stalls;
-      })
-      | inr nothing ↦ subst P (sym nothing) (record {
-        messages = s.messages;
-        text = s.text;
-        rest = wire.held ++ got;
-        history = s.history;
-        answers = s.answers;
-        last = world;
-        sent = replies ++ closes.front;
-        read = read_on before.left now.left after.left s.text wire.held got s.read gave;
-        answered = s.answered;
-        clocked = s.clocked;
-        wrote = took_both before.written replies closes.front now.written after.written s.wrote closes.took;
-        sent_is = inr sent_behind;
-        rest_is = tt;
-        read_faults = omega (arith, s.read_faults, counts);
-        write_faults = omega (arith, s.write_faults, closes.write_faults);
-        stalls = let stalled = subst S nothing closes.stalls in
-            (omega (arith, s.stalls, stalled.0), more_then_rose before.stalls now.stalls after.stalls same stalled.1);
-      })
-    ]
+-- One message more was read and asked.
+turns_more : (asked asked' : List Exchange → Type 0) (turns : List Turn) (t : Turn) → asked (exchanges_of turns)
+    → ((es : List Exchange) → asked es → asked' (es ++ exchange_in t ∷ [])) → asked' (exchanges_of (turns ++ t ∷ []))
+turns_more asked asked' turns t told more =
+    subst asked' (sym (map-append exchange_in turns (t ∷ []))) (more (exchanges_of turns) told)
 
--- The wire found the end of the input.
-pub finished : (first world : World) (before now after : Ends) (tb tn : List ℤ → Type 0) (wire wire' : WireState)
-    → Serving first before tb wire now tn world
-    → Reading wire now.left (Ok None) after.left wire'
-    → now.read_faults ≤ after.read_faults
-    → after.written ≡ now.written → after.write_faults ≡ now.write_faults → after.stalls ≡ now.stalls
-    → Connection first before tb causes.End after tn
-finished first world before now after tb tn wire wire' s reading counts written write_faults stalls =
-    let replies = reply_bytes s.messages (tolds_of s.history) in
-    let P : Option (List ℕ) → Type 0 = λ o. Took before.written replies o in
+spelled_more : (turns : List Turn) (text bytes : List ℕ) (t : Turn) → Spells (messages_of turns) text → IsMessage bytes t.message
+    → Spells (messages_of (turns ++ t ∷ [])) (text ++ bytes)
+spelled_more turns text bytes t spelled is =
+    subst (λ (ms : List Message). Spells ms (text ++ bytes)) (sym (map-append (λ (u : Turn). u.message) turns (t ∷ [])))
+    (spells_more (messages_of turns) text bytes t.message spelled is)
+
+-- what follows for exchanges where one more was told
+abbrev pub Extends : (List Exchange → Type 0) → Message → (Told → Type 0) → (List Exchange → Type 0) → Type 0
+Extends asked m is_told asked' =
+    (told : Told) → is_told told → (es : List Exchange) → asked es → asked' (es ++ record { asked = m.asked; told = told } ∷ [])
+
+-- One message more was answered, and its reply was written whole.
+pub goes_on : (asked asked' : List Exchange → Type 0) (is_told : Told → Type 0) (before now then : Ends) (wire wire' : WireState) (n : ℕ) (m : Message)
+    → Serving asked before wire n now → Reading wire now.incoming (Ok (Some m)) then.incoming wire'
+    → Answers is_told (closes n m) now.outgoing (Ok tt) then.outgoing → Extends asked m is_told asked'
+    → Serving asked' before wire' (n + 1) then
+goes_on asked asked' is_told before now then wire wire' n m s reading answers extends =
+    let t : Turn = record { message = m; told = answers.told } in
+    let bytes = reading.answer.0 in
     record {
-      messages = s.messages;
-      text = s.text;
-      rest = wire.held ++ reading.answered.got;
-      history = s.history;
-      answers = s.answers;
-      last = world;
-      sent = replies;
-      read = read_on before.left now.left after.left s.text wire.held reading.answered.got s.read reading.answered.gave;
-      answered = s.answered;
-      clocked = s.clocked;
-      wrote = subst P (sym written) s.wrote;
-      sent_is = refl;
-      rest_is = (reading.answered.answer.0, reading.answered.answer.2);
-      read_faults = omega (arith, s.read_faults, counts);
-      write_faults = omega (arith, s.write_faults, write_faults);
-      stalls = stalls ∙ s.stalls;
-    }
-
--- the stream behind one more message
-read_message : (a b c : Option (List ℕ)) (text here got bytes rest : List ℕ) → Gave a (text ++ here) b → Gave b got c → here ++ got ≡ bytes ++ rest
-    → Gave a ((text ++ bytes) ++ rest) c
-read_message a b c text here got bytes rest first then parts =
-    let P : List ℕ → Type 0 = λ t. Gave a t c in
-    subst P (ap (λ t. text ++ t) parts ∙ sym (append_assoc text bytes rest)) (read_on a b c text here got first then)
-
--- what a turn did, told from where the link was before the read
-turn_before : {E : Type 0} (w after : World) (tb tn : List ℤ → Type 0) (m : Message) (mid now then : Option (List ℕ)) (r : Result E WriteEnd)
-    → mid ≡ now → Turn w tb m mid r then tn after → Turn w tb m now r then tn after
-turn_before w after tb tn m mid now then r same turn = let P : Option (List ℕ) → Type 0 = λ o. Turn w tb m o r then tn after in subst P same turn
-
-faults_before : {T : Type 0} (mid now then : ℕ) (r : Result T WriteEnd) → mid ≡ now → CountsFault mid r then → CountsFault now r then
-faults_before mid now then r same counts = let P : ℕ → Type 0 = λ n. CountsFault n r then in subst P same counts
-
-stalls_before : {T : Type 0} (mid now then : ℕ) (r : Result T WriteEnd) → mid ≡ now → CountsEnd mid r then → CountsEnd now r then
-stalls_before mid now then r same counts = let P : ℕ → Type 0 = λ n. CountsEnd n r then in subst P same counts
-
--- One message more was read, and its reply was written whole.
-pub goes_on : {T : Type 0} (first world world' : World) (before now then : Ends) (tb tn tn' : List ℤ → Type 0) (wire wire' : WireState) (m : Message) (done : T)
-    (mid_written : Option (List ℕ)) (mid_faults mid_stalls : ℕ)
-    → mid_written ≡ now.written → mid_faults ≡ now.write_faults → mid_stalls ≡ now.stalls
-    → Serving first before tb wire now tn world
-    → Reading wire now.left (Ok (Some m)) then.left wire'
-    → now.read_faults ≤ then.read_faults
-    → Turn {E = T} world tn m mid_written (Ok done) then.written tn' world'
-    → mid_faults ≤ then.write_faults → then.stalls ≡ mid_stalls
-    → Serving first before tb wire' then tn' world'
-goes_on first world world' before now then tb tn tn' wire wire' m done mid_written mid_faults mid_stalls same_written same_faults same_stalls s reading counts mid_turn write_faults stalls =
-    let turn = turn_before world world' tn tn' m mid_written now.written then.written (Ok done) same_written mid_turn in
-    let e = entry_of world turn.now m.asked turn.told in
-    let bytes = reading.answered.answer.0 in
-    let timed = timed_goes_on first s.history s.answers world e turn.now world' s.answered.timed turn.serves refl in
-    let replies : reply_bytes (s.messages ++ m ∷ []) (tolds_of (s.history ++ e ∷ [])) ≡ reply_bytes s.messages (tolds_of s.history) ++ told_bytes turn.told m.close =
-    ap (reply_bytes (s.messages ++ m ∷ [])) (map-append (λ x. x.told) s.history (e ∷ []))
-    ∙ replies_more s.messages m (tolds_of s.history) turn.told (same_length s.history s.messages s.answered.requests) in
-    let W : List ℕ → Type 0 = λ t. Took before.written t then.written in
-    record {
-      messages = s.messages ++ m ∷ [];
+      turns = s.turns ++ t ∷ [];
       text = s.text ++ bytes;
-      history = s.history ++ e ∷ [];
-      answers = s.answers ++ turn.now ∷ [];
+      counted = omega (arith, s.counted, length-append s.turns (t ∷ []));
       is_open = reading.stays_open;
-      read = read_message before.left now.left then.left s.text wire.held reading.answered.got bytes wire'.held s.read reading.answered.gave reading.answered.answer.2;
-      answered = answered_more first world world' s.messages s.text s.history s.answers m bytes e turn.now s.answered reading.answered.answer.1 timed refl refl;
-      clocked = clocked_more tb tn tn' s.answers turn.now s.clocked turn.clocked;
-      wrote = subst W (sym replies) (took_both before.written (reply_bytes s.messages (tolds_of s.history)) (told_bytes turn.told m.close) now.written then.written s.wrote turn.written);
-      read_faults = omega (arith, s.read_faults, counts);
-      write_faults = omega (arith, s.write_faults, same_faults, write_faults);
-      stalls = stalls ∙ same_stalls ∙ s.stalls;
+      read = read_message before.incoming.left now.incoming.left then.incoming.left s.text wire.held reading.got bytes wire'.held s.read reading.gave reading.answer.2;
+      spelled = spelled_more s.turns s.text bytes t s.spelled reading.answer.1;
+      told = turns_more asked asked' s.turns t s.told (extends answers.told answers.tells);
+      wrote = subst (λ (r : List ℕ). Took before.outgoing.written r then.outgoing.written) (sym (replies_more n s.turns t s.counted))
+          (took_both before.outgoing.written (replies s.turns) (reply_of n t) now.outgoing.written then.outgoing.written s.wrote answers.writes.written);
+      reads = reading.faults ∙ s.reads;
+      faults = answers.writes.faults ∙ s.faults;
+      stalls = answers.writes.stalls ∙ s.stalls;
     }
 
--- One message more was read, and its reply wasn't written whole.
-pub breaks_off : {T : Type 0} (first world world' : World) (before now then : Ends) (tb tn tn' : List ℤ → Type 0) (wire wire' : WireState) (m : Message) (end : WriteEnd)
-    (mid_written : Option (List ℕ)) (mid_faults mid_stalls : ℕ)
-    → mid_written ≡ now.written → mid_faults ≡ now.write_faults → mid_stalls ≡ now.stalls
-    → Serving first before tb wire now tn world
-    → Reading wire now.left (Ok (Some m)) then.left wire'
-    → now.read_faults ≤ then.read_faults
-    → Turn {E = T} world tn m mid_written (Err end) then.written tn' world'
-    → CountsFault {T = T} mid_faults (Err end) then.write_faults → CountsEnd {T = T} mid_stalls (Err end) then.stalls
-    → Connection first before tb (cause_of end) then tn'
-breaks_off {T} first world world' before now then tb tn tn' wire wire' m write_ends.WriteFault mid_written mid_faults mid_stalls same_written same_faults same_stalls s reading counts mid_turn mid_faulted mid_stalled =
-    let turn = turn_before world world' tn tn' m mid_written now.written then.written (Err write_ends.WriteFault) same_written mid_turn in
-    let faulted = faults_before {T = T} mid_faults now.write_faults then.write_faults (Err write_ends.WriteFault) same_faults mid_faulted in
-    let stalled = stalls_before {T = T} mid_stalls now.stalls then.stalls (Err write_ends.WriteFault) same_stalls mid_stalled in
-    let e = entry_of world turn.now m.asked turn.told in
-    let bytes = reading.answered.answer.0 in
-    let timed = timed_goes_on first s.history s.answers world e turn.now world' s.answered.timed turn.serves refl in
-    let replies = reply_bytes s.messages (tolds_of s.history) in
+last_reply : (turns : List Turn) (n : ℕ) (t : Turn) → length turns ≡ n → IsLastReply (turns ++ t ∷ []) (replies turns) (reply_of n t)
+last_reply turns n t counted = record {
+  others = turns;
+  turn = t;
+  turns_are = refl;
+  earlier_is = refl;
+  last_is = ap (λ k. reply_of k t) (sym counted);
+}
+
+-- One message more was asked, and its reply wasn't written whole.
+pub breaks_off : (asked asked' : List Exchange → Type 0) (is_told : Told → Type 0) (before now then : Ends) (wire wire' : WireState) (n : ℕ) (m : Message) (end : WriteEnd)
+    → n < reply_limit → Serving asked before wire n now → Reading wire now.incoming (Ok (Some m)) then.incoming wire'
+    → Answers is_told (closes n m) now.outgoing (Err end) then.outgoing → Extends asked m is_told asked'
+    → Connection asked' before (cause_of end) then
+breaks_off asked asked' is_told before now then wire wire' n m write_ends.WriteFault few s reading answers extends =
+    let t : Turn = record { message = m; told = answers.told } in
+    let bytes = reading.answer.0 in
     record {
-      messages = s.messages ++ m ∷ [];
+      turns = s.turns ++ t ∷ [];
       text = s.text ++ bytes;
       rest = wire'.held;
-      history = s.history ++ e ∷ [];
-      answers = s.answers ++ turn.now ∷ [];
-      last = world';
-      sent = replies ++ turn.written.front;
-      read = read_message before.left now.left then.left s.text wire.held reading.answered.got bytes wire'.held s.read reading.answered.gave reading.answered.answer.2;
-      answered = answered_more first world world' s.messages s.text s.history s.answers m bytes e turn.now s.answered reading.answered.answer.1 timed refl refl;
-      clocked = clocked_more tb tn tn' s.answers turn.now s.clocked turn.clocked;
-      wrote = took_both before.written replies turn.written.front now.written then.written s.wrote turn.written.took;
-      sent_is = record {
-        messages_before = s.messages;
-        tolds_before = tolds_of s.history;
-        message = m;
-        told = turn.told;
-        messages_are = refl;
-        tolds_are = map-append (λ x. x.told) s.history (e ∷ []);
-        front = turn.written.front;
-        rest = turn.written.rest;
-        parts = turn.written.parts;
-        sent_is = refl;
-      };
+      earlier = replies s.turns;
+      last = reply_of n t;
+      result = Err write_ends.WriteFault;
+      read = read_message before.incoming.left now.incoming.left then.incoming.left s.text wire.held reading.got bytes wire'.held s.read reading.gave reading.answer.2;
+      spelled = spelled_more s.turns s.text bytes t s.spelled reading.answer.1;
+      told = turns_more asked asked' s.turns t s.told (extends answers.told answers.tells);
+      few = omega (arith, s.counted, few, length-append s.turns (t ∷ []));
+      sent = sent_behind asked before now then wire n s (reply_of n t) (Err write_ends.WriteFault) answers.writes;
+      last_is = last_reply s.turns n t s.counted;
+      last_write = refl;
       rest_is = tt;
-      read_faults = omega (arith, s.read_faults, counts);
-      write_faults = (omega (arith, s.write_faults, faulted.0), more_then_rose before.write_faults now.write_faults then.write_faults s.write_faults faulted.1);
-      stalls = stalled ∙ s.stalls;
+      reads = reading.faults ∙ s.reads;
     }
-breaks_off {T} first world world' before now then tb tn tn' wire wire' m write_ends.SinkTakesNothing mid_written mid_faults mid_stalls same_written same_faults same_stalls s reading counts mid_turn mid_faulted mid_stalled =
-    let turn = turn_before world world' tn tn' m mid_written now.written then.written (Err write_ends.SinkTakesNothing) same_written mid_turn in
-    let faulted = faults_before {T = T} mid_faults now.write_faults then.write_faults (Err write_ends.SinkTakesNothing) same_faults mid_faulted in
-    let stalled = stalls_before {T = T} mid_stalls now.stalls then.stalls (Err write_ends.SinkTakesNothing) same_stalls mid_stalled in
-    let e = entry_of world turn.now m.asked turn.told in
-    let bytes = reading.answered.answer.0 in
-    let timed = timed_goes_on first s.history s.answers world e turn.now world' s.answered.timed turn.serves refl in
-    let replies = reply_bytes s.messages (tolds_of s.history) in
-    let same : before.stalls ≤ now.stalls = omega (arith, s.stalls) in
+breaks_off asked asked' is_told before now then wire wire' n m write_ends.SinkTakesNothing few s reading answers extends =
+    let t : Turn = record { message = m; told = answers.told } in
+    let bytes = reading.answer.0 in
     record {
-      messages = s.messages ++ m ∷ [];
+      turns = s.turns ++ t ∷ [];
       text = s.text ++ bytes;
       rest = wire'.held;
-      history = s.history ++ e ∷ [];
-      answers = s.answers ++ turn.now ∷ [];
-      last = world';
-      sent = replies ++ turn.written.front;
-      read = read_message before.left now.left then.left s.text wire.held reading.answered.got bytes wire'.held s.read reading.answered.gave reading.answered.answer.2;
-      answered = answered_more first world world' s.messages s.text s.history s.answers m bytes e turn.now s.answered reading.answered.answer.1 timed refl refl;
-      clocked = clocked_more tb tn tn' s.answers turn.now s.clocked turn.clocked;
-      wrote = took_both before.written replies turn.written.front now.written then.written s.wrote turn.written.took;
-      sent_is = inl (record {
-        messages_before = s.messages;
-        tolds_before = tolds_of s.history;
-        message = m;
-        told = turn.told;
-        messages_are = refl;
-        tolds_are = map-append (λ x. x.told) s.history (e ∷ []);
-        front = turn.written.front;
-        rest = turn.written.rest;
-        parts = turn.written.parts;
-        sent_is = refl;
-      });
+      earlier = replies s.turns;
+      last = reply_of n t;
+      result = Err write_ends.SinkTakesNothing;
+      read = read_message before.incoming.left now.incoming.left then.incoming.left s.text wire.held reading.got bytes wire'.held s.read reading.gave reading.answer.2;
+      spelled = spelled_more s.turns s.text bytes t s.spelled reading.answer.1;
+      told = turns_more asked asked' s.turns t s.told (extends answers.told answers.tells);
+      few = omega (arith, s.counted, few, length-append s.turns (t ∷ []));
+      sent = sent_behind asked before now then wire n s (reply_of n t) (Err write_ends.SinkTakesNothing) answers.writes;
+      last_is = inl (last_reply s.turns n t s.counted);
+      last_write = refl;
       rest_is = tt;
-      read_faults = omega (arith, s.read_faults, counts);
-      write_faults = omega (arith, s.write_faults, faulted);
-      stalls = (omega (arith, s.stalls, stalled.0), more_then_rose before.stalls now.stalls then.stalls same stalled.1);
+      reads = reading.faults ∙ s.reads;
     }
+
+-- All replies went out whole, and then the cause's closing bytes were written, as far as they were.
+ends_by : (asked : List Exchange → Type 0) (before now after : Ends) (wire : WireState) (n : ℕ) → n < reply_limit
+    → (s : Serving asked before wire n now) (got : List ℕ) → Gave now.incoming.left got after.incoming.left
+    → (cause : Cause) (last : List ℕ) (result : Result (Unit {0}) WriteEnd) → WritesWhole now.outgoing last result after.outgoing
+    → IsLast cause s.turns (replies s.turns) last → IsLastWrite cause result → IsRest cause (wire.held ++ got) after.incoming.left
+    → CountsReads cause before.incoming.faults after.incoming.faults → Connection asked before cause after
+ends_by asked before now after wire n few s got gave cause last result writes last_is last_write rest_is reads = record {
+  turns = s.turns;
+  text = s.text;
+  rest = wire.held ++ got;
+  earlier = replies s.turns;
+  last = last;
+  result = result;
+  read = read_on before.incoming.left now.incoming.left after.incoming.left s.text wire.held got s.read gave;
+  spelled = s.spelled;
+  told = s.told;
+  few = omega (arith, s.counted, few);
+  sent = sent_behind asked before now after wire n s last result writes;
+  last_is = last_is;
+  last_write = last_write;
+  rest_is = rest_is;
+  reads = reads;
+}
+
+-- The wire answered a fault, and the connection is closed.
+pub closed : (asked : List Exchange → Type 0) (before now after : Ends) (wire wire' : WireState) (n : ℕ) (fault : WireFault) (cause : Cause) → n < reply_limit
+    → Serving asked before wire n now → Reading wire now.incoming (Err fault) after.incoming wire' → Closes fault cause now.outgoing after.outgoing
+    → Connection asked before cause after
+closed asked before now after wire wire' n (faults.CutShort have) cause few s reading how =
+    subst (λ (k : Cause). Connection asked before k after) (sym how.1.0)
+    (ends_by asked before now after wire n few s reading.got reading.gave (causes.Wire (faults.CutShort have)) [] (Ok tt)
+    (wrote_nothing now.outgoing after.outgoing how.1.1.1) (refl, refl) tt reading.answer (reading.faults ∙ s.reads))
+closed asked before now after wire wire' n faults.Unread cause few s reading how =
+    subst (λ (k : Cause). Connection asked before k after) (sym how.1.0)
+    (ends_by asked before now after wire n few s reading.got reading.gave (causes.Wire faults.Unread) (row_of (causes.Wire faults.Unread)).closing how.0
+    how.1.1 (refl, refl) tt (reading.answer.0, tt) (reading.faults ∙ s.reads))
+closed asked before now after wire wire' n faults.ReadFault cause few s reading how =
+    subst (λ (k : Cause). Connection asked before k after) (sym how.1.0)
+    (ends_by asked before now after wire n few s reading.got reading.gave causes.ReadFault [] (Ok tt)
+    (wrote_nothing now.outgoing after.outgoing how.1.1.1) (refl, refl) refl reading.answer
+    (subst (λ (k : ℕ). (k ≤ after.incoming.faults) × Rose k after.incoming.faults) s.reads reading.faults))
+closed asked before now after wire wire' n faults.Memory cause few s reading how =
+    out_of_memory asked before now after wire n cause how.0 few s reading.got reading.gave (reading.faults ∙ s.reads) how.1.0 how.1.1
+  where
+    out_of_memory : (asked : List Exchange → Type 0) (before now after : Ends) (wire : WireState) (n : ℕ) (cause : Cause) (result : Result (Unit {0}) WriteEnd)
+        → n < reply_limit → Serving asked before wire n now → (got : List ℕ) → Gave now.incoming.left got after.incoming.left
+        → after.incoming.faults ≡ before.incoming.faults → WritesWhole now.outgoing closing_standin result after.outgoing
+        → ((cause ≡ causes.Memory) × (result ≢ Err write_ends.SinkTakesNothing)) ⊎ ((cause ≡ causes.SinkTakesNothing) × (result ≡ Err write_ends.SinkTakesNothing))
+        → Connection asked before cause after
+    out_of_memory asked before now after wire n cause result few s got gave reads writes (inl memory) =
+        subst (λ (k : Cause). Connection asked before k after) (sym memory.0)
+        (ends_by asked before now after wire n few s got gave causes.Memory closing_standin result writes (refl, refl) memory.1 tt reads)
+    out_of_memory asked before now after wire n cause result few s got gave reads writes (inr stall) =
+        subst (λ (k : Cause). Connection asked before k after) (sym stall.0)
+        (ends_by asked before now after wire n few s got gave causes.SinkTakesNothing closing_standin result writes (inr (refl, refl)) stall.1 tt reads)
+
+-- ---- over the ends between a read and a write
+
+pub reading_to : (wire wire' : WireState) (had mid then : Incoming) (result : Result (Option Message) WireFault) → then ≡ mid
+    → Reading wire had result mid wire' → Reading wire had result then wire'
+reading_to wire wire' had mid then result same reading = subst (λ (i : Incoming). Reading wire had result i wire') (sym same) reading
+
+pub answers_from : (is_told : Told → Type 0) (close close' : Bool) (now mid then : Outgoing) (result : Result (Unit {0}) WriteEnd) → close ≡ close'
+    → mid ≡ now → Answers is_told close mid result then → Answers is_told close' now result then
+answers_from is_told close close' now mid then result flag same answers =
+    subst (λ (o : Outgoing). Answers is_told close' o result then) same (subst (λ (b : Bool). Answers is_told b mid result then) flag answers)
+
+pub closes_from : (fault : WireFault) (cause : Cause) (now mid then : Outgoing) → mid ≡ now → Closes fault cause mid then → Closes fault cause now then
+closes_from fault cause now mid then same how = subst (λ (o : Outgoing). Closes fault cause o then) same how
+
+-- ---- what a teller stands for
+
+pub stands_nothing : {T : Type 0} (stands : T → T → List Exchange → Type 0) (a first : T) (before : List Exchange) → stands first a before
+    → stands first a (before ++ [])
+stands_nothing stands a first before stood = subst (stands first a) (sym (append-nil before)) stood
+
+pub stands_more : {T : Type 0} (stands : T → T → List Exchange → Type 0) (a b c : T) (m : Message)
+    → Extends (λ es. (first : T) (before : List Exchange) → stands first a before → stands first b (before ++ es)) m
+    (λ told. (first : T) (before : List Exchange) → stands first b before → stands first c (before ++ record { asked = m.asked; told = told } ∷ []))
+    (λ es. (first : T) (before : List Exchange) → stands first a before → stands first c (before ++ es))
+stands_more stands a b c m told tells es asked first before stood =
+    subst (stands first c) (append_assoc before es (record { asked = m.asked; told = told } ∷ [])) (tells first (before ++ es) (asked first before stood))

@@ -1,9 +1,8 @@
 pub mod Words
-pub mod Endings
-pub mod Ends
+pub mod Turns
+pub mod Causes
+pub mod Closing
 pub mod Connection
 pub mod Framing
-pub mod Turn
-pub mod Closing
-pub mod Statuses
 pub mod Run
+pub mod Statuses

@@ -1,25 +1,27 @@
-// One connection, from its first message to its end.
-ghost use Rattle.std.specs.Prelude.{◌≡◌, ◌≤◌, [], true};
-ghost use Rattle.outside.specs.Whole.{IsWritten, CountsFault, CountsEnd};
+//! One connection, from its first message to its end.
+ghost use Rattle.std.specs.Prelude.{◌≡◌, ◌<◌, List, [], ◌∷◌, ◌++◌, true};
+ghost use Rattle.outside.specs.Ends.{OnlyWrites};
+ghost use Rattle.outside.specs.Whole.{WritesWhole};
 ghost use Rattle.service_core.specs.ReplyBytes.{told_bytes};
-ghost use Rattle.rdb_program.specs.Ends.{ends};
-ghost use Rattle.rdb_program.specs.Turn.{Turn};
-ghost use Rattle.rdb_program.specs.Connection.{Connection};
+ghost use Rattle.record_desk.specs.Exchange.{Exchange};
+ghost use Rattle.rdb_program.specs.Turns.{reply_limit, closes};
+ghost use Rattle.rdb_program.specs.Connection.{Answers, Connection};
 ghost use Rattle.rdb_program.specs.Closing.{Closes};
 
 use crate::ending::Cause;
 use http_wire::{Message, Wire, WireFault, write_farewell, write_response, write_standin};
-use outside::{Clock, Link, WriteEnd};
-use service_core::Core;
+use outside::{Link, WriteEnd};
+use record_desk::Teller;
 use service_core::forms::{Standin, Told};
 use std::alloc::Global;
 
+/// The most replies of one connection. The last of them closes it.
+const REPLY_LIMIT: usize = 1_048_576;
+
 fn write_told<L: Link>(link: &mut L, told: &Told, close: bool) -> Result<(), WriteEnd>
-    ensures written { IsWritten (L.written link.old) (told_bytes told.now close) result (L.written link.new) }
-    ensures faults { CountsFault (L.write_faults link.old) result (L.write_faults link.new) }
-    ensures stalls { CountsEnd (L.stalls link.old) result (L.stalls link.new) }
-    ensures read_faults { L.read_faults link.new ≡ L.read_faults link.old }
-    ensures left { L.left link.new ≡ L.left link.old }
+    ensures written { WritesWhole (L.ends link.old).outgoing (told_bytes told.now close) result
+        (L.ends link.new).outgoing }
+    ensures only { OnlyWrites (L.ends link.old) (L.ends link.new) }
     ensures holds { L.holds link.new ≡ L.holds link.old }
 {
     match told {
@@ -28,33 +30,37 @@ fn write_told<L: Link>(link: &mut L, told: &Told, close: bool) -> Result<(), Wri
     }
 }
 
-/// Answers one message: reads the clock once, asks the core, and writes what it told.
-fn answer_message<L: Link, C: Clock>(
-    alloc: Global,
-    core: &mut Core,
-    clock: &mut C,
+/// Whether the connection ends after the reply to this message, before which there were so many.
+fn closes(answered: usize, message: &Message) -> bool
+    requires { answered < reply_limit }
+    ensures { result ≡ closes answered message.now }
+{
+    message.close || answered + 1 == REPLY_LIMIT
+}
+
+/// Asks the teller one message, and writes what it tells.
+fn answer_message<T: Teller, L: Link>(
+    teller: &mut T,
     link: &mut L,
     message: &Message,
+    close: bool,
 ) -> Result<(), WriteEnd>
-    ensures turn { Turn core.old.world (C.tells (C.state clock.old)) message.now (L.written link.old) result
-        (L.written link.new) (C.tells (C.state clock.new)) core.new.world }
-    ensures faults { CountsFault (L.write_faults link.old) result (L.write_faults link.new) }
-    ensures stalls { CountsEnd (L.stalls link.old) result (L.stalls link.new) }
-    ensures read_faults { L.read_faults link.new ≡ L.read_faults link.old }
-    ensures left { L.left link.new ≡ L.left link.old }
-    ensures holds { L.holds link.new ≡ L.holds link.old }
+    ensures answers { Answers
+        (λ told. (first : T) (before : List Exchange) → T.stands first teller.old before
+        → T.stands first teller.new (before ++ record { asked = message.now.asked; told = told } ∷ []))
+        close (L.ends link.old).outgoing result (L.ends link.new).outgoing }
+    ensures only { OnlyWrites (L.ends link.old) (L.ends link.new) }
+    ensures teller_holds { T.holds teller.new ≡ T.holds teller.old }
+    ensures link_holds { L.holds link.new ≡ L.holds link.old }
 {
-    let now = clock.now();
-    let told = core.serve(alloc, now, &message.asked);
-    write_told(link, &told, message.close)
+    let told = teller.tell(&message.asked);
+    write_told(link, &told, close)
 }
 
 /// Ends a connection on which memory was wanting to read a message.
 fn close_for_memory<L: Link>(link: &mut L) -> Cause
-    ensures closes { Closes WireFault.Memory result (L.written link.old) (L.write_faults link.old) (L.stalls link.old)
-        (L.written link.new) (L.write_faults link.new) (L.stalls link.new) }
-    ensures read_faults { L.read_faults link.new ≡ L.read_faults link.old }
-    ensures left { L.left link.new ≡ L.left link.old }
+    ensures closes { Closes WireFault.Memory result (L.ends link.old).outgoing (L.ends link.new).outgoing }
+    ensures only { OnlyWrites (L.ends link.old) (L.ends link.new) }
     ensures holds { L.holds link.new ≡ L.holds link.old }
 {
     match write_standin(link, Standin::Memory, true) {
@@ -65,10 +71,8 @@ fn close_for_memory<L: Link>(link: &mut L) -> Cause
 
 /// Ends a connection from which no more is read: `Unread` gets a farewell, want of memory a stand-in.
 fn close_after<L: Link>(link: &mut L, fault: WireFault) -> Cause
-    ensures closes { Closes fault result (L.written link.old) (L.write_faults link.old) (L.stalls link.old)
-        (L.written link.new) (L.write_faults link.new) (L.stalls link.new) }
-    ensures read_faults { L.read_faults link.new ≡ L.read_faults link.old }
-    ensures left { L.left link.new ≡ L.left link.old }
+    ensures closes { Closes fault result (L.ends link.old).outgoing (L.ends link.new).outgoing }
+    ensures only { OnlyWrites (L.ends link.old) (L.ends link.new) }
     ensures holds { L.holds link.new ≡ L.holds link.old }
 {
     match fault {
@@ -82,27 +86,27 @@ fn close_after<L: Link>(link: &mut L, fault: WireFault) -> Cause
     }
 }
 
-/// Answers message after message until the input ends, or something fails.
-pub fn serve_connection<L: Link, C: Clock>(
+/// Answers message after message until the input ends, something fails, or the reply that closes the connection went out.
+pub fn serve_connection<T: Teller, L: Link>(
     alloc: Global,
-    core: &mut Core,
+    teller: &mut T,
     wire: &mut Wire,
-    clock: &mut C,
     link: &mut L,
 ) -> Cause
     requires held { wire.old.held ≡ [] }
     requires is_open { wire.old.is_open ≡ true }
-    ensures connection { Connection core.old.world
-        (ends (L.left link.old) (L.written link.old) (L.read_faults link.old) (L.write_faults link.old) (L.stalls link.old))
-        (C.tells (C.state clock.old)) result
-        (ends (L.left link.new) (L.written link.new) (L.read_faults link.new) (L.write_faults link.new) (L.stalls link.new))
-        (C.tells (C.state clock.new)) }
-    ensures holds { L.holds link.new ≡ L.holds link.old }
+    ensures connection { Connection
+        (λ exchanges. (first : T) (before : List Exchange) → T.stands first teller.old before
+        → T.stands first teller.new (before ++ exchanges))
+        (L.ends link.old) result (L.ends link.new) }
+    ensures teller_holds { T.holds teller.new ≡ T.holds teller.old }
+    ensures link_holds { L.holds link.new ≡ L.holds link.old }
 {
-    'messages: for _ in 0..u64::MAX {
+    for answered in 0..REPLY_LIMIT {
         match wire.next(alloc, link) {
             Ok(Some(message)) => {
-                if let Err(end) = answer_message(alloc, core, clock, link, &message) {
+                let close = closes(answered, &message);
+                if let Err(end) = answer_message(teller, link, &message, close) {
                     return Cause::from(end);
                 }
             }
@@ -110,6 +114,5 @@ pub fn serve_connection<L: Link, C: Clock>(
             Err(fault) => return close_after(link, fault),
         }
     }
-    // No machine gets here: as many messages as a count can hold are more than any memory has room for.
-    close_for_memory(link)
+    Cause::Closed
 }

@@ -1,6 +1,7 @@
-// How a run ends: its exit status, and its line on standard error.
+//! How a run ends: its exit status, and its line on standard error.
 ghost use Rattle.std.specs.Prelude.{◌≡◌};
-ghost use Rattle.rdb_program.specs.Endings.{status_of, line_of, cause_of};
+ghost use Rattle.rdb_program.specs.Causes.{row_of, cause_of};
+ghost use Rattle.rdb_program.specs.Run.{status_of, line_of};
 
 use http_wire::WireFault;
 use outside::WriteEnd;
@@ -10,6 +11,8 @@ use outside::WriteEnd;
 pub enum Cause {
     /// The input was read to its end, and each message was answered.
     End,
+    /// The reply that closes the connection went out: so many are its most.
+    Closed,
     /// The input isn't messages to its end: `CutShort` or `Unread`.
     Wire(WireFault),
     /// A read failed.
@@ -24,7 +27,7 @@ pub enum Cause {
 
 impl From<WriteEnd> for Cause {
     ghost use Rattle.std.specs.Prelude.{◌≡◌};
-    ghost use Rattle.rdb_program.specs.Endings.{cause_of};
+    ghost use Rattle.rdb_program.specs.Causes.{cause_of};
 
     ghost from_gives = { λ end cause. cause ≡ cause_of end };
 
@@ -75,10 +78,10 @@ impl Ending {
 
 impl Cause {
     fn status(&self) -> u8
-        ensures { result ≡ status_of (Ending.Served self.now) }
+        ensures { result ≡ (row_of self.now).status }
     {
         match self {
-            Cause::End => 0,
+            Cause::End | Cause::Closed => 0,
             Cause::ReadFault | Cause::WriteFault => 4,
             Cause::Memory => 7,
             Cause::Wire(_) => 8,
@@ -87,10 +90,10 @@ impl Cause {
     }
 
     fn line(&self) -> &'static str
-        ensures { result.now ≡ line_of (Ending.Served self.now) }
+        ensures { result.now ≡ (row_of self.now).line }
     {
         match self {
-            Cause::End => "",
+            Cause::End | Cause::Closed => "",
             Cause::ReadFault => "rdb: fault of input\n",
             Cause::WriteFault => "rdb: fault of output\n",
             Cause::Memory => "rdb: want of memory\n",
@@ -101,7 +104,7 @@ impl Cause {
 }
 
 fn wire_line(fault: &WireFault) -> &'static str
-    ensures { result.now ≡ line_of (Ending.Served (Cause.Wire fault.now)) }
+    ensures { result.now ≡ (row_of (Cause.Wire fault.now)).line }
 {
     match fault {
         WireFault::CutShort { .. } => "rdb: wire 8 CutShort\n",

@@ -1,11 +1,11 @@
-// Runs over ends in memory: what goes in, what comes out, and how it ends.
+//! Runs over ends in memory: what goes in, what comes out, and how it ends.
 use crate::run::run_program;
 use outside::{Failed, ListClock, MemorySink, MemorySource, Sink, Source};
 use std::alloc::{AllocError, Global};
 use std::process::Abort;
 use std::test::Fail;
 
-// 2023-11-14T22:13:20Z
+/// 2023-11-14T22:13:20Z
 const NOW: i64 = 1_700_000_000_000_000;
 
 const CREATE: &str =
@@ -57,9 +57,7 @@ struct Drip {
 impl Source for Drip {
     ghost use Rattle.std.specs.Prelude.{None};
 
-    ghost faults = { λ _. 0 };
-
-    ghost left = { λ _. None };
+    ghost ends = { λ _. record { left = None; faults = 0 } };
 
     fn read(&mut self, room: &mut [u8]) -> Result<usize, Failed> {
         if room.is_empty() || self.place >= self.bytes.len() {
@@ -250,8 +248,45 @@ const CASES: [Case<'static>; 14] = [
     ),
 ];
 
+/// Bodies of forms that aren't read: each cause of that once.
+fn refused_bodies(alloc: Global) -> Result<Vec<String>, AllocError> {
+    let long = "r".repeat(alloc, 401)?;
+    let deep = "[".repeat(alloc, 128)?;
+    let shallow = "]".repeat(alloc, 128)?;
+    let mut bodies = Vec::new(alloc);
+    for (id, realm) in [
+        ("", "proj:ci"),
+        ("A", "proj:ci"),
+        ("u-a", ""),
+        ("u-a", "ci"),
+        ("u-a", "proj:@other"),
+        ("u-a", long.as_str()),
+    ] {
+        bodies.push(format!(in alloc;
+            "{{\"invocationId\":\"{id}\",\"invocation\":{{\"realm\":\"{realm}\"}}}}"
+        )?)?;
+    }
+    bodies.push(format!(in alloc;
+        "{{\"invocationId\":\"u-a\",\"invocation\":{{\"realm\":\"p:{long}\"}}}}"
+    )?)?;
+    bodies.push(format!(in alloc; "{deep}{shallow}")?)?;
+    bodies.push(String::from_str(alloc, "{\"invocationId\":\"u-a\"}")?)?;
+    bodies.push(String::from_str(alloc, "no JSON")?)?;
+    bodies.push(String::new(alloc))?;
+    Ok(bodies)
+}
+
 #[test]
 fn runs_give_their_bytes_and_statuses(rt: HostRuntime) -> Result<(), Fail> {
+    for body in &refused_bodies(rt.alloc())? {
+        let len = body.len();
+        let text = format!(in rt.alloc();
+            "POST /prpc/luci.resultdb.v1.Recorder/CreateInvocation HTTP/1.1\r\nContent-Length: {len}\r\n\r\n{body}"
+        )?;
+        let refused: Case<'_> = (body.as_str(), &[], &[], &[], &[NOT_BUILT], 0, "");
+        let mut input = MemorySource::new(rt.alloc(), text.into_bytes(), Vec::new(rt.alloc()))?;
+        check(&rt, &ANSWER, &mut input, &refused)?;
+    }
     for case in &CASES {
         let bytes = joined(rt.alloc(), case.1)?;
         let mut input = MemorySource::new(rt.alloc(), bytes, case.2.to_vec(rt.alloc())?)?;

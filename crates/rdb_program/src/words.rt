@@ -1,4 +1,4 @@
-// The words of the command line.
+//! The words of the command line.
 ghost use Rattle.std.specs.Prelude.{◌↔◌, IsTrue, map, string_bytes};
 ghost use Rattle.rdb_program.specs.Words.{AreAnswerParts, IsAnswerWords, IsPath};
 

@@ -80,9 +80,26 @@ fn answers_in_turn(rt: HostRuntime) -> Result<(), Fail> {
 fn forms_of_bodies(rt: HostRuntime) -> Result<(), Fail> {
     let longest = body_of_length(rt.alloc(), 98)?;
     let too_long = body_of_length(rt.alloc(), 99)?;
+    let long = "r".repeat(rt.alloc(), 401)?;
+    let long_realm = format!(in rt.alloc();
+        "{{\"invocationId\":\"u-a\",\"invocation\":{{\"realm\":\"p:{long}\"}}}}"
+    )?;
+    let deep = "[".repeat(rt.alloc(), 128)?;
+    let shallow = "]".repeat(rt.alloc(), 128)?;
+    let deep_body = format!(in rt.alloc(); "{deep}{shallow}")?;
     let bodies = [
         (longest.as_str(), 200),
         (too_long.as_str(), 400),
+        (long_realm.as_str(), 400),
+        (deep_body.as_str(), 400),
+        (
+            "{\"invocationId\":\"\",\"invocation\":{\"realm\":\"proj:ci\"}}",
+            400,
+        ),
+        (
+            "{\"invocationId\":\"u-a\",\"invocation\":{\"realm\":\"proj:@other\"}}",
+            400,
+        ),
         (
             "{\"invocationId\":\"\\u0075-a\",\"invocation\":{\"realm\":\"proj:ci\"}}",
             200,

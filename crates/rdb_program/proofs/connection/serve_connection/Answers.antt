@@ -1,41 +1,50 @@
-use Rattle.std.proofs.Common.{[], refl, ◌∙◌, arith}
-use Rattle.http_wire.specs.declared.message.WireFault.TheVariants as faults
-use Rattle.outside.proofs.Taken.{gave_nothing}
-use Rattle.rdb_program.proofs.Serving.{begins, closed, goes_on, breaks_off}
+use Rattle.std.proofs.Common.{refl, ◌∙◌, subst}
+use Rattle.rdb_program.proofs.Serving.{Serving, begins, goes_on, breaks_off, ended, full, closed, reading_to, answers_from, closes_from, stands_nothing, stands_more}
 use Rattle.rdb_program.proofs.connection.serve_connection.Goals as goal
 
-pub messages-init : goal.messages-init
-messages-init g c = record { serving = begins _ _ _ _ c.requires.held c.requires.is_open; holds = refl }
+pub loop-answered-init : goal.loop-answered-init
+loop-answered-init g c = record {
+  serving = begins _ _ _ (stands_nothing g.T.Teller.stands c.args.teller.now) c.requires.held c.requires.is_open;
+  teller_holds = refl;
+  link_holds = refl;
+}
 
 pub returns-in-Err-answer_message-clause-connection : goal.returns-in-Err-answer_message-clause-connection
 returns-in-Err-answer_message-clause-connection g c =
-    let s = c.messages.invariant.serving in
+    let s = c.loop-answered.invariant.serving in
+    let m = c.in-Ok-Some.message in
     let reading = rw c.in-Ok-Some.field-0-is at (c.in-Ok-Some.ensures.reading s.is_open) in
-    let told = c.in-Err-answer_message.ensures in
-    rw (c.from.ensures, c.answer_message.ensures.left, c.answer_message.ensures.read_faults)
-    (breaks_off _ _ _ _ _ _ _ _ _ _ _ _ _ _ _ _ c.next.ensures.written c.next.ensures.write_faults c.next.ensures.stalls s reading c.in-Ok-Some.ensures.faults told.turn told.faults told.stalls)
+    rw c.from.ensures
+    (breaks_off _ _ _ _ _ _ _ _ _ m c.in-Err-answer_message.end c.loop-answered-test.true s
+    (reading_to _ _ _ _ _ _ c.answer_message.ensures.only reading)
+    (answers_from _ _ _ _ _ _ _ c.closes-close.ensures c.next.ensures.only c.in-Err-answer_message.ensures.answers)
+    (stands_more g.T.Teller.stands c.args.teller.now c.loop-answered.teller c.answer_message.new.teller m))
+
+pub returns-in-Ok-None-clause-connection : goal.returns-in-Ok-None-clause-connection
+returns-in-Ok-None-clause-connection g c =
+    let s = c.loop-answered.invariant.serving in
+    let reading = rw c.in-Ok-None.field-0-is at (c.in-Ok-None.ensures.reading s.is_open) in
+    ended _ _ _ _ _ _ _ c.loop-answered-test.true s reading c.next.ensures.only
 
 pub returns-in-Err-clause-connection : goal.returns-in-Err-clause-connection
 returns-in-Err-clause-connection g c =
-    let s = c.messages.invariant.serving in
+    let s = c.loop-answered.invariant.serving in
     let reading = c.in-Err.ensures.reading s.is_open in
-    let closes = rw (c.next.ensures.written, c.next.ensures.write_faults, c.next.ensures.stalls) at c.close_after.ensures.closes in
-    rw (c.close_after.ensures.left, c.close_after.ensures.read_faults)
-    (closed _ _ _ _ _ _ _ _ _ _ _ reading.answered.got s reading.answered.gave reading.answered.answer c.in-Err.ensures.faults closes)
+    closed _ _ _ _ _ _ _ _ _ c.loop-answered-test.true s (reading_to _ _ _ _ _ _ c.close_after.ensures.only reading)
+    (closes_from _ _ _ _ _ c.next.ensures.only c.close_after.ensures.closes)
 
-pub messages-preserved : goal.messages-preserved
-messages-preserved g c =
-    let s = c.messages.invariant.serving in
+pub loop-answered-preserved : goal.loop-answered-preserved
+loop-answered-preserved g c =
+    let s = c.loop-answered.invariant.serving in
+    let m = c.in-Ok-Some.message in
     let reading = rw c.in-Ok-Some.field-0-is at (c.in-Ok-Some.ensures.reading s.is_open) in
-    let told = c.in_default.ensures in
     record {
-      serving = rw (c.answer_message.ensures.left, c.answer_message.ensures.read_faults)
-          (goes_on _ _ _ _ _ _ _ _ _ _ _ _ _ _ _ _ c.next.ensures.written c.next.ensures.write_faults c.next.ensures.stalls s reading c.in-Ok-Some.ensures.faults told.turn told.faults told.stalls);
-      holds = c.answer_message.ensures.holds ∙ c.next.ensures.holds ∙ c.messages.invariant.holds;
+      serving = goes_on _ _ _ _ _ _ _ _ _ m s (reading_to _ _ _ _ _ _ c.answer_message.ensures.only reading)
+          (answers_from _ _ _ _ _ _ _ c.closes-close.ensures c.next.ensures.only c.in_default.ensures.answers)
+          (stands_more g.T.Teller.stands c.args.teller.now c.loop-answered.teller c.answer_message.new.teller m);
+      teller_holds = c.answer_message.ensures.teller_holds ∙ c.loop-answered.invariant.teller_holds;
+      link_holds = c.answer_message.ensures.link_holds ∙ c.next.ensures.holds ∙ c.loop-answered.invariant.link_holds;
     }
 
 pub returns-clause-connection : goal.returns-clause-connection
-returns-clause-connection g c =
-    let s = c.messages.invariant.serving in
-    rw (c.close_for_memory.ensures.left, c.close_for_memory.ensures.read_faults)
-    (closed _ _ _ _ _ _ _ _ [] faults.Memory _ [] s (gave_nothing _) tt (omega arith) c.close_for_memory.ensures.closes)
+returns-clause-connection g c = full _ _ _ _ _ c.loop-answered-test.false c.loop-answered.auto.answered-end c.loop-answered.invariant.serving

@@ -1,0 +1,11 @@
+use Rattle.disks.proofs.MomentLaws.{only_now, counts_now, goes_on_twice, of_first_or_second, not_lost}
+use Rattle.disks.proofs.laws.moments_add_up.Goals as goal
+
+pub returns : goal.returns
+returns c = record {
+  now = only_now;
+  counts = counts_now;
+  goes_on = goes_on_twice;
+  in_one = of_first_or_second;
+  not_lost = not_lost;
+}

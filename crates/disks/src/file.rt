@@ -1,0 +1,217 @@
+// Files as the parts of a disk.
+ghost use Rattle.std.specs.Prelude.{◌≡◌, ◌≤◌, None, IfOk, MatchResult};
+ghost use Rattle.std.specs.Io.{ReadsAtMost};
+ghost use Rattle.fault_counts.specs.Causes.{HasCause, counted};
+
+use crate::{Disk, Failed};
+use fault_counts::Count;
+use std::alloc::{AllocError, Global};
+use std::fs::{File, OpenOptions};
+use std::io;
+use std::os::unix::fs::FileExt;
+use std::rt::Files;
+
+/// Two files as a disk: part 0 at a path, and part 1 at that path with `.1` behind it.
+///
+/// The file of a part is opened at the first call on that part, and made empty where it is missing. It tells nothing of
+/// what it holds.
+#[derive(Drop)]
+pub struct FileDisk<R: Files<File = File> + Drop> {
+    rt: R,
+    first: PartFile,
+    second: PartFile,
+    faults: Count,
+}
+
+/// The file of a part.
+#[derive(Drop)]
+struct PartFile {
+    path: String,
+    file: Option<File>,
+    is_made: bool,
+}
+
+impl<R: Files<File = File> + Drop> FileDisk<R> {
+    pub fn new(rt: R, alloc: Global, path: &str) -> Result<FileDisk<R>, AllocError>
+        ensures { IfOk result (λ d. d.faults ≡ 0) }
+    {
+        Ok(FileDisk {
+            rt,
+            first: PartFile::new(String::from_str(alloc, path)?),
+            second: PartFile::new(format!(in alloc; "{path}.1")?),
+            faults: Count::new(),
+        })
+    }
+
+    /// How many calls failed.
+    pub fn faults(&self) -> u64
+        ensures { result ≡ self.now.faults }
+    {
+        self.faults.value()
+    }
+
+    // Opens the file of a part, unless it is open.
+    fn open(&mut self, part: u8) -> bool
+        ensures { self.new.faults ≡ self.old.faults }
+    {
+        match part {
+            0 => self.first.open(&self.rt),
+            _ => self.second.open(&self.rt),
+        }
+    }
+
+    fn sync_file(&mut self, part: u8) -> bool
+        ensures { self.new.faults ≡ self.old.faults }
+    {
+        let answer = match part {
+            0 => self.first.sync(&self.rt),
+            _ => self.second.sync(&self.rt),
+        };
+        answer.is_ok()
+    }
+
+    fn file(&self, part: u8) -> Option<&File> {
+        match part {
+            0 => self.first.file.as_ref(),
+            _ => self.second.file.as_ref(),
+        }
+    }
+}
+
+impl PartFile {
+    fn new(path: String) -> PartFile {
+        PartFile {
+            path,
+            file: None,
+            is_made: false,
+        }
+    }
+
+    /// Opens the file, unless it is open.
+    fn open(&mut self, rt: &impl Files<File = File>) -> bool {
+        if self.file.is_some() {
+            return true;
+        }
+        match self.open_or_make(rt) {
+            Ok(file) => {
+                self.file = Some(file);
+                true
+            }
+            Err(_) => false,
+        }
+    }
+
+    fn open_or_make(&mut self, rt: &impl Files<File = File>) -> io::Result<File> {
+        let path = self.path.as_str();
+        if let Ok(file) = OpenOptions::new().read(true).write(true).open(rt, path) {
+            return Ok(file);
+        }
+        let made = OpenOptions::new()
+            .read(true)
+            .write(true)
+            .create(true)
+            .open(rt, path)?;
+        self.is_made = true;
+        Ok(made)
+    }
+
+    /// Brings the file to the device, and its folder's entry for it where the file was made.
+    fn sync(&mut self, rt: &impl Files<File = File>) -> io::Result<()> {
+        match &self.file {
+            Some(file) => file.sync_all()?,
+            None => return Ok(()),
+        }
+        if self.is_made {
+            sync_folder(rt, self.path.as_str())?;
+            self.is_made = false;
+        }
+        Ok(())
+    }
+}
+
+fn sync_folder(rt: &impl Files<File = File>, path: &str) -> io::Result<()> {
+    let folder = folder_of(path);
+    let folder = OpenOptions::new().read(true).open(rt, folder)?;
+    folder.sync_all()
+}
+
+// The folder of a file, by its path.
+fn folder_of(path: &str) -> &str {
+    match path.rfind('/') {
+        Some(0) => "/",
+        Some(end) => path.get(..end).unwrap_or("."),
+        None => ".",
+    }
+}
+
+impl<R: Files<File = File> + Drop> Disk for FileDisk<R> {
+    ghost use Rattle.std.specs.Prelude.{None};
+
+    ghost faults = { λ d. d.faults };
+
+    ghost use Rattle.disks.specs.Files.{nothing_told};
+
+    ghost told = { λ _. None };
+
+    ghost reads_as_image = { λ _ t is. nothing_told t is };
+
+    fn len(&mut self, part: u8) -> Result<u64, Failed> {
+        self.open(part);
+        let found = match self.file(part) {
+            Some(file) => file.metadata().map(|m| m.len()).ok(),
+            None => None,
+        };
+        match found {
+            Some(len) => Ok(len),
+            None => self.faults.failed(),
+        }
+    }
+
+    fn read(&mut self, part: u8, at: u64, room: &mut [u8]) -> Result<usize, Failed> {
+        self.open(part);
+        let given = match self.file(part) {
+            Some(file) => file.read_at(room, at).ok(),
+            None => None,
+        };
+        match given {
+            Some(count) => Ok(count),
+            None => self.faults.failed(),
+        }
+    }
+
+    fn write_at(&mut self, part: u8, at: u64, piece: &[u8]) -> Result<(), Failed> {
+        self.open(part);
+        let is_done = match self.file(part) {
+            Some(file) => file.write_all_at(piece, at).is_ok(),
+            None => false,
+        };
+        if is_done {
+            Ok(())
+        } else {
+            self.faults.failed()
+        }
+    }
+
+    fn cut(&mut self, part: u8, end: u64) -> Result<(), Failed> {
+        self.open(part);
+        let is_done = match self.file(part) {
+            Some(file) => file.set_len(end).is_ok(),
+            None => false,
+        };
+        if is_done {
+            Ok(())
+        } else {
+            self.faults.failed()
+        }
+    }
+
+    fn sync(&mut self, part: u8) -> Result<(), Failed> {
+        let is_open = self.open(part);
+        let is_done = is_open && self.sync_file(part);
+        if is_done {
+            Ok(())
+        } else {
+            self.faults.failed()
+        }
+    }
+}

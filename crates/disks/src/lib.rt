@@ -1,0 +1,21 @@
+//! Disks that keep only what was synced: what a read gives, and what a crash at any moment may leave.
+#![tactic(auto)]
+
+mod disk;
+mod file;
+mod image;
+mod laws;
+mod memory;
+mod overwritten;
+mod part_state;
+mod range;
+
+pub use disk::Disk;
+pub use fault_counts::Failed;
+pub use file::FileDisk;
+pub use laws::moments_add_up;
+pub use memory::MemoryDisk;
+pub use range::Range;
+
+#[cfg(test)]
+mod tests;

@@ -1,0 +1,8 @@
+use Rattle.rdb_program.proofs.ClosingLaws.{closes_cut, closes_unread}
+use Rattle.rdb_program.proofs.connection.close_after.Goals as goal
+
+pub returns-in-CutShort-clause-closes : goal.returns-in-CutShort-clause-closes
+returns-in-CutShort-clause-closes g c = closes_cut c.args.fault c.in-CutShort.have _ c.in-CutShort.is
+
+pub returns-in-ReadFault-clause-closes : goal.returns-in-ReadFault-clause-closes
+returns-in-ReadFault-clause-closes g c = closes_unread c.args.fault _ c.in-ReadFault.is

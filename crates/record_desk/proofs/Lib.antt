@@ -1,0 +1,2 @@
+pub mod ClockedLaws
+pub mod StandingLaws

@@ -1,0 +1,206 @@
+-- How a journal is begun anew.
+use Rattle.std.proofs.Common.{◌≡◌, ◌≢◌, ◌⊎◌, inl, inr, ⊎_elim, ℕ, ◌+◌, ◌<◌, ◌≤◌, Option, None, Some, Result, Ok, Err, MatchResult, List, [], ◌∷◌, ◌++◌, length, get_or, take, drop, refl, sym, ◌∙◌, ap, subst, arith, true}
+use Rattle.std.proofs.lemmas.List.{ext_get_or, get_or-take, take_all}
+use Rattle.disks.specs.Parts.{Part, Image, IsPartImage, MayLeave, with_part, all_synced, written_over, write_begun, cut_begun}
+use Rattle.disks.specs.Moments.{Told, after, AtEachMoment}
+use Rattle.disks.specs.Calls.{MayHaveBegun, Writes, Cuts, Syncs, ReadsAsImage}
+use Rattle.disks.proofs.MomentLaws.{at_first, at_next, at_both}
+use Rattle.result_journal.specs.Whole.{FillsRoom}
+use Rattle.result_journal.specs.Grammar.{head, IsOfHead, IsForeign, IsNewer, Bodies, LongReads, Reads}
+use Rattle.result_journal.specs.Openings.{LeftBeforeOrAlike, ReadsAlike, Shows, ShownWhereTold}
+use Rattle.result_journal.specs.Begins.{IsShort, IsShortImage, IsHead, HeadFault, IsEmptyJournal, BeginsAs}
+use Rattle.result_journal.specs.declared.opening.OpenFault.{OpenFault}
+use Rattle.result_journal.specs.declared.opening.OpenFault.TheVariants.{NotAJournal, Damaged, NewerVersion, DiskFailed, Memory}
+
+-- One call that leaves a part short, at each moment and after it.
+pub record StaysShort (old new : Option Told) : Type 0 where
+  pub moments : AtEachMoment old new IsShortImage
+  pub short : IsShort new
+
+pub both_short : (old mid new : Option Told) → StaysShort old mid → StaysShort mid new → StaysShort old new
+both_short old mid new first second = record {
+  moments = at_both old mid new IsShortImage IsShortImage IsShortImage (λ image p. p) (λ image p. p) first.moments
+      second.moments;
+  short = second.short;
+}
+
+nothing_told : StaysShort None None
+nothing_told = record { moments = refl; short = λ t is. absurd (cc) }
+
+still_short : (t : Told) → IsShort (Some t) → AtEachMoment (Some t) (Some t) IsShortImage
+still_short t short = at_first t IsShortImage (λ image may. omega (arith, may.first.no_longer, short t refl))
+
+same_short : (t : Told) (new : Option Told) → IsShort (Some t) → new ≡ Some t → StaysShort (Some t) new
+same_short t new short same =
+    subst (λ (n : Option Told). StaysShort (Some t) n) (sym same)
+    (record { moments = still_short t short; short = short })
+
+next_short : (t : Told) (part : Part) (new : Option Told) → IsShort (Some t) → part.greatest ≤ 9 →
+    new ≡ Some (after t 0 part) → StaysShort (Some t) new
+next_short t part new short small is =
+    subst (λ (n : Option Told). StaysShort (Some t) n) (sym is) (record {
+      moments = at_next t t 0 part IsShortImage (still_short t short)
+          (λ image may. omega (arith, may.first.no_longer, small));
+      short = λ u here. subst (λ (told : Told). told.now.first.greatest ≤ 9) (some_same t u part here) small;
+    })
+  where
+    some_same : (t u : Told) (part : Part) → Some (after t 0 part) ≡ Some u → after t 0 part ≡ u
+    some_same t u part same = cc
+
+begun_short : (t : Told) (begun : List ℕ → Part) (new : Option Told) → IsShort (Some t) →
+    ((bytes : List ℕ) → (begun bytes).greatest ≤ 9) → MayHaveBegun t 0 begun new → StaysShort (Some t) new
+begun_short t begun new short small may =
+    ⊎_elim
+    (λ (same : new ≡ Some t). same_short t new short same)
+    (λ (b : (bytes : List ℕ) × (new ≡ Some (after t 0 (begun bytes)))).
+    next_short t (begun b.0) new short (small b.0) b.1)
+    may
+
+pub writes_short : {E : Type 0} (piece : List ℕ) (old new : Option Told) (result : Result Unit E) →
+    length piece ≤ 9 → IsShort old → Writes 0 0 piece old result new → StaysShort old new
+writes_short piece None new result few short writes =
+    subst (λ (n : Option Told). StaysShort None n) (sym writes) nothing_told
+writes_short piece (Some t) new (Ok done) few short writes =
+    next_short t (write_begun t.now.first 0 (length piece) (written_over t.now.first.bytes 0 piece)) new short
+    (omega (arith, short t refl)) writes
+writes_short piece (Some t) new (Err e) few short writes =
+    begun_short t (write_begun t.now.first 0 (length piece)) new short (λ bytes. omega (arith, short t refl)) writes
+
+pub cuts_short : {E : Type 0} (end : ℕ) (old new : Option Told) (result : Result Unit E) →
+    IsShort old → Cuts 0 end old result new → StaysShort old new
+cuts_short end None new result short cuts = subst (λ (n : Option Told). StaysShort None n) (sym cuts) nothing_told
+cuts_short end (Some t) new (Ok done) short cuts =
+    next_short t (cut_begun t.now.first end (take end t.now.first.bytes)) new short (short t refl) cuts
+cuts_short end (Some t) new (Err e) short cuts =
+    begun_short t (cut_begun t.now.first end) new short (λ bytes. short t refl) cuts
+
+pub syncs_short : {E : Type 0} (old new : Option Told) (result : Result Unit E) → ReadsAsImage old →
+    IsShort old → Syncs 0 old result new → StaysShort old new
+syncs_short None new result image short syncs = subst (λ (n : Option Told). StaysShort None n) (sym syncs) nothing_told
+syncs_short (Some t) new (Ok done) image short syncs =
+    next_short t (all_synced t.now.first.bytes) new short
+    (omega (arith, short t refl, (image t refl).first.no_longer)) syncs
+syncs_short (Some t) new (Err e) image short syncs = same_short t new short syncs
+
+-- A synced part has one image.
+pub synced_image : (bytes image : List ℕ) → IsPartImage (all_synced bytes) image → image ≡ bytes
+synced_image bytes image is =
+    let same : length image ≡ length bytes = omega (arith, is.no_shorter, is.no_longer) in
+    ext_get_or 0 image bytes same (λ k below. is.kept k (omega (arith, same)) refl)
+
+-- What is judged of eight bytes holds of the part that they begin.
+module _ (bytes room : List ℕ) (long : length room ≡ 8) (fills : FillsRoom bytes 0 room true) where
+  same_byte : (k : ℕ) → k < 8 → get_or room k 0 ≡ get_or bytes k 0
+  same_byte k below =
+      ap (λ (l : List ℕ). get_or l k 0) fills.1 ∙ get_or-take (length room) bytes k 0 (omega arith)
+
+  pub judged : (result : Result Unit OpenFault) → MatchResult result (λ _. IsHead room) (HeadFault room) →
+      MatchResult result (λ _. IsHead bytes) (HeadFault bytes)
+  judged (Ok done) j = record {
+    each = λ k below. subst (IsOfHead k) (same_byte k below) (j.each k below);
+    version = sym (same_byte 7 (omega arith)) ∙ j.version;
+  }
+  judged (Err (NotAJournal at)) j = record {
+    inside = j.inside;
+    before = λ k below. subst (IsOfHead k) (same_byte k (omega (arith, j.inside))) (j.before k below);
+    first = λ is. j.first (subst (IsOfHead at) (sym (same_byte at j.inside)) is);
+  }
+  judged (Err (NewerVersion found)) j = record {
+    head = λ k below. subst (IsOfHead k) (same_byte k below) (j.head k below);
+    version = j.version ∙ same_byte 7 (omega arith);
+    newer = j.newer;
+  }
+  judged (Err (Damaged at byte)) j = j
+  judged (Err DiskFailed) j = j
+  judged (Err Memory) j = j
+
+some_told : (t u : Told) → Some t ≡ Some u → t ≡ u
+some_told t u same = cc
+
+left_before : (t : Told) (image : Image) → MayLeave t.now image → LeftBeforeOrAlike (Some t) image
+left_before t image may = λ u is. inl (subst (λ (told : Told). MayLeave told.now image) (some_told t u is) may)
+
+left_alike : (t : Told) (image : Image) → ReadsAlike t.now.first.bytes image.first → LeftBeforeOrAlike (Some t) image
+left_alike t image alike =
+    λ u is. inr (subst (λ (told : Told). ReadsAlike told.now.first.bytes image.first) (some_told t u is) alike)
+
+-- The first sync, at each moment,
+pub sync_moments : {E : Type 0} (old new : Option Told) (result : Result Unit E) → Syncs 0 old result new →
+    AtEachMoment old new (LeftBeforeOrAlike old)
+sync_moments None new result syncs = syncs
+sync_moments (Some t) new (Ok done) syncs =
+    subst (λ (n : Option Told). AtEachMoment (Some t) n (LeftBeforeOrAlike (Some t))) (sym syncs)
+    (at_next t t 0 (all_synced t.now.first.bytes) (LeftBeforeOrAlike (Some t))
+    (at_first t (LeftBeforeOrAlike (Some t)) (λ image may. left_before t image may))
+    (λ image may. left_alike t image (λ reading reads.
+    subst (λ (l : List ℕ). Reads l reading) (sym (synced_image t.now.first.bytes image.first may.first)) reads)))
+sync_moments (Some t) new (Err e) syncs =
+    subst (λ (n : Option Told). AtEachMoment (Some t) n (LeftBeforeOrAlike (Some t))) (sym syncs)
+    (at_first t (LeftBeforeOrAlike (Some t)) (λ image may. left_before t image may))
+
+pub later_same : (old mid new : Option Told) (P : Image → Type 0) → new ≡ mid → AtEachMoment old mid P →
+    AtEachMoment old new P
+later_same old mid new P same each = subst (λ (n : Option Told). AtEachMoment old n P) (sym same) each
+
+-- and what it leaves.
+pub after_sync : (E : Type 0) (old mid : Option Told) → Syncs {E = E} 0 old (Ok tt) mid → (t : Told) → old ≡ Some t →
+    mid ≡ Some (after t 0 (all_synced t.now.first.bytes))
+after_sync E None mid syncs t is = absurd (cc)
+after_sync E (Some s) mid syncs t is =
+    syncs ∙ ap (λ (told : Told). Some (after told 0 (all_synced told.now.first.bytes))) (some_told s t is)
+
+pub before_sync : (E : Type 0) (old mid : Option Told) → Syncs {E = E} 0 old (Ok tt) mid → (u : Told) → mid ≡ Some u →
+    (t : Told) × (old ≡ Some t) × (u.now.first ≡ all_synced t.now.first.bytes)
+before_sync E None mid syncs u is = absurd (cc)
+before_sync E (Some s) mid syncs u is =
+    (s, refl, ap (λ (told : Told). told.now.first) (some_told u _ (sym is ∙ syncs)))
+
+pub synced_short : (E : Type 0) (old mid : Option Told) (size : ℕ) → Syncs {E = E} 0 old (Ok tt) mid → size ≤ 9 →
+    ((u : Told) → mid ≡ Some u → size ≡ length u.now.first.bytes) → IsShort mid
+synced_short E old mid size syncs small long u is =
+    let b = before_sync E old mid syncs u is in
+    let bytes : u.now.first.bytes ≡ b.0.now.first.bytes = ap (λ (p : Part). p.bytes) b.2 in
+    let greatest : u.now.first.greatest ≡ length b.0.now.first.bytes = ap (λ (p : Part). p.greatest) b.2 in
+    omega (arith, long u is, ap (λ (l : List ℕ). length l) bytes, greatest, small)
+
+pub short_alike : (E : Type 0) (old mid : Option Told) (size : ℕ) → Syncs {E = E} 0 old (Ok tt) mid → size ≤ 9 →
+    ((u : Told) → mid ≡ Some u → size ≡ length u.now.first.bytes) → (image : Image) → IsShortImage image →
+    LeftBeforeOrAlike old image
+short_alike E old mid size syncs small long image short = λ t is. inr (λ reading reads.
+    let few : length t.now.first.bytes ≤ 9 =
+    omega (arith, long (after t 0 (all_synced t.now.first.bytes)) (after_sync E old mid syncs t is), small) in
+    ⊎_elim
+    (λ (none : (length t.now.first.bytes ≤ 9) × (reading ≡ Bodies [])). inl (short, none.1))
+    (λ (some : (9 < length t.now.first.bytes) × LongReads t.now.first.bytes reading). absurd (omega (arith, few, some.0)))
+    reads)
+
+-- The bytes after the first sync are those before it.
+pub head_shown : (E : Type 0) (old mid : Option Told) (fault : OpenFault) → Syncs {E = E} 0 old (Ok tt) mid →
+    ((u : Told) → mid ≡ Some u → 9 < length u.now.first.bytes) →
+    ((u : Told) → mid ≡ Some u → 9 < length u.now.first.bytes → HeadFault u.now.first.bytes fault) →
+    ShownWhereTold old fault
+head_shown E old mid fault syncs long judged = λ t is.
+    let next = after t 0 (all_synced t.now.first.bytes) in
+    let here = after_sync E old mid syncs t is in
+    by_fault t fault (long next here) (judged next here (long next here))
+  where
+    by_fault : (t : Told) (fault : OpenFault) → 9 < length t.now.first.bytes → HeadFault t.now.first.bytes fault →
+        Shows t.now.first.bytes fault
+    by_fault t (NotAJournal at) more shown = inr (more, shown)
+    by_fault t (NewerVersion found) more shown = inr (more, shown)
+    by_fault t (Damaged at byte) more shown = absurd shown
+    by_fault t DiskFailed more shown = tt
+    by_fault t Memory more shown = absurd shown
+
+pub begun_anew : (E : Type 0) (old mid : Option Told) (bytes : List ℕ) (size : ℕ) → Syncs {E = E} 0 old (Ok tt) mid →
+    size ≤ 9 → ((u : Told) → mid ≡ Some u → size ≡ length u.now.first.bytes) →
+    ((u : Told) → mid ≡ Some u → ¬ IsEmptyJournal u.now.first.bytes) → bytes ≡ head ++ 0 ∷ [] → (t : Told) →
+    old ≡ Some t → BeginsAs t.now.first.bytes bytes
+begun_anew E old mid bytes size syncs small long not_empty is t here =
+    let next = after t 0 (all_synced t.now.first.bytes) in
+    let mid_is = after_sync E old mid syncs t here in
+    record {
+      long = λ more. absurd (omega (arith, long next mid_is, small, more));
+      empty = λ empty. absurd (not_empty next mid_is empty);
+      anew = λ few not. is;
+    }

@@ -1,0 +1,30 @@
+use Rattle.std.proofs.Common.{[], ◌∷◌, arith}
+use Rattle.result_journal.proofs.BeginLaws.{both_short, writes_short, cuts_short, syncs_short}
+use Rattle.result_journal.proofs.begin.write_empty_journal.Goals as goal
+
+pub returns-in_err-write_at-clause-moments : goal.returns-in_err-write_at-clause-moments
+returns-in_err-write_at-clause-moments g c = λ short.
+    (writes_short (82 ∷ 68 ∷ 66 ∷ 74 ∷ 82 ∷ 78 ∷ 76 ∷ 49 ∷ 0 ∷ []) (g.D.Disk.told c.args.disk.now) (g.D.Disk.told c.write_at.new.self) c.write_at.result
+    (omega arith) short c.write_at.ensures.writes).moments
+
+pub returns-in_err-cut-clause-moments : goal.returns-in_err-cut-clause-moments
+returns-in_err-cut-clause-moments g c = λ short.
+    let first = writes_short (82 ∷ 68 ∷ 66 ∷ 74 ∷ 82 ∷ 78 ∷ 76 ∷ 49 ∷ 0 ∷ []) (g.D.Disk.told c.args.disk.now) (g.D.Disk.told c.write_at.new.self) c.write_at.result
+    (omega arith) short c.write_at.ensures.writes in
+    let second = cuts_short 9 (g.D.Disk.told c.write_at.new.self) (g.D.Disk.told c.cut.new.self) c.cut.result
+    first.short c.cut.ensures.cuts in
+    (both_short (g.D.Disk.told c.args.disk.now) (g.D.Disk.told c.write_at.new.self) (g.D.Disk.told c.cut.new.self)
+    first second).moments
+
+pub returns-clause-moments : goal.returns-clause-moments
+returns-clause-moments g c = λ short.
+    let first = writes_short (82 ∷ 68 ∷ 66 ∷ 74 ∷ 82 ∷ 78 ∷ 76 ∷ 49 ∷ 0 ∷ []) (g.D.Disk.told c.args.disk.now) (g.D.Disk.told c.write_at.new.self) c.write_at.result
+    (omega arith) short c.write_at.ensures.writes in
+    let second = cuts_short 9 (g.D.Disk.told c.write_at.new.self) (g.D.Disk.told c.cut.new.self) c.cut.result
+    first.short c.cut.ensures.cuts in
+    let both = both_short (g.D.Disk.told c.args.disk.now) (g.D.Disk.told c.write_at.new.self) (g.D.Disk.told c.cut.new.self)
+    first second in
+    let third = syncs_short (g.D.Disk.told c.cut.new.self) (g.D.Disk.told c.sync.new.self) c.sync.result
+    (g.met.D.Disk.reads_as_image c.cut.new.self) both.short c.sync.ensures.syncs in
+    (both_short (g.D.Disk.told c.args.disk.now) (g.D.Disk.told c.cut.new.self) (g.D.Disk.told c.sync.new.self)
+    both third).moments

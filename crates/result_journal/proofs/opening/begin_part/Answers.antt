@@ -1,0 +1,98 @@
+use Rattle.std.proofs.Common.{◌≡◌, ◌≤◌, ◌<◌, ◌∙◌, true, false, ap, sym, length, arith, rules}
+use Rattle.disks.specs.Parts.{Part}
+use Rattle.disks.proofs.MomentLaws.{at_both}
+use Rattle.result_journal.specs.Begins.{IsShortImage}
+use Rattle.result_journal.specs.Openings.{LeftBeforeOrAlike}
+use Rattle.result_journal.proofs.OpenLaws.{shown_at}
+use Rattle.result_journal.proofs.BeginLaws.{sync_moments, later_same, synced_short, short_alike, head_shown, begun_anew}
+use Rattle.result_journal.proofs.opening.begin_part.Goals as goal
+
+pub returns-in_err-sync-clause-any_moment : goal.returns-in_err-sync-clause-any_moment
+returns-in_err-sync-clause-any_moment g c =
+    sync_moments (g.D.Disk.told c.args.disk.now) (g.D.Disk.told c.sync.new.self) c.sync.result c.sync.ensures.syncs
+
+pub returns-in_err-size-clause-any_moment : goal.returns-in_err-size-clause-any_moment
+returns-in_err-size-clause-any_moment g c =
+    let old = g.D.Disk.told c.args.disk.now in
+    later_same old (g.D.Disk.told c.sync.new.self) (g.D.Disk.told c.len.new.self) (LeftBeforeOrAlike old)
+    c.len.ensures.told (sync_moments old (g.D.Disk.told c.sync.new.self) c.sync.result c.sync.ensures.syncs)
+
+pub returns-in_err-check_head-clause-any_moment : goal.returns-in_err-check_head-clause-any_moment
+returns-in_err-check_head-clause-any_moment g c =
+    let old = g.D.Disk.told c.args.disk.now in
+    later_same old (g.D.Disk.told c.sync.new.self) (g.D.Disk.told c.check_head.new.disk) (LeftBeforeOrAlike old)
+    (c.check_head.ensures.told ∙ c.len.ensures.told)
+    (sync_moments old (g.D.Disk.told c.sync.new.self) c.sync.result c.sync.ensures.syncs)
+
+pub returns-then-size-gt-EMPTY_SIZE-clause-any_moment : goal.returns-then-size-gt-EMPTY_SIZE-clause-any_moment
+returns-then-size-gt-EMPTY_SIZE-clause-any_moment g c =
+    let old = g.D.Disk.told c.args.disk.now in
+    later_same old (g.D.Disk.told c.sync.new.self) (g.D.Disk.told c.check_head.new.disk) (LeftBeforeOrAlike old)
+    (c.check_head.ensures.told ∙ c.len.ensures.told)
+    (sync_moments old (g.D.Disk.told c.sync.new.self) c.sync.result c.sync.ensures.syncs)
+
+pub returns-in_err-is_empty_journal-clause-any_moment : goal.returns-in_err-is_empty_journal-clause-any_moment
+returns-in_err-is_empty_journal-clause-any_moment g c =
+    let old = g.D.Disk.told c.args.disk.now in
+    later_same old (g.D.Disk.told c.sync.new.self) (g.D.Disk.told c.is_empty_journal.new.disk) (LeftBeforeOrAlike old)
+    (c.is_empty_journal.ensures.told ∙ c.len.ensures.told)
+    (sync_moments old (g.D.Disk.told c.sync.new.self) c.sync.result c.sync.ensures.syncs)
+
+pub returns-else-not-branch-clause-any_moment : goal.returns-else-not-branch-clause-any_moment
+returns-else-not-branch-clause-any_moment g c =
+    let old = g.D.Disk.told c.args.disk.now in
+    later_same old (g.D.Disk.told c.sync.new.self) (g.D.Disk.told c.is_empty_journal.new.disk) (LeftBeforeOrAlike old)
+    (c.is_empty_journal.ensures.told ∙ c.len.ensures.told)
+    (sync_moments old (g.D.Disk.told c.sync.new.self) c.sync.result c.sync.ensures.syncs)
+
+pub returns-in_err-write_empty_journal-clause-any_moment : goal.returns-in_err-write_empty_journal-clause-any_moment
+returns-in_err-write_empty_journal-clause-any_moment g c =
+    let old = g.D.Disk.told c.args.disk.now in
+    let mid = g.D.Disk.told c.sync.new.self in
+    let begun = g.D.Disk.told c.is_empty_journal.new.disk in
+    let few : c.in_ok-size.size ≤ 9 = omega arith in
+    let same : begun ≡ mid = c.is_empty_journal.ensures.told ∙ c.len.ensures.told in
+    let first = later_same old mid begun (LeftBeforeOrAlike old) same
+    (sync_moments old mid c.sync.result c.sync.ensures.syncs) in
+    let short = synced_short _ old mid c.in_ok-size.size c.in_ok-sync.ensures.syncs few c.in_ok-size.ensures.length in
+    at_both old begun (g.D.Disk.told c.write_empty_journal.new.disk) (LeftBeforeOrAlike old) IsShortImage
+    (LeftBeforeOrAlike old) (λ image p. p)
+    (short_alike _ old mid c.in_ok-size.size c.in_ok-sync.ensures.syncs few c.in_ok-size.ensures.length)
+    first (c.write_empty_journal.ensures.moments (λ t is. short t (sym same ∙ is)))
+
+pub returns-in_ok-write_empty_journal-clause-any_moment : goal.returns-in_ok-write_empty_journal-clause-any_moment
+returns-in_ok-write_empty_journal-clause-any_moment g c =
+    let old = g.D.Disk.told c.args.disk.now in
+    let mid = g.D.Disk.told c.sync.new.self in
+    let begun = g.D.Disk.told c.is_empty_journal.new.disk in
+    let few : c.in_ok-size.size ≤ 9 = omega arith in
+    let same : begun ≡ mid = c.is_empty_journal.ensures.told ∙ c.len.ensures.told in
+    let first = later_same old mid begun (LeftBeforeOrAlike old) same
+    (sync_moments old mid c.sync.result c.sync.ensures.syncs) in
+    let short = synced_short _ old mid c.in_ok-size.size c.in_ok-sync.ensures.syncs few c.in_ok-size.ensures.length in
+    at_both old begun (g.D.Disk.told c.write_empty_journal.new.disk) (LeftBeforeOrAlike old) IsShortImage
+    (LeftBeforeOrAlike old) (λ image p. p)
+    (short_alike _ old mid c.in_ok-size.size c.in_ok-sync.ensures.syncs few c.in_ok-size.ensures.length)
+    first (c.write_empty_journal.ensures.moments (λ t is. short t (sym same ∙ is)))
+
+pub returns-in_err-check_head-clause-shown : goal.returns-in_err-check_head-clause-shown
+returns-in_err-check_head-clause-shown g c =
+    let old = g.D.Disk.told c.args.disk.now in
+    let mid = g.D.Disk.told c.sync.new.self in
+    shown_at old c.from_residual-in_err-check_head.result c.in_err-check_head.field-0.0
+    c.from_residual-in_err-check_head.ensures.1
+    (head_shown _ old mid c.in_err-check_head.field-0.0 c.in_ok-sync.ensures.syncs
+    (λ u is. let long : c.in_ok-size.size ≡ length u.now.first.bytes = c.in_ok-size.ensures.length u is in omega arith)
+    (λ u is. c.in_err-check_head.ensures.judged u (c.len.ensures.told ∙ is)))
+
+pub returns-in_ok-write_empty_journal-clause-begins : goal.returns-in_ok-write_empty_journal-clause-begins
+returns-in_ok-write_empty_journal-clause-begins g c = λ t u is_t is_u.
+    let old = g.D.Disk.told c.args.disk.now in
+    let mid = g.D.Disk.told c.sync.new.self in
+    begun_anew _ old mid u.now.first.bytes c.in_ok-size.size c.in_ok-sync.ensures.syncs (omega arith)
+    c.in_ok-size.ensures.length
+    (λ v is empty.
+    let said = c.in_ok-is_empty_journal.ensures.empty v (c.len.ensures.told ∙ is) (c.in_ok-size.ensures.length v is) in
+    let none : c.in_ok-is_empty_journal.field-0 ≡ false = search rules in
+    absurd (let yes : c.in_ok-is_empty_journal.field-0 ≡ true = said.1 empty in cc))
+    (ap (λ (p : Part). p.bytes) (c.in_ok-write_empty_journal.ensures.ok u is_u)) t is_t

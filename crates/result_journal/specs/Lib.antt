@@ -1,0 +1,7 @@
+pub mod Grammar
+pub mod Journals
+pub mod Steps
+pub mod Full
+pub mod Whole
+pub mod Openings
+pub mod Begins

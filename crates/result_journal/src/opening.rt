@@ -1,0 +1,313 @@
+// The opening of a journal: its records in order, or its first fault.
+ghost use Rattle.std.specs.Prelude.{◌≡◌, ℕ, ◌+◌, ◌^◌, ◌<◌, ◌≤◌, ◌↔◌, IsTrue, List, [], ◌∷◌, ◌++◌, length, true, false, None, Some, take, drop, IfOk, IfErr, OnOk, OnErr, MatchOption, MatchResult, ⊤};
+ghost use Rattle.std.specs.Int.{w32, to_le_bytes, from_le_bytes};
+ghost use Rattle.disks.specs.Moments.{Told, AtEachMoment};
+ghost use Rattle.disks.specs.Calls.{WhereTold};
+ghost use Rattle.result_journal.specs.Grammar.{Reads, Bodies, IsBody};
+ghost use Rattle.result_journal.specs.Journals.{StandsFor, disk_of, end_of, is_settled, is_prepared};
+ghost use Rattle.result_journal.specs.Openings.{HasGiven, HasGivenSome, IsBehind, OpensAs, FaultCause, opened_disk, next_gate, is_ended, LeftBeforeOrAlike, ReadsAlike, ShownWhereTold, CountsOpening, FindsLength, IfFits, BrokenFault, IsNoFaultOfBytes};
+
+use crate::begin::{EMPTY_SIZE, check_head, is_empty_journal, write_empty_journal};
+use crate::journal::Journal;
+use crate::read_whole::read_whole;
+use disks::Disk;
+use fault_counts::Failed;
+use std::alloc::{AllocError, Global};
+
+/// Why a journal can't be opened.
+#[derive(Clone, Copy, Debug, PartialEq, Eq)]
+pub enum OpenFault {
+    /// The first byte of the head that isn't one of a journal of any version.
+    NotAJournal { at: u64 },
+    /// The place behind the open gate of a record that isn't whole, and the byte there, or 256 past the end.
+    Damaged { at: u64, byte: u16 },
+    /// A journal of a version above 1, by its digit.
+    NewerVersion { found: u8 },
+    /// A call on the disk failed.
+    DiskFailed,
+    Memory,
+}
+
+impl From<Failed> for OpenFault {
+    ghost use Rattle.result_journal.specs.declared.opening.OpenFault.TheVariants.{DiskFailed};
+
+    ghost from_gives = { λ _ e. e ≡ DiskFailed };
+
+    fn from(_: Failed) -> Self {
+        OpenFault::DiskFailed
+    }
+}
+
+impl From<AllocError> for OpenFault {
+    ghost use Rattle.result_journal.specs.declared.opening.OpenFault.TheVariants.{Memory};
+
+    ghost from_gives = { λ _ e. e ≡ Memory };
+
+    fn from(_: AllocError) -> Self {
+        OpenFault::Memory
+    }
+}
+
+/// A journal that is read, record by record.
+#[derive(Drop)]
+pub struct Opening<D: Disk> {
+    pub(crate) disk: D,
+    pub(crate) size: u64,
+    pub(crate) place: u64,
+    pub(crate) is_ended: bool,
+    staged: Vec<u8>,
+}
+
+const OPEN: u8 = 1;
+
+const GREATEST_BODY: u32 = 1 << 23;
+
+impl<D: Disk> Opening<D> {
+    /// Syncs part 0, and reads its head. At most nine bytes that aren't an empty journal are begun anew: the head and a
+    /// closed gate are written, the part is cut to nine bytes, and it is synced.
+    ///
+    /// At each moment inside the call a crash leaves what one before it might have left, or what is read as the part was.
+    pub fn begin(alloc: Global, disk: D) -> Result<Opening<D>, (OpenFault, D)>
+        ensures opened { IfOk result (λ o. HasGiven D.told o []) }
+        ensures begins { IfOk result (λ o. OpensAs (D.told disk) (D.told (opened_disk o))) }
+        ensures going { IfOk result (λ o. is_ended o ≡ false) }
+        ensures place { IfOk result (λ o. next_gate o ≡ 8) }
+        ensures shown { IfErr result (λ e. ShownWhereTold (D.told disk) e.0) }
+
+        ensures any_moment { IfOk result (λ o. AtEachMoment (D.told disk) (D.told (opened_disk o))
+            (LeftBeforeOrAlike (D.told disk))) }
+        ensures any_moment_err { IfErr result (λ e. AtEachMoment (D.told disk) (D.told e.1)
+            (LeftBeforeOrAlike (D.told disk))) }
+
+        ensures no_cause { IfOk result (λ o. D.faults (opened_disk o) ≡ D.faults disk) }
+        ensures cause { IfErr result (λ e. FaultCause (D.faults disk) e.0 (D.faults e.1)) }
+    {
+        let mut disk = disk;
+        match begin_part(&mut disk) {
+            Ok(size) => Ok(Opening {
+                disk,
+                size,
+                place: 8,
+                is_ended: false,
+                staged: Vec::new(alloc),
+            }),
+            Err(fault) => Err((fault, disk)),
+        }
+    }
+
+    /// The journal, whose records were all read.
+    pub fn ready(self) -> Journal<D>
+        requires given { HasGivenSome D.told self }
+        requires ended { is_ended self ≡ true }
+        ensures stands { (given : List (List ℕ)) → HasGiven D.told self given → StandsFor D.told result given }
+        ensures settled { is_settled result ≡ true }
+        ensures prepared { is_prepared result ≡ false }
+        ensures end { end_of result ≡ next_gate self }
+        ensures disk { disk_of result ≡ opened_disk self }
+    {
+        let Opening {
+            disk,
+            size: _,
+            place,
+            is_ended: _,
+            staged,
+        } = self;
+        Journal {
+            disk,
+            end: place,
+            staged,
+            is_prepared: false,
+            is_settled: true,
+        }
+    }
+
+    /// The disk, as it is.
+    pub fn give_up(self) -> D
+        ensures { result ≡ opened_disk self }
+    {
+        let Opening {
+            disk,
+            size: _,
+            place: _,
+            is_ended: _,
+            staged: _,
+        } = self;
+        disk
+    }
+
+    /// Puts the next record's body into `into`, and answers the place of its first byte, or `None` at the closed gate.
+    ///
+    /// `into` is left empty by `None` and by a fault.
+    pub fn next(&mut self, alloc: Global, into: &mut Vec<u8>) -> Result<Option<u64>, OpenFault>
+        requires { HasGivenSome D.told self.old }
+
+        // A body, with its place,
+        ensures gives { IfOk result (λ found. MatchOption found ⊤ (λ place. (given : List (List ℕ)) →
+            HasGiven D.told self.old given → HasGiven D.told self.new (given ++ into.new.items ∷ []))) }
+        ensures place { IfOk result (λ found. MatchOption found ⊤ (λ place. place ≡ next_gate self.old + 5)) }
+        ensures body { IfOk result (λ found. MatchOption found ⊤ (λ place. IsBody into.new.items)) }
+
+        // or the end, and then these were all,
+        ensures ends { IfOk result (λ found. MatchOption found (is_ended self.new ≡ true) (λ _. ⊤)) }
+        ensures keeps { IfOk result (λ found. MatchOption found ((given : List (List ℕ)) →
+            HasGiven D.told self.old given → HasGiven D.told self.new given) (λ _. ⊤)) }
+        ensures all { IfOk result (λ found. MatchOption found ((given : List (List ℕ)) →
+            HasGiven D.told self.old given → (t : Told) → D.told (opened_disk self.old) ≡ Some t →
+            Reads t.now.first.bytes (Bodies given)) (λ _. ⊤)) }
+        ensures none { IfOk result (λ found. MatchOption found (into.new.items ≡ []) (λ _. ⊤)) }
+
+        // or a fault, which the bytes show.
+        ensures shown { IfErr result (ShownWhereTold (D.told (opened_disk self.old))) }
+        ensures err { OnErr result (into.new.items ≡ []) }
+        ensures err_keeps { OnErr result ((given : List (List ℕ)) →
+            HasGiven D.told self.old given → HasGiven D.told self.new given) }
+
+        ensures still { HasGivenSome D.told self.new }
+
+        // The disk isn't changed.
+        ensures told { D.told (opened_disk self.new) ≡ D.told (opened_disk self.old) }
+        ensures cause { CountsOpening (D.faults (opened_disk self.old)) result (D.faults (opened_disk self.new)) }
+    {
+        *into = Vec::new(alloc);
+        self.is_ended = false;
+        let Some(count) = self.next_length()? else {
+            self.is_ended = true;
+            return Ok(None);
+        };
+        *into = self.body(alloc, count)?;
+        let place = self.place + 5;
+        self.place = place + count as u64;
+        Ok(Some(place))
+    }
+
+    // The length of the next body, or `None` at a closed gate.
+    fn next_length(&mut self) -> Result<Option<usize>, OpenFault>
+        requires { next_gate self.old < self.old.size }
+        ensures found { WhereTold (D.told (opened_disk self.old)) 0 (λ p. self.old.size ≡ length p.bytes →
+            MatchResult result (FindsLength p.bytes (next_gate self.old))
+            (BrokenFault p.bytes (next_gate self.old))) }
+        ensures inside { IfOk result (IfFits (next_gate self.old) self.old.size) }
+        ensures same { self.new ≡ record self.old { disk = self.new.disk } }
+        ensures told { D.told (opened_disk self.new) ≡ D.told (opened_disk self.old) }
+        ensures cause { CountsOpening (D.faults (opened_disk self.old)) result (D.faults (opened_disk self.new)) }
+    {
+        let left = self.size - self.place;
+        if left < 6 {
+            return self.short_end(left);
+        }
+        let mut header = [0u8; 5];
+        let whole = read_whole(&mut self.disk, self.place, &mut header)?;
+        if !whole {
+            return Err(self.damaged(256));
+        }
+        if header[0] != OPEN {
+            return Ok(None);
+        }
+        let count = said_count(&header);
+        if !has_room(count, left) {
+            return Err(self.damaged(u16::from(header[1])));
+        }
+        Ok(Some(count as usize))
+    }
+
+    // A gate behind which no record has room.
+    fn short_end(&mut self, left: u64) -> Result<Option<usize>, OpenFault>
+        requires some { 0 < left }
+        requires left { next_gate self.old + left ≡ self.old.size }
+        requires few { left < 6 }
+        ensures found { WhereTold (D.told (opened_disk self.old)) 0 (λ p. self.old.size ≡ length p.bytes →
+            MatchResult result (FindsLength p.bytes (next_gate self.old))
+            (BrokenFault p.bytes (next_gate self.old))) }
+        ensures none { IfOk result (λ found. found ≡ None) }
+        ensures same { self.new ≡ record self.old { disk = self.new.disk } }
+        ensures told { D.told (opened_disk self.new) ≡ D.told (opened_disk self.old) }
+        ensures cause { CountsOpening (D.faults (opened_disk self.old)) result (D.faults (opened_disk self.new)) }
+    {
+        let mut gate = [0u8; 1];
+        let whole = read_whole(&mut self.disk, self.place, &mut gate)?;
+        if !whole {
+            return Err(self.damaged(256));
+        }
+        if gate[0] != OPEN {
+            return Ok(None);
+        }
+        if left == 1 {
+            return Err(self.damaged(256));
+        }
+        let mut behind = [0u8; 1];
+        let whole = read_whole(&mut self.disk, self.place + 1, &mut behind)?;
+        if !whole {
+            return Err(self.damaged(256));
+        }
+        Err(self.damaged(u16::from(behind[0])))
+    }
+
+    // The record behind the gate isn't whole.
+    fn damaged(&self, byte: u16) -> OpenFault
+        requires { next_gate self.now < self.now.size }
+        ensures { result ≡ OpenFault.Damaged (next_gate self.now + 1) byte }
+    {
+        OpenFault::Damaged {
+            at: self.place + 1,
+            byte,
+        }
+    }
+
+    // The body of so many bytes behind the gate.
+    fn body(&mut self, alloc: Global, count: usize) -> Result<Vec<u8>, OpenFault>
+        requires some { 0 < count }
+        requires inside { next_gate self.old + 5 + count < self.old.size }
+        ensures body { WhereTold (D.told (opened_disk self.old)) 0 (λ p.
+            IfOk result (λ body. body.items ≡ take count (drop (next_gate self.old + 5) p.bytes))) }
+        ensures length { IfOk result (λ body. length body.items ≡ count) }
+        ensures fault { WhereTold (D.told (opened_disk self.old)) 0 (λ p. self.old.size ≡ length p.bytes →
+            IfErr result IsNoFaultOfBytes) }
+        ensures same { self.new ≡ record self.old { disk = self.new.disk } }
+        ensures told { D.told (opened_disk self.new) ≡ D.told (opened_disk self.old) }
+        ensures cause { CountsOpening (D.faults (opened_disk self.old)) result (D.faults (opened_disk self.new)) }
+    {
+        let mut body = vec![in alloc; 0u8; count]?;
+        let whole = read_whole(&mut self.disk, self.place + 5, &mut body)?;
+        if !whole {
+            return Err(self.damaged(256));
+        }
+        Ok(body)
+    }
+}
+
+// Syncs part 0 and judges its head, or begins it anew. Answers its size.
+fn begin_part<D: Disk>(disk: &mut D) -> Result<u64, OpenFault>
+    ensures size { IfOk result (λ size. 9 ≤ size) }
+    ensures begun { IfOk result (λ size. (t : Told) → D.told disk.new ≡ Some t → IsBehind t.now.first [] 8 size) }
+    ensures begins { OnOk result (OpensAs (D.told disk.old) (D.told disk.new)) }
+    ensures shown { IfErr result (ShownWhereTold (D.told disk.old)) }
+    ensures any_moment { AtEachMoment (D.told disk.old) (D.told disk.new) (LeftBeforeOrAlike (D.told disk.old)) }
+    ensures cause { CountsOpening (D.faults disk.old) result (D.faults disk.new) }
+{
+    disk.sync(0)?;
+    let size = disk.len(0)?;
+    if size > EMPTY_SIZE {
+        check_head(disk)?;
+        return Ok(size);
+    }
+    if !is_empty_journal(disk, size)? {
+        write_empty_journal(disk)?;
+    }
+    Ok(EMPTY_SIZE)
+}
+
+// The length that the four bytes behind a gate say.
+fn said_count(header: &[u8]) -> u32
+    requires { length header.now ≡ 5 }
+    ensures value { result ≡ from_le_bytes w32 (take 4 (drop 1 header.now)) }
+    ensures word { to_le_bytes w32 result ≡ take 4 (drop 1 header.now) }
+{
+    u32::from_le_bytes([header[1], header[2], header[3], header[4]])
+}
+
+// Whether a body of so many bytes, and the next gate, have room in so many bytes from its own gate on.
+fn has_room(count: u32, left: u64) -> bool
+    ensures { IsTrue result ↔ ((1 ≤ count) × (count ≤ 2 ^ 23) × (5 + count < left)) }
+{
+    1 <= count && count <= GREATEST_BODY && u64::from(count) + 5 < left
+}
