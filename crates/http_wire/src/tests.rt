@@ -259,3 +259,32 @@ fn replies_are_written_whole(rt: HostRuntime) -> Result<(), Fail> {
     assert_eq!(rt; link.written(), expected.as_bytes());
     Ok(())
 }
+
+#[test]
+fn each_fault_has_its_number_its_name_and_its_farewell(rt: HostRuntime) -> Result<(), Fail> {
+    let alloc = rt.alloc();
+    for (fault, number, name, text) in [
+        (
+            WireFault::CutShort { have: 1 },
+            8,
+            "CutShort",
+            "\r\n\r\nwire 8 CutShort\n",
+        ),
+        (
+            WireFault::ReadFault,
+            9,
+            "ReadFault",
+            "\r\n\r\nwire 9 ReadFault\n",
+        ),
+        (WireFault::Memory, 10, "Memory", "\r\n\r\nwire 10 Memory\n"),
+        (WireFault::Unread, 11, "Unread", "\r\n\r\nwire 11 Unread\n"),
+    ] {
+        assert_eq!(rt; (fault.number(), fault.name()), (number, name));
+        let mut link = MemoryLink::new(alloc, Vec::new(alloc), Vec::new(alloc))?;
+        assert!(rt; write_farewell(&mut link, &fault).is_ok());
+        assert!(rt; link.written().ends_with(text.as_bytes()));
+    }
+    one_reading();
+    front_of_reading();
+    Ok(())
+}
