@@ -6,7 +6,7 @@ use std::alloc::{AllocError, Global};
 use std::collections::BTreeMap;
 
 /// The first place of each name of a list.
-#[derive(Debug, Drop)]
+#[derive(Drop)]
 pub struct NameIndex {
     places: BTreeMap<Vec<u8>, usize>,
 }
