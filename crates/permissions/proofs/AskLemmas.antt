@@ -6,10 +6,9 @@ use Rattle.std.proofs.lemmas.List.{length-map, take_more, take_all, get_or-set_s
 use Rattle.policy_checks.specs.declared.permission.Permission.{Permission}
 use Rattle.policy_tables.specs.declared.tables.PolicyTables.{PolicyTables}
 use Rattle.permissions.specs.Cycle.{HasNoCycle}
-use Rattle.permissions.specs.Graph.{has, edges, IsGraph, IsWalkOn, ReachesOn}
+use Rattle.permissions.specs.Graph.{has, edges, IsGraph, IsWalkOn, ReachesOn, graph_of}
 use Rattle.permissions.specs.Grants.{bound_at, IsBoundFrom}
 use Rattle.permissions.specs.Order.{IsLaid, IsOrder}
-use Rattle.permissions.specs.Reach.{graph_of}
 use Rattle.permissions.specs.Rights.{is_marked, IsLooked, AreRights}
 use Rattle.permissions.proofs.GraphLemmas.{has_of, reaches_on, reaches_at_once}
 use Rattle.permissions.proofs.OrderLemmas.{has_snoc, has_before, laid_at}

@@ -11,9 +11,9 @@ use Rattle.permissions.specs.Allows.{binds_in, binds, root_of, Allows}
 use Rattle.policy_checks.specs.Checks.{realm_names}
 use Rattle.permissions.specs.Grants.{bindings_at, IsBoundFrom, IsBoundByName}
 use Rattle.permissions.specs.Masks.{has_bit}
-use Rattle.permissions.specs.Graph.{has, ReachesOn}
+use Rattle.permissions.specs.Graph.{has, ReachesOn, graph_of}
 use Rattle.policy_checks.specs.Index.{place_of}
-use Rattle.permissions.specs.Reach.{IsWalk, graph_of}
+use Rattle.permissions.specs.Reach.{IsWalk}
 use Rattle.permissions.proofs.GrantLemmas.{has_bit-or, realm_place}
 use Rattle.permissions.proofs.ReachLemmas.{PlacesWalk, walk_over_places, walk_over_names, not_there-extended, no_walk}
 use Rattle.policy_checks.proofs.PlaceLemmas.{place_of-within}

@@ -1,4 +1,4 @@
--- How the least realm that reaches itself is looked for, by places.
+-- A machine of the code: how the least realm that reaches itself is looked for, by places.
 use Rattle.std.specs.Prelude.{◌≡◌, ◌⊎◌, ◌<◌, ◌≤◌, ℕ, Bool, true, false, List, [], Option, Some, None, map, slice_index_or}
 use Rattle.std.specs.Ordering.{nat_cmp, is_lt}
 use Rattle.std.specs.Cmp.Lexicographic.{slice_cmp}

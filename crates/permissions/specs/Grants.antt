@@ -1,4 +1,4 @@
--- What realms grant, by places.
+-- A machine of the code: what realms grant, by places.
 use Rattle.std.specs.Prelude.{◌≡◌, ◌⊎◌, ◌<◌, ℕ, Bool, true, false, ◌&&◌, ◌||◌, List, [], length, map, slice_index_or, unwrap_or}
 use Rattle.std.specs.List.{list_any}
 use Rattle.std.specs.Ordering.{nat_cmp}
@@ -17,8 +17,8 @@ use Rattle.policy_tables.specs.declared.tables.RealmTable.{RealmTable}
 use Rattle.policy_tables.specs.declared.tables.PolicyTables.{PolicyTables}
 use Rattle.permissions.specs.Allows.{is_permission, is_user, binds_in, binds}
 use Rattle.permissions.specs.Masks.{has_bit}
-use Rattle.permissions.specs.Graph.{ReachesOn}
-use Rattle.permissions.specs.Reach.{graph_of, Reaches}
+use Rattle.permissions.specs.Graph.{ReachesOn, graph_of}
+use Rattle.permissions.specs.Reach.{Reaches}
 
 -- the bits of the roles before this one are those of their permissions
 pub record AreMasksBefore (roles : List Role) (n : ℕ) (masks : List ℕ) : Type 0 where

@@ -1,4 +1,4 @@
--- What a policy keeps beside its tables.
+-- A machine of the code: what a policy keeps beside its tables.
 use Rattle.std.specs.Prelude.{◌≡◌, ℕ, List, Ok, map}
 use Rattle.hex.specs.Hex.{decode_of}
 use Rattle.policy_tables.specs.declared.tables.PolicyTables.{PolicyTables}

@@ -1,12 +1,11 @@
--- What an ask looks at: the realms by their places, in an order, with what each grants.
+-- A machine of the code: what an ask looks at, the realms by their places, in an order, with what each grants.
 use Rattle.std.specs.Prelude.{◌≡◌, ◌⊎◌, ◌≤◌, ℕ, Bool, true, false, List, length, slice_index_or, take}
 use Rattle.policy_tables.specs.declared.tables.PolicyTables.{PolicyTables}
 use Rattle.permissions.specs.declared.grants.Grants.{Grants}
 use Rattle.permissions.specs.declared.members.Members.{Members}
-use Rattle.permissions.specs.Graph.{has, edges, ReachesOn}
+use Rattle.permissions.specs.Graph.{has, edges, ReachesOn, graph_of}
 use Rattle.permissions.specs.Grants.{AreGrants, AreMembers}
 use Rattle.permissions.specs.Order.{IsOrder}
-use Rattle.permissions.specs.Reach.{graph_of}
 
 -- the realms that each extends, all realms in an order, their grants, and the members of groups are those of the tables
 pub record AreRights (t : PolicyTables) (graph : List (List ℕ)) (order : List ℕ) (grants : List Grants) (members : List Members) : Type 0 where

@@ -1,10 +1,9 @@
 //! The realm that reaches itself, of several the one with the least name.
 ghost use Rattle.std.specs.Prelude.{◌≡◌, ◌↔◌, ◌<◌, ◌≤◌, ℕ, true, false, OnOk, IfOk, MatchOption, length, slice_index_or, nat_le, nat_lt};
 ghost use Rattle.std.specs.List.{list_all};
-ghost use Rattle.permissions.specs.Graph.{IsGraph, ReachesOn, has, edges};
+ghost use Rattle.permissions.specs.Graph.{IsGraph, ReachesOn, has, edges, graph_of};
 ghost use Rattle.permissions.specs.Cycle.{IsLeastCycle, HasNoCycle};
 ghost use Rattle.permissions.specs.CycleSearch.{IsStep, IsLeastBefore, label_at, AreFalling, IsRuledOut, name_at, comes_first};
-ghost use Rattle.permissions.specs.Reach.{graph_of};
 
 use crate::components::{label_places, number_at};
 use crate::graph::{edges_of, reached_from};

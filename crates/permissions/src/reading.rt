@@ -4,7 +4,7 @@ ghost use Rattle.permissions.specs.Cycle.{HasNoCycle, IsLeastCycle};
 ghost use Rattle.permissions.specs.Faults.{IsTablesFault, text_fault};
 ghost use Rattle.permissions.specs.Grants.{AreMembers, AreGrants};
 ghost use Rattle.permissions.specs.Order.{IsOrder};
-ghost use Rattle.permissions.specs.Reach.{graph_of};
+ghost use Rattle.permissions.specs.Graph.{graph_of};
 
 use crate::PolicyFault;
 use crate::grants::{Grants, all_grants};

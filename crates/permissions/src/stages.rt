@@ -6,7 +6,7 @@ ghost use Rattle.policy_tables.specs.Document.{tables_of};
 ghost use Rattle.policy_checks.specs.Index.{IsIndexOf};
 ghost use Rattle.permissions.specs.Cycle.{IsLeastCycle};
 ghost use Rattle.permissions.specs.Order.{LeadsBack};
-ghost use Rattle.permissions.specs.Reach.{graph_of};
+ghost use Rattle.permissions.specs.Graph.{graph_of};
 ghost use Rattle.permissions.specs.Faults.{most_bytes, IsToml, shape_fault, entries_fault, check_fault, checked, text_fault, owners_fault, Answers};
 
 use crate::PolicyFault;

@@ -1,8 +1,7 @@
 use Rattle.std.proofs.Common.{◌≡◌, ◌≤◌, ◌<◌, ◌-◌, ℕ, List, true, false, length, get_or, refl, sym, ap, subst, ◌∙◌, arith}
 use Rattle.permissions.specs.Grants.{bound_at}
-use Rattle.permissions.specs.Graph.{edges}
+use Rattle.permissions.specs.Graph.{edges, graph_of}
 use Rattle.permissions.specs.Order.{IsOrder}
-use Rattle.permissions.specs.Reach.{graph_of}
 use Rattle.permissions.specs.Rights.{IsLooked}
 use Rattle.permissions.proofs.AskLemmas.{order_over, order_within, looked_first, looked_off, looked_on, none_bound, one_bound}
 use Rattle.permissions.proofs.rights.Rights.walk.Goals as goal

@@ -1,6 +1,6 @@
 use Rattle.std.proofs.Common.{◌≡◌, ◌≤◌, length}
 use Rattle.permissions.specs.Grants.{bound_at}
-use Rattle.permissions.specs.Reach.{graph_of}
+use Rattle.permissions.specs.Graph.{graph_of}
 use Rattle.permissions.specs.Rights.{IsLooked}
 use Rattle.permissions.proofs.rights.Rights.walk.Given as goal
 
