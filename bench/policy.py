@@ -33,7 +33,7 @@ def realm(i, extends="", principals=""):
 
 def members_times_bindings(share):
     """A group of many members, bound in many realms."""
-    count = int(16_000 * share)
+    count = int(21_800 * share)
     members = ",".join(f'"u{i}"' for i in range(count))
     realms = "".join(realm(i, principals='"group:g"') for i in range(count))
     return SECRET + users(count) + f"[group.g]\nmembers = [{members}]\n" + ROLE + realms
@@ -41,7 +41,7 @@ def members_times_bindings(share):
 
 def groups_times_bindings(share):
     """A user in many groups, each of them bound in a realm of a chain."""
-    count = int(15_000 * share)
+    count = int(21_800 * share)
     groups = "".join(f'[group.g{i}]\nmembers = ["u0"]\n' for i in range(count))
     realms = "".join(realm(i, f'"p:{i - 1}"' if i else "", f'"group:g{i}"') for i in range(count))
     return SECRET + users(1) + groups + ROLE + realms
@@ -49,33 +49,33 @@ def groups_times_bindings(share):
 
 def realms_times_users(share):
     """As many realms as users, and one binding that all realms reach."""
-    count = int(32_000 * share)
+    count = int(32_700 * share)
     realms = "".join(realm(i, '"p:0"' if i else "", "" if i else '"user:u0"') for i in range(count))
     return SECRET + users(count) + ROLE + realms
 
 
 def chain(share):
     """Realms of which each extends the one before, each with a binding of another user."""
-    count = int(21_000 * share)
+    count = int(21_800 * share)
     realms = "".join(realm(i, f'"p:{i - 1}"' if i else "", f'"user:u{i}"') for i in range(count))
     return SECRET + users(count) + ROLE + realms
 
 
 def bare_chain(share):
     """Realms of which each extends the one before, and nothing else."""
-    count = int(65_000 * share)
+    count = int(65_500 * share)
     return SECRET + "".join(realm(i, f'"p:{i - 1}"' if i else "") for i in range(count))
 
 
 def cycle(share):
     """Realms of which each extends the next, and the last one the first."""
-    count = int(65_000 * share)
+    count = int(65_500 * share)
     return SECRET + "".join(realm(i, f'"p:{(i + 1) % count}"') for i in range(count))
 
 
 def between_cycles(share):
     """A long way that leads from a cycle to another, whose names come last."""
-    count = int(60_000 * share)
+    count = int(65_500 * share)
     way = "".join(realm(f"a{i}", f'"p:a{i + 1}"' if i + 1 < count else '"p:z0"') for i in range(count))
     ends = realm("y0", '"p:y1"') + realm("y1", '"p:y0","p:a0"') + realm("z0", '"p:z1"') + realm("z1", '"p:z0"')
     return SECRET + way + ends
@@ -83,7 +83,7 @@ def between_cycles(share):
 
 def layers(share):
     """Layers of realms, of which each extends all of the layer before."""
-    width = int(500 * share ** 0.5)
+    width = int(600 * share ** 0.5)
     rows = []
     for layer in range(2):
         for i in range(width):
