@@ -1,11 +1,12 @@
 -- The first fault of tables.
-use Rattle.std.proofs.Common.{◌≡◌, Bool, true, false, cond, List, [], ◌∷◌, Option, Some, None, option_map, refl, sym, ap, ◌∙◌, inl, inr}
+use Rattle.std.proofs.Common.{◌≡◌, ℕ, ◌<◌, ◌≤◌, Bool, true, false, cond, List, [], ◌∷◌, Option, Some, None, option_map, refl, sym, ap, ◌∙◌, inl, inr, arith, length, ltb}
 use Rattle.std.specs.Prelude.{not}
 use Rattle.std.specs.Option.{option_or}
-use Rattle.std.proofs.lemmas.Bool.{cases_Bool, and_parts}
+use Rattle.std.proofs.lemmas.Bool.{cases_Bool, and_parts, ltb-false}
+use Rattle.policy_tables.specs.Entries.{entries}
 use Rattle.policy_tables.specs.declared.findings.Finding.{Finding}
 use Rattle.policy_tables.specs.declared.tables.PolicyTables.{PolicyTables}
-use Rattle.policy_tables.specs.Findings.{goes_first, least_with, least_of}
+use Rattle.policy_tables.specs.Findings.{goes_before, least_with, least_of}
 use Rattle.policy_checks.specs.declared.texts.Check.TheVariants.{Form}
 use Rattle.policy_checks.specs.Checks.{has_secret_length, is_hex_text, is_secret}
 use Rattle.permissions.specs.declared.faults.PolicyFault.{PolicyFault}
@@ -33,7 +34,7 @@ not_mapped g (Some f) e = let no : Some (g f) ≡ None = e in cc
 -- a finding is kept, or a lesser one
 kept : (f : Finding) (fs : List Finding) → least_with (Some f) fs ≡ None → ⊥
 kept f [] e = let no : Some f ≡ None = e in cc
-kept f (g ∷ gs) e = elim (cases_Bool (goes_first g (Some f))) [
+kept f (g ∷ gs) e = elim (cases_Bool (goes_before g.path (Some f))) [
   | inl y ↦ kept g gs (sym (ap (λ b. least_with (cond b (Some g) (Some f)) gs) y) ∙ e)
   | inr n ↦ kept f gs (sym (ap (λ b. least_with (cond b (Some g) (Some f)) gs) n) ∙ e)
 ]
@@ -53,3 +54,13 @@ secret_is_hex t e =
     let form : checked t Form ≡ None = none_before _ _ (none_behind (entries_fault t) _ e) in
     let none = no_finding _ (not_mapped (check_fault Form) _ form) in
     (and_parts (has_secret_length t.secret) (is_hex_text t.secret) (first_passes (is_secret t.secret) _ _ none)).1
+
+-- and there are no more realms than entries
+not_too_many : (b : Bool) (f : PolicyFault) → cond b (Some f) None ≡ None → b ≡ false
+not_too_many true f e = let no : Some f ≡ None = e in cc
+not_too_many false f e = refl
+
+pub few_realms : (t : PolicyTables) → text_fault t ≡ None → length t.realms ≤ 65536
+few_realms t e =
+    let few : ltb 65536 (entries t) ≡ false = not_too_many _ _ (none_before _ _ e) in
+    omega (arith, ltb-false 65536 (entries t) few)

@@ -1,8 +1,9 @@
 -- What a search over a graph finds.
-use Rattle.std.proofs.Common.{◌≡◌, ℕ, suc, ◌+◌, ◌<◌, ◌≤◌, true, false, ◌||◌, List, [], ◌∷◌, ◌++◌, length, take, get_or, refl, sym, ap, subst, ◌∙◌, inl, inr, arith, eq-eqb}
+use Rattle.std.proofs.Common.{◌≡◌, ℕ, suc, ◌+◌, ◌<◌, ◌≤◌, Bool, true, false, ◌||◌, List, [], ◌∷◌, ◌++◌, length, take, get_or, refl, sym, ap, subst, ◌∙◌, inl, inr, arith, eq-eqb}
 use Rattle.std.specs.Prelude.{◌==◌, ◌⊎◌}
-use Rattle.std.proofs.lemmas.Bool.{cases_Bool, eqb-true, or_cases, or_left, or_right}
+use Rattle.std.proofs.lemmas.Bool.{cases_Bool, and_parts, eqb-true, or_cases, or_left, or_right}
 use Rattle.std.proofs.lemmas.List.{get_or-take}
+use Rattle.std.specs.List.{list_all}
 use Rattle.std.proofs.lemmas.List.Folds.{list_any_at}
 use Rattle.permissions.specs.Graph.{has, edges, IsWalkOn, ReachesOn}
 
@@ -76,4 +77,14 @@ reached_more graph start r old new found reached here q e =
     elim (or_cases _ _ (sym (found q) ∙ e)) [
       | inl before ↦ reached q before
       | inr leads ↦ reaches_on graph start r q (reached r here) leads
+    ]
+
+-- what holds of all holds of each
+pub all_has : (f : ℕ → Bool) (xs : List ℕ) (q : ℕ) → list_all f xs ≡ true → has q xs ≡ true → f q ≡ true
+all_has f [] q a e = let no : false ≡ true = e in cc
+all_has f (x ∷ xs) q a e =
+    let parts = and_parts (f x) (list_all f xs) a in
+    elim (cases_Bool (x == q)) [
+      | inl is ↦ subst (λ (y : ℕ). f y ≡ true) (eqb-true x q is) parts.0
+      | inr is ↦ all_has f xs q parts.1 (sym (ap (λ b. b || has q xs) is) ∙ e)
     ]

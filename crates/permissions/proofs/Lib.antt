@@ -1,5 +1,5 @@
 pub mod BitLemmas
-pub mod ClosingLemmas
+pub mod AskLemmas
 pub mod CycleLemmas
 pub mod FaultLemmas
 pub mod GrantLemmas

@@ -20,7 +20,7 @@ or_false true = refl
 or_false false = refl
 
 -- one more at the end
-has_snoc : (q p : ℕ) (xs : List ℕ) → has q (xs ++ p ∷ []) ≡ (has q xs || (p == q))
+pub has_snoc : (q p : ℕ) (xs : List ℕ) → has q (xs ++ p ∷ []) ≡ (has q xs || (p == q))
 has_snoc q p [] = or_false (p == q)
 has_snoc q p (x ∷ xs) = ap (λ b. (x == q) || b) (has_snoc q p xs) ∙ or_assoc (x == q) (has q xs) (p == q)
 
@@ -31,7 +31,7 @@ on_snoc q f (e ∷ fs) = ap (λ b. (e.place == q) || b) (on_snoc q f fs) ∙ or_
 has_here : (q p : ℕ) (xs : List ℕ) → (p == q) ≡ true → has q (xs ++ p ∷ []) ≡ true
 has_here q p xs e = has_snoc q p xs ∙ or_right (has q xs) (p == q) e
 
-has_before : (q p : ℕ) (xs : List ℕ) → has q xs ≡ true → has q (xs ++ p ∷ []) ≡ true
+pub has_before : (q p : ℕ) (xs : List ℕ) → has q xs ≡ true → has q (xs ++ p ∷ []) ≡ true
 has_before q p xs e = has_snoc q p xs ∙ or_left (has q xs) (p == q) e
 
 has_other : (q p : ℕ) (xs : List ℕ) → (p == q) ≡ false → has q (xs ++ p ∷ []) ≡ has q xs

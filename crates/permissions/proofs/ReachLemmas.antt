@@ -12,8 +12,8 @@ use Rattle.policy_checks.specs.Index.{place_of}
 use Rattle.policy_checks.specs.Checks.{is_there, realm_names}
 use Rattle.policy_checks.proofs.IndexLemmas.{not_there}
 use Rattle.policy_checks.proofs.PlaceLemmas.{place_step, place_of-within, place_of-name}
-use Rattle.permissions.specs.Graph.{has, edges, IsGraph, IsWalkOn, ReachesOn}
-use Rattle.permissions.specs.Reach.{realm_at, extended, IsWalk, ReachesItself, places_in, graph_from, graph_of}
+use Rattle.permissions.specs.Graph.{has, edges, IsGraph, IsWalkOn, ReachesOn, places_in, graph_from, graph_of}
+use Rattle.permissions.specs.Reach.{realm_at, extended, IsWalk, ReachesItself}
 
 -- the places that a place leads to are those that its realm extends
 edges_from : (names : List (List ℕ)) (a : List ℕ) (realms : List RealmTable) (p : ℕ) → place_of a (map (λ r. r.name) realms) ≡ Some p

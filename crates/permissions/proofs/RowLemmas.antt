@@ -1,4 +1,4 @@
--- Rows of permissions, and the definition of who is allowed what.
+-- Who is bound from places, and the definition of who is allowed what.
 use Rattle.std.proofs.Common.{◌≡◌, ℕ, zero, suc, ◌<◌, Bool, true, false, ◌||◌, ◌&&◌, List, [], ◌∷◌, length, map, get_or, replicate, bit_or, Option, Some, None, refl, sym, ap, subst, ◌∙◌, inl, inr, arith, eq-eqb}
 use Rattle.std.specs.Prelude.{◌==◌, ◌↔◌}
 use Rattle.std.specs.List.{list_any}
@@ -6,94 +6,20 @@ use Rattle.std.proofs.Math.ListN.{set}
 use Rattle.std.proofs.lemmas.Bool.{cases_Bool, eqb-true, or_cases, or_left, or_right}
 use Rattle.std.proofs.lemmas.List.{get_or-set_same, get_or-set_other, length-map}
 use Rattle.policy_checks.specs.declared.permission.Permission.{Permission}
-use Rattle.permissions.specs.declared.grants.Grant.{Grant}
 use Rattle.policy_tables.specs.declared.tables.PolicyTables.{PolicyTables}
 use Rattle.permissions.specs.Allows.{binds_in, binds, root_of, Allows}
 use Rattle.policy_checks.specs.Checks.{realm_names}
-use Rattle.permissions.specs.Grants.{bindings_at, AreGrants, IsGrantedRow, AreGrantedRows, IsBoundFrom, IsRow, AreRows, IsBoundByName}
+use Rattle.permissions.specs.Grants.{bindings_at, IsBoundFrom, IsBoundByName}
 use Rattle.permissions.specs.Masks.{has_bit}
-use Rattle.permissions.specs.Graph.{has, ReachesOn}
+use Rattle.permissions.specs.Graph.{has, ReachesOn, graph_of}
 use Rattle.policy_checks.specs.Index.{place_of}
-use Rattle.permissions.specs.Reach.{IsWalk, graph_of}
+use Rattle.permissions.specs.Reach.{IsWalk}
 use Rattle.permissions.proofs.GrantLemmas.{has_bit-or, realm_place}
 use Rattle.permissions.proofs.ReachLemmas.{PlacesWalk, walk_over_places, walk_over_names, not_there-extended, no_walk}
 use Rattle.policy_checks.proofs.PlaceLemmas.{place_of-within}
 
-or_false : (b : Bool) → b ≡ (b || false)
-or_false true = refl
-or_false false = refl
-
 pub differ : (a b : ℕ) → (a == b) ≡ false → a ≡ b → ⊥
 differ a b e h = let yes_it_is : (a == b) ≡ true = eq-eqb a b h in let no : false ≡ true = sym e ∙ yes_it_is in cc
-
--- a row after a grant
-pub grant_bits : (row : List ℕ) (user mask u : ℕ) (p : Permission) → user < length row
-    → has_bit (get_or (set row user (bit_or (get_or row user 0) mask)) u 0) p ≡ (has_bit (get_or row u 0) p || ((user == u) && has_bit mask p))
-grant_bits row user mask u p within =
-    let value : ℕ = bit_or (get_or row user 0) mask in
-    elim (cases_Bool (user == u)) [
-      | inl e ↦
-          let here : has_bit (get_or (set row user value) user 0) p ≡ (has_bit (get_or row user 0) p || has_bit mask p) =
-          ap (λ n. has_bit n p) (get_or-set_same row user value 0 within) ∙ has_bit-or (get_or row user 0) mask p in
-          let there : has_bit (get_or (set row user value) u 0) p ≡ (has_bit (get_or row u 0) p || has_bit mask p) =
-          subst (λ (v : ℕ). has_bit (get_or (set row user value) v 0) p ≡ (has_bit (get_or row v 0) p || has_bit mask p)) (eqb-true user u e) here in
-          there ∙ sym (ap (λ b. has_bit (get_or row u 0) p || (b && has_bit mask p)) e)
-      | inr e ↦
-          ap (λ n. has_bit n p) (get_or-set_other row user u value 0 (λ h. differ user u e (sym h)))
-          ∙ or_false (has_bit (get_or row u 0) p)
-          ∙ sym (ap (λ b. has_bit (get_or row u 0) p || (b && has_bit mask p)) e)
-    ]
-
--- an element with a property, and the other way round
-pub any_has : (f : ℕ → Bool) (xs : List ℕ) → list_any f xs ≡ true → (q : ℕ) × (has q xs ≡ true) × (f q ≡ true)
-any_has f [] e = let no : false ≡ true = e in cc
-any_has f (x ∷ xs) e = elim (cases_Bool (f x)) [
-  | inl h ↦ (x, ap (λ b. b || has x xs) (eq-eqb x x refl), h)
-  | inr h ↦
-      let (q, there, is) = any_has f xs (sym (ap (λ b. b || list_any f xs) h) ∙ e) in
-      (q, or_right (x == q) (has q xs) there, is)
-]
-
-pub has_any : (f : ℕ → Bool) (xs : List ℕ) (q : ℕ) → has q xs ≡ true → f q ≡ true → list_any f xs ≡ true
-has_any f [] q e h = let no : false ≡ true = e in cc
-has_any f (x ∷ xs) q e h = elim (cases_Bool (x == q)) [
-  | inl is ↦ ap (λ b. b || list_any f xs) (ap f (eqb-true x q is) ∙ h)
-  | inr is ↦ or_right (f x) (list_any f xs) (has_any f xs q (sym (ap (λ b. b || has q xs) is) ∙ e) h)
-]
-
-some_within : {A : Type 0} (f : A → Bool) (xs : List (List A)) (q : ℕ) → list_any f (get_or xs q []) ≡ true → q < length xs
-some_within f [] q e = let no : false ≡ true = e in cc
-some_within f (x ∷ xs) zero e = omega arith
-some_within f (x ∷ xs) (suc q) e = omega (arith, some_within f xs q e)
-
--- the rows of the realms
-pub rows_are : (t : PolicyTables) (graph : List (List ℕ)) (grants : List (List Grant)) (users : ℕ) (rows : List (List ℕ)) → graph ≡ graph_of t → length graph ≡ length t.realms
-    → AreGrants t t.realms (length t.realms) grants → users ≡ length t.users → AreGrantedRows graph grants users (length graph) rows → AreRows t rows
-rows_are t graph grants users rows is len are count h = record {
-  count = h.count ∙ len;
-  row = λ place below.
-      let r : IsGrantedRow graph grants users place (get_or rows place []) = h.each place (omega (arith, len)) in
-      record {
-        count = r.count ∙ count;
-        bits = λ u p within. (
-          λ e.
-              let w = (r.bits u p (omega (arith, count))).0 e in
-              let there : w.to < length t.realms = omega (arith, are.count, some_within (λ g. (g.user == u) && has_bit g.mask p) grants w.to w.granted_there) in
-              record {
-                to = w.to;
-                reached = elim w.reached [ inl a ↦ inl a | inr b ↦ inr (subst (λ (g : List (List ℕ)). ReachesOn g place w.to) is b) ];
-                bound = sym (are.same w.to u p there) ∙ w.granted_there;
-              },
-          λ w.
-              let there : w.to < length t.realms = omega (arith, length-map t.realms (λ x. x.bindings), some_within (binds_in t u p) (map (λ x. x.bindings) t.realms) w.to w.bound) in
-              (r.bits u p (omega (arith, count))).1 (record {
-                to = w.to;
-                reached = elim w.reached [ inl a ↦ inl a | inr b ↦ inr (subst (λ (g : List (List ℕ)). ReachesOn g place w.to) (sym is) b) ];
-                granted_there = are.same w.to u p there ∙ w.bound;
-              }),
-        );
-      };
-}
 
 -- from a place to the names
 pub bound_by_name : (t : PolicyTables) (u : ℕ) (p : Permission) (name : List ℕ) (place : ℕ) → place_of name (realm_names t) ≡ Some place → IsBoundFrom t place u p → IsBoundByName t name u p
@@ -148,21 +74,9 @@ allowed t u p realm own root h h' = (
   ],
 )
 
--- a row of nothing
-pub zeros_are : (n u : ℕ) → ◌≡◌ {A = ℕ} (get_or (replicate n 0) u 0) 0
-zeros_are zero u = refl
-zeros_are (suc n) zero = refl
-zeros_are (suc n) (suc u) = zeros_are n u
+pub bound_over_names : (t : PolicyTables) (u : ℕ) (p : Permission) (name : List ℕ) (place : ℕ) (b : Bool) → place_of name (realm_names t) ≡ Some place
+    → ((b ≡ true) ↔ IsBoundFrom t place u p) → (b ≡ true) ↔ IsBoundByName t name u p
+bound_over_names t u p name place b is h = (λ e. bound_by_name t u p name place is (h.0 e), λ w. h.1 (bound_by_place t u p name place is w))
 
--- the bit of a user in the row of a realm's place
-pub bound_bit : (t : PolicyTables) (rows : List (List ℕ)) (u : ℕ) (p : Permission) (name : List ℕ) (place : ℕ) (b : Bool) → AreRows t rows → place_of name (realm_names t) ≡ Some place → u < length t.users
-    → b ≡ has_bit (get_or (get_or rows place []) u 0) p → (b ≡ true) ↔ IsBoundByName t name u p
-bound_bit t rows u p name place b are is within bit =
-    let below : place < length t.realms = omega (arith, length-map t.realms (λ r. r.name), place_of-within name (realm_names t) place is) in
-    let row : IsRow t place (get_or rows place []) = are.row place below in (
-      λ e. bound_by_name t u p name place is ((row.bits u p within).0 (sym bit ∙ e)),
-      λ w. bit ∙ (row.bits u p within).1 (bound_by_place t u p name place is w),
-    )
-
-pub no_bit : (t : PolicyTables) (u : ℕ) (p : Permission) (name : List ℕ) → None ≡ place_of name (realm_names t) → (false ≡ true) ↔ IsBoundByName t name u p
-no_bit t u p name none = (λ e. cc, λ w. absurd (unknown_bound t u p name (sym none) w))
+pub not_bound : (t : PolicyTables) (u : ℕ) (p : Permission) (name : List ℕ) → None ≡ place_of name (realm_names t) → (false ≡ true) ↔ IsBoundByName t name u p
+not_bound t u p name none = (λ e. cc, λ w. absurd (unknown_bound t u p name (sym none) w))

@@ -1,21 +1,21 @@
 -- Who may do what.
 use Rattle.std.specs.Prelude.{◌≡◌, ◌⊎◌, ℕ, Bool, true, false, ◌&&◌, ◌||◌, ◌==◌, List, ◌++◌, take, Option, Some, None, codes}
 use Rattle.std.specs.List.{list_any}
+use Rattle.std.specs.Str.{bytes_eq}
 use Rattle.names_realms.specs.Realms.{project_len}
 use Rattle.policy_checks.specs.declared.permission.Permission.{Permission}
 use Rattle.policy_tables.specs.declared.tables.Binding.{Binding}
 use Rattle.policy_tables.specs.declared.tables.PolicyTables.{PolicyTables}
 use Rattle.policy_checks.specs.Index.{place_of}
 use Rattle.policy_checks.specs.Checks.{user_names, behind}
-use Rattle.policy_checks.specs.Permissions.{permission_of}
+use Rattle.policy_checks.specs.Permissions.{permission_text, permission_of}
 use Rattle.policy_checks.specs.Places.{role_at, group_at}
-use Rattle.permissions.specs.Masks.{permission_number}
 use Rattle.permissions.specs.Reach.{realm_at, Reaches}
 
--- the permission of a text is this one
+-- the permission of a text is this one: of two permissions with the same text there are none
 abbrev pub is_permission : Permission → Option Permission → Bool
 is_permission p None = false
-is_permission p (Some q) = permission_number q == permission_number p
+is_permission p (Some q) = bytes_eq (permission_text q) (permission_text p)
 
 -- the role holds the permission
 abbrev pub holds : PolicyTables → List ℕ → Permission → Bool

@@ -1,6 +1,11 @@
--- Walks from place to place, where each place has a list of the places that it leads to.
-use Rattle.std.specs.Prelude.{◌≡◌, ℕ, ◌<◌, ◌==◌, Bool, true, false, List, [], ◌∷◌, length, slice_index_or, count_by}
+-- A machine of the code: walks from place to place, where each place has a list of the places that it leads to.
+use Rattle.std.specs.Prelude.{◌≡◌, ℕ, ◌<◌, ◌==◌, Bool, true, false, List, [], ◌∷◌, length, map, slice_index_or, count_by}
 use Rattle.std.specs.List.{list_any}
+use Rattle.policy_tables.specs.declared.tables.RealmTable.{RealmTable}
+use Rattle.policy_tables.specs.declared.tables.PolicyTables.{PolicyTables}
+use Rattle.policy_tables.specs.Document.{with_entry}
+use Rattle.policy_checks.specs.Index.{place_of}
+use Rattle.policy_checks.specs.Checks.{realm_names}
 
 -- the place is one of these
 abbrev pub has : ℕ → List ℕ → Bool
@@ -29,3 +34,15 @@ pub record ReachesOn (graph : List (List ℕ)) (p q : ℕ) : Type 0 where
 pub record IsMarked (marks : List Bool) (found : List ℕ) : Type 0 where
   pub same : (q : ℕ) → q < length marks → slice_index_or marks q false ≡ has q found
   pub count : count_by (λ m. m) marks ≡ length found
+
+-- the places of those of these names that are there
+abbrev pub places_in : List (List ℕ) → List (List ℕ) → List ℕ
+places_in names [] = []
+places_in names (x ∷ xs) = with_entry (place_of x names) (places_in names xs)
+
+-- the realms' places, each with the places of the realms that it extends
+abbrev pub graph_from : List (List ℕ) → List RealmTable → List (List ℕ)
+graph_from names realms = map (λ r. places_in names r.extends) realms
+
+unfoldable pub graph_of : PolicyTables → List (List ℕ)
+graph_of t = graph_from (realm_names t) t.realms

@@ -1,4 +1,4 @@
--- Permissions as bits of a number.
+-- A machine of the code: permissions as bits of a number.
 use Rattle.std.specs.Prelude.{ℕ, Bool, ◌==◌}
 use Rattle.std.specs.Int.{bit_at}
 use Rattle.policy_checks.specs.declared.permission.Permission.{Permission}

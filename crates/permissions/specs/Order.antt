@@ -1,4 +1,4 @@
--- An order in which each place stands behind those that it leads to, and a walk that finds it.
+-- A machine of the code: an order in which each place stands behind those that it leads to, and a walk that finds it.
 use Rattle.std.specs.Prelude.{◌≡◌, ◌⊎◌, ℕ, ◌+◌, ◌-◌, ◌<◌, Bool, true, false, if◌then◌else◌, List, [], ◌∷◌, ◌++◌, length, map, take, slice_index_or}
 use Rattle.permissions.specs.declared.order.Frame.{Frame}
 use Rattle.permissions.specs.declared.order.Mark.{Mark}

@@ -1,11 +1,9 @@
 -- Which realms are reached from which.
-use Rattle.std.specs.Prelude.{◌≡◌, ℕ, true, List, [], ◌∷◌, map, if◌then◌else◌}
+use Rattle.std.specs.Prelude.{◌≡◌, ℕ, true, List, [], ◌∷◌, if◌then◌else◌}
 use Rattle.std.specs.Str.{bytes_eq}
 use Rattle.policy_tables.specs.declared.tables.RealmTable.{RealmTable}
 use Rattle.policy_tables.specs.declared.tables.PolicyTables.{PolicyTables}
-use Rattle.policy_tables.specs.Document.{with_entry}
-use Rattle.policy_checks.specs.Index.{place_of}
-use Rattle.policy_checks.specs.Checks.{is_there, realm_names}
+use Rattle.policy_checks.specs.Checks.{is_there}
 
 -- the realm of a name; one that isn't configured extends none, and has no bindings
 abbrev pub realm_at : List ℕ → List RealmTable → RealmTable
@@ -31,15 +29,3 @@ pub record ReachesItself (t : PolicyTables) (name : List ℕ) : Type 0 where
   pub first : List ℕ
   pub others : List (List ℕ)
   pub walk : IsWalk t name (first ∷ others) name
-
--- the places of those of these names that are there
-abbrev pub places_in : List (List ℕ) → List (List ℕ) → List ℕ
-places_in names [] = []
-places_in names (x ∷ xs) = with_entry (place_of x names) (places_in names xs)
-
--- the realms' places, each with the places of the realms that it extends
-abbrev pub graph_from : List (List ℕ) → List RealmTable → List (List ℕ)
-graph_from names realms = map (λ r. places_in names r.extends) realms
-
-unfoldable pub graph_of : PolicyTables → List (List ℕ)
-graph_of t = graph_from (realm_names t) t.realms

@@ -1,110 +1,79 @@
-//! What a realm's own bindings grant.
-ghost use Rattle.std.specs.Prelude.{◌≡◌, ◌<◌, ℕ, ◌&&◌, ◌||◌, OnOk, IfOk, option_map};
+//! What a realm's own bindings grant, to users and to groups.
+ghost use Rattle.std.specs.Prelude.{◌≡◌, ◌==◌, false, ℕ, ◌&&◌, ◌||◌, OnOk, IfOk, option_map, unwrap_or, length};
 ghost use Rattle.std.specs.List.{list_any};
+ghost use Rattle.std.specs.Ordering.{nat_cmp};
+ghost use Rattle.std.specs.BTreeMap.{get};
 ghost use Rattle.policy_checks.specs.declared.permission.Permission.{Permission as PermissionOf};
-ghost use Rattle.policy_checks.specs.Permissions.{permission_of};
-ghost use Rattle.permissions.specs.Allows.{is_permission, holds, is_user, is_this_user, has_this_user, gives, binds_in};
+ghost use Rattle.policy_tables.specs.declared.tables.PolicyTables.{PolicyTables as PolicyTablesOf};
+ghost use Rattle.permissions.specs.Allows.{is_user, is_this_user, has_this_user, gives, binds_in};
 ghost use Rattle.permissions.specs.Masks.{has_bit};
-ghost use Rattle.permissions.specs.Grants.{granted};
+ghost use Rattle.permissions.specs.Grants.{granted, AreMasks, AreGrants};
 
-use crate::masks::bit_of;
+use crate::roles::mask_of_role;
 use name_parts::Bytes;
-use policy_checks::{Book, Permission, members_of, rest_behind, role_texts};
-use policy_tables::{Binding, Listed};
+use policy_checks::{Book, rest_behind};
+use policy_tables::{Binding, RealmTable};
 use std::alloc::{AllocError, Global};
+use std::collections::BTreeMap;
 
-/// Permissions that a user has: a bit for each.
+/// Permissions that a group has: a bit for each.
 #[derive(Clone, Copy, Debug)]
-pub(crate) struct Grant {
-    pub(crate) user: usize,
+pub(crate) struct GroupGrant {
+    pub(crate) group: usize,
     pub(crate) mask: u16,
 }
 
-/// The bits with that of the permission of a text.
-fn with_text(mask: u16, text: &[u8]) -> u16
-    ensures { (p : PermissionOf) → has_bit result p ≡ (has_bit mask p || is_permission p (permission_of text.now)) }
-{
-    match Permission::from_text(text) {
-        Some(permission) => mask | bit_of(permission),
-        None => mask,
-    }
+/// What the bindings of a realm grant: the permissions of each user that they name, and of the groups, in the order of the bindings.
+#[derive(Drop)]
+pub(crate) struct Grants {
+    pub(crate) users: BTreeMap<usize, u16>,
+    pub(crate) groups: Vec<GroupGrant>,
 }
 
-/// The bits of the permissions of texts.
-fn mask_of(texts: &[Bytes]) -> u16
-    ensures { (p : PermissionOf) → has_bit result p ≡ list_any (λ x. is_permission p (permission_of x)) texts.now }
+/// Grants to a user.
+fn grant_user(users: &mut BTreeMap<usize, u16>, mask: u16, user: usize) -> Result<(), AllocError>
+    ensures { OnOk result ((u : ℕ) (p : PermissionOf) → has_bit (unwrap_or (get nat_cmp users.new u) 0) p ≡ (has_bit (unwrap_or (get nat_cmp users.old u) 0) p || ((user == u) && has_bit mask p))) }
 {
-    let mut mask = 0;
-    for text in texts {
-        mask = with_text(mask, text.as_slice());
-    }
-    mask
-}
-
-/// The bits of the permissions that a role holds.
-fn role_mask(book: &Book, name: &[u8]) -> u16
-    ensures { (p : PermissionOf) → has_bit result p ≡ holds book.now name.now p }
-{
-    match book.role(name) {
-        Some(place) => mask_of(role_texts(book, place)),
-        None => 0,
-    }
-}
-
-/// Grants to a user, where there is one of this name.
-fn push_user(book: &Book, mask: u16, name: &[u8], grants: &mut Vec<Grant>) -> Result<(), AllocError>
-    ensures { OnOk result ((u : ℕ) (p : PermissionOf) → granted u p grants.new.items ≡ (granted u p grants.old.items || (is_user book.now u name.now && has_bit mask p))) }
-{
-    match book.user(name) {
-        Some(user) => {
-            grants.push(Grant { user, mask })?;
-            Ok(())
-        }
-        None => Ok(()),
-    }
-}
-
-/// Grants to each user.
-fn push_users(
-    book: &Book,
-    mask: u16,
-    names: &[Bytes],
-    grants: &mut Vec<Grant>,
-) -> Result<(), AllocError>
-    ensures { OnOk result ((u : ℕ) (p : PermissionOf) → granted u p grants.new.items ≡ (granted u p grants.old.items || (list_any (is_user book.now u) names.now && has_bit mask p))) }
-{
-    for name in names {
-        push_user(book, mask, name.as_slice(), grants)?;
-    }
+    let before = users.get(&user).copied().unwrap_or(0);
+    users.insert(user, before | mask)?;
     Ok(())
 }
 
-/// Grants to the user that a principal names, if it names one.
-fn push_named_user(
+/// Grants to the user of a name, where there is one.
+fn push_user(
     book: &Book,
     mask: u16,
     name: Option<&[u8]>,
-    grants: &mut Vec<Grant>,
+    grants: &mut Grants,
 ) -> Result<(), AllocError>
-    ensures { OnOk result ((u : ℕ) (p : PermissionOf) → granted u p grants.new.items ≡ (granted u p grants.old.items || (is_this_user book.now u (option_map (λ n. n.now) name.entry) && has_bit mask p))) }
+    ensures { OnOk result ((u : ℕ) (p : PermissionOf) → granted book.now u p grants.new ≡ (granted book.now u p grants.old || (is_this_user book.now u (option_map (λ n. n.now) name.entry) && has_bit mask p))) }
 {
-    match name {
-        Some(name) => push_user(book, mask, name, grants),
+    let Some(name) = name else {
+        return Ok(());
+    };
+    match book.user(name) {
+        Some(user) => grant_user(&mut grants.users, mask, user),
         None => Ok(()),
     }
 }
 
-/// Grants to the members of the group that a principal names, if it names one.
-fn push_named_group(
+/// Grants to the group of a name, where there is one.
+fn push_group(
     book: &Book,
     mask: u16,
     name: Option<&[u8]>,
-    grants: &mut Vec<Grant>,
+    grants: &mut Grants,
 ) -> Result<(), AllocError>
-    ensures { OnOk result ((u : ℕ) (p : PermissionOf) → granted u p grants.new.items ≡ (granted u p grants.old.items || (has_this_user book.now u (option_map (λ n. n.now) name.entry) && has_bit mask p))) }
+    ensures { OnOk result ((u : ℕ) (p : PermissionOf) → granted book.now u p grants.new ≡ (granted book.now u p grants.old || (has_this_user book.now u (option_map (λ n. n.now) name.entry) && has_bit mask p))) }
 {
-    match name {
-        Some(name) => push_users(book, mask, members_of(book, name), grants),
+    let Some(name) = name else {
+        return Ok(());
+    };
+    match book.group(name) {
+        Some(group) => {
+            grants.groups.push(GroupGrant { group, mask })?;
+            Ok(())
+        }
         None => Ok(()),
     }
 }
@@ -114,12 +83,12 @@ fn push_principal(
     book: &Book,
     mask: u16,
     text: &[u8],
-    grants: &mut Vec<Grant>,
+    grants: &mut Grants,
 ) -> Result<(), AllocError>
-    ensures { OnOk result ((u : ℕ) (p : PermissionOf) → granted u p grants.new.items ≡ (granted u p grants.old.items || (gives book.now u text.now && has_bit mask p))) }
+    ensures { OnOk result ((u : ℕ) (p : PermissionOf) → granted book.now u p grants.new ≡ (granted book.now u p grants.old || (gives book.now u text.now && has_bit mask p))) }
 {
-    push_named_user(book, mask, rest_behind(b"user:", text), grants)?;
-    push_named_group(book, mask, rest_behind(b"group:", text), grants)
+    push_user(book, mask, rest_behind(b"user:", text), grants)?;
+    push_group(book, mask, rest_behind(b"group:", text), grants)
 }
 
 /// Grants to each principal.
@@ -127,9 +96,9 @@ fn push_principals(
     book: &Book,
     mask: u16,
     texts: &[Bytes],
-    grants: &mut Vec<Grant>,
+    grants: &mut Grants,
 ) -> Result<(), AllocError>
-    ensures { OnOk result ((u : ℕ) (p : PermissionOf) → granted u p grants.new.items ≡ (granted u p grants.old.items || (list_any (gives book.now u) texts.now && has_bit mask p))) }
+    ensures { OnOk result ((u : ℕ) (p : PermissionOf) → granted book.now u p grants.new ≡ (granted book.now u p grants.old || (list_any (gives book.now u) texts.now && has_bit mask p))) }
 {
     for text in texts {
         push_principal(book, mask, text.as_slice(), grants)?;
@@ -137,25 +106,60 @@ fn push_principals(
     Ok(())
 }
 
-/// What a binding grants.
-fn push_binding(book: &Book, binding: &Binding, grants: &mut Vec<Grant>) -> Result<(), AllocError>
-    ensures { OnOk result ((u : ℕ) (p : PermissionOf) → granted u p grants.new.items ≡ (granted u p grants.old.items || binds_in book.now u p binding.now)) }
+/// What a binding grants, where the permissions of each role are these.
+fn push_binding(
+    book: &Book,
+    masks: &[u16],
+    binding: &Binding,
+    grants: &mut Grants,
+) -> Result<(), AllocError>
+    requires { AreMasks book.now masks.now }
+    ensures { OnOk result ((u : ℕ) (p : PermissionOf) → granted book.now u p grants.new ≡ (granted book.now u p grants.old || binds_in book.now u p binding.now)) }
 {
-    let mask = role_mask(book, binding.role.as_slice());
+    let mask = mask_of_role(book, masks, binding.role.as_slice());
     push_principals(book, mask, binding.principals.as_slice(), grants)
 }
 
+/// No grants.
+fn no_grants(alloc: Global) -> Grants
+    ensures { (u : ℕ) (p : PermissionOf) (t : PolicyTablesOf) → granted t u p result ≡ false }
+{
+    Grants {
+        users: BTreeMap::new(alloc),
+        groups: Vec::new(alloc),
+    }
+}
+
 /// What bindings grant.
-pub(crate) fn grants_of(
+fn grants_of(
     alloc: Global,
     book: &Book,
+    masks: &[u16],
     bindings: &[Binding],
-) -> Result<Listed<Grant>, AllocError>
-    ensures { IfOk result (λ grants. (u : ℕ) (p : PermissionOf) → granted u p grants ≡ list_any (binds_in book.now u p) bindings.now) }
+) -> Result<Grants, AllocError>
+    requires { AreMasks book.now masks.now }
+    ensures { IfOk result (λ grants. (u : ℕ) (p : PermissionOf) → granted book.now u p grants ≡ list_any (binds_in book.now u p) bindings.now) }
+{
+    let mut grants = no_grants(alloc);
+    for binding in bindings {
+        push_binding(book, masks, binding, &mut grants)?;
+    }
+    Ok(grants)
+}
+
+/// What each realm's own bindings grant.
+pub(crate) fn all_grants(
+    alloc: Global,
+    book: &Book,
+    masks: &[u16],
+    realms: &[RealmTable],
+) -> Result<Vec<Grants>, AllocError>
+    requires { AreMasks book.now masks.now }
+    ensures { IfOk result (λ grants. AreGrants book.now realms.now (length realms.now) grants.items) }
 {
     let mut grants = Vec::new(alloc);
-    for binding in bindings {
-        push_binding(book, binding, &mut grants)?;
+    for realm in realms {
+        grants.push(grants_of(alloc, book, masks, realm.bindings.as_slice())?)?;
     }
-    Ok(Listed::new(grants))
+    Ok(grants)
 }

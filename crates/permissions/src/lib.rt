@@ -2,17 +2,20 @@
 #![tactic(auto)]
 
 mod caller;
-mod closing;
+mod components;
 mod cycle;
 mod faults;
 mod grants;
 mod graph;
 mod hash;
 mod masks;
+mod members;
 mod order;
 mod policy;
+mod reading;
 mod realms;
-mod rows;
+mod rights;
+mod roles;
 mod stages;
 #[cfg(test)]
 mod tests;

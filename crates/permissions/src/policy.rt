@@ -5,7 +5,6 @@ ghost use Rattle.hex.specs.Hex.{decode_of};
 ghost use Rattle.policy_checks.specs.Checks.{is_hex_text, user_names};
 ghost use Rattle.permissions.specs.Allows.{Allows, root_of};
 ghost use Rattle.permissions.specs.Cycle.{HasNoCycle};
-ghost use Rattle.permissions.specs.Grants.{AreRows, IsBoundByName};
 ghost use Rattle.names_realms.specs.Realms.{IsRealm, project_len};
 ghost use Rattle.permissions.specs.Faults.{IsFirstFault, IsTablesFault, IsPolicyOf, IsSound, text_fault};
 ghost use Rattle.policy_checks.specs.Index.{place_of, IsIndexOf};
@@ -13,25 +12,23 @@ ghost use Rattle.policy_checks.specs.Index.{place_of, IsIndexOf};
 use crate::PolicyFault;
 use crate::caller::CallerId;
 use crate::hash::write_front;
-use crate::masks::is_in;
-use crate::realms::read_graph;
-use crate::rows::{close_rows, mask_at, row_at};
+use crate::reading::read_rights;
+use crate::rights::{Ask, Rights};
 use crate::stages::{check_entries, check_size, check_texts, check_tokens, read_shaped, read_toml};
 use hex::FromHexError;
 use name_parts::Bytes;
 use names_realms::Realm;
 use policy_checks::{Book, NameIndex, Permission};
-use policy_tables::{Listed, PolicyTables};
+use policy_tables::PolicyTables;
 use std::alloc::{AllocError, Global};
 use std::marker::Model;
 
 /// Who may do what, as a configuration says.
-#[derive(Debug, Drop)]
+#[derive(Drop)]
 pub struct Policy {
-    book: Book,
+    rights: Rights,
     secret: Bytes,
     tokens: NameIndex,
-    rows: Vec<Listed<u16>>,
 }
 
 impl Model for Policy {
@@ -42,9 +39,9 @@ impl Model for Policy {
 
     ghost Value = { PolicyTables };
 
-    ghost view = { λ p. p.book };
+    ghost view = { λ p. p.rights };
 
-    ghost invariant = { λ p. IsKept p.secret p.tokens p.rows.items p.book };
+    ghost invariant = { λ p. IsKept p.secret p.tokens p.rights };
 }
 
 /// The bytes of a secret, whose digits were checked before.
@@ -71,16 +68,6 @@ fn checked_book(alloc: Global, tables: PolicyTables) -> Result<Book, PolicyFault
     Ok(book)
 }
 
-/// What each user may do from each realm, where no realm reaches itself.
-fn checked_rows(alloc: Global, book: &Book) -> Result<Vec<Listed<u16>>, PolicyFault>
-    requires { text_fault book.now ≡ None }
-    ensures ok { IfOk result (λ rows. HasNoCycle book.now × AreRows book.now rows.items) }
-    ensures err { IfErr result (λ f. f ≢ PolicyFault.Memory → IsTablesFault book.now f) }
-{
-    let graph = read_graph(alloc, book)?;
-    close_rows(alloc, book, graph.as_slice())
-}
-
 /// The index of the tokens, where each has one owner.
 fn checked_tokens(alloc: Global, book: &Book) -> Result<NameIndex, PolicyFault>
     requires texts { text_fault book.now ≡ None }
@@ -97,14 +84,13 @@ fn policy_of(alloc: Global, tables: PolicyTables) -> Result<Policy, PolicyFault>
     ensures err { IfErr result (λ f. f ≢ PolicyFault.Memory → IsTablesFault tables f) }
 {
     let book = checked_book(alloc, tables)?;
-    let rows = checked_rows(alloc, &book)?;
-    let tokens = checked_tokens(alloc, &book)?;
-    let secret = read_secret(alloc, book.tables().secret.as_slice())?;
+    let rights = read_rights(alloc, book)?;
+    let tokens = checked_tokens(alloc, &rights.book)?;
+    let secret = read_secret(alloc, rights.book.tables().secret.as_slice())?;
     Ok(Policy {
-        book,
+        rights,
         secret,
         tokens,
-        rows,
     })
 }
 
@@ -141,7 +127,7 @@ impl Policy {
         requires { caller < length self.now.users }
         ensures { result.now ≡ slice_index_or (user_names self.now) caller [] }
     {
-        let user = &self.book.tables().users.as_slice()[caller.place()];
+        let user = &self.rights.book.tables().users.as_slice()[caller.place()];
         user.name.as_slice()
     }
 
@@ -161,23 +147,13 @@ impl Policy {
     {
         let mut room = [0u8; 106];
         let len = write_root(&mut room, realm.as_slice());
-        let own = self.binds(realm.as_slice(), caller, permission);
-        let root = self.binds(&room[..len], caller, permission);
+        let ask = Ask {
+            user: caller.place(),
+            permission,
+        };
+        let own = self.rights.binds(realm.as_slice(), ask);
+        let root = self.rights.binds(&room[..len], ask);
         own || root
-    }
-
-    /// Whether a realm, or one that it reaches by `extends`, binds the caller.
-    fn binds(&self, name: &[u8], caller: CallerId, permission: Permission) -> bool
-        requires { caller < length self.now.users }
-        ensures { (result ≡ true) ↔ IsBoundByName self.now name.now caller permission }
-    {
-        match self.book.realm(name) {
-            Some(place) => {
-                let mask = mask_at(row_at(self.rows.as_slice(), place), caller.place());
-                is_in(mask, permission)
-            }
-            None => false,
-        }
     }
 }
 

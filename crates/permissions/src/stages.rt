@@ -6,13 +6,13 @@ ghost use Rattle.policy_tables.specs.Document.{tables_of};
 ghost use Rattle.policy_checks.specs.Index.{IsIndexOf};
 ghost use Rattle.permissions.specs.Cycle.{IsLeastCycle};
 ghost use Rattle.permissions.specs.Order.{LeadsBack};
-ghost use Rattle.permissions.specs.Reach.{graph_of};
+ghost use Rattle.permissions.specs.Graph.{graph_of};
 ghost use Rattle.permissions.specs.Faults.{most_bytes, IsToml, shape_fault, entries_fault, check_fault, checked, text_fault, owners_fault, Answers};
 
 use crate::PolicyFault;
 use crate::cycle::first_cycle;
 use policy_checks::{Book, Check, NameIndex, first_failing, index_tokens};
-use policy_tables::{Finding, Listed, PolicyTables, count_entries, read_tables};
+use policy_tables::{Finding, Listed, Notes, PolicyTables, count_entries, read_tables};
 use std::alloc::Global;
 use toml::Table;
 
@@ -59,9 +59,9 @@ pub(crate) fn read_shaped(alloc: Global, document: &Table) -> Result<PolicyTable
     ensures tables { IfOk result (λ tables. tables ≡ tables_of (table_view document.now)) }
     ensures fault { Answers result (shape_fault (table_view document.now)) }
 {
-    let mut least = None;
-    let tables = read_tables(alloc, &mut least, document)?;
-    no_bad_shape(least)?;
+    let mut notes = Notes::new(alloc);
+    let tables = read_tables(&mut notes, document)?;
+    no_bad_shape(notes.into_least())?;
     Ok(tables)
 }
 
@@ -124,7 +124,7 @@ pub(crate) fn cycle_fault(alloc: Global, book: &Book, graph: &[Listed<usize>]) -
     ensures { result ≢ PolicyFault.Memory → (name : List ℕ) × IsLeastCycle book.now name × (result ≡ PolicyFault.RealmCycle name) }
 {
     match first_cycle(alloc, book, graph) {
-        Ok(Some(finding)) => PolicyFault::RealmCycle { name: finding.path },
+        Ok(Some(name)) => PolicyFault::RealmCycle { name },
         Ok(None) => unreachable!(),
         Err(error) => PolicyFault::from(error),
     }
@@ -148,8 +148,8 @@ pub(crate) fn check_tokens(alloc: Global, tables: &PolicyTables) -> Result<NameI
     ensures index { IfOk result (λ index. IsIndexOf index (map (λ u. u.token) tables.now.users)) }
     ensures fault { Answers result (owners_fault tables.now) }
 {
-    let mut least = None;
-    let index = index_tokens(alloc, &mut least, tables.users.as_slice())?;
-    no_second_owner(least)?;
+    let mut notes = Notes::new(alloc);
+    let index = index_tokens(&mut notes, tables.users.as_slice())?;
+    no_second_owner(notes.into_least())?;
     Ok(index)
 }

@@ -1,5 +1,5 @@
 -- An index after a name more.
-use Rattle.std.proofs.Common.{◌≡◌, ℕ, suc, Bool, true, false, cond, List, [], ◌∷◌, ◌++◌, length, Option, Some, None, option_map, BTreeMap, Vec, Global, nat_cmp, refl, sym, ap, subst, ◌∙◌, inl, inr}
+use Rattle.std.proofs.Common.{◌≡◌, ℕ, suc, Bool, true, false, cond, List, [], ◌∷◌, ◌++◌, length, map, Option, Some, None, option_map, BTreeMap, Vec, Global, nat_cmp, refl, sym, ap, subst, ◌∙◌, inl, inr}
 use Rattle.std.proofs.lemmas.Bool.{cases_Bool, cond-true, cond-false}
 use Rattle.std.proofs.lemmas.Map.Text.{is_eq-slice_cmp}
 use Rattle.std.specs.Str.{bytes_eq}
@@ -8,7 +8,7 @@ use Rattle.std.specs.Cmp.{eq_by_cmp_equiv}
 use Rattle.std.specs.Cmp.Lexicographic.{slice_cmp, bytes_decides, nat_list_cmp_total, nat_list_eq_equiv}
 use Rattle.std.specs.Map.{lookup, IsKeyTest, AreApart, KeepsOthers}
 use Rattle.std.specs.BTreeMap.{get_by, UpdatesBy}
-use Rattle.policy_checks.specs.Index.{place_of}
+use Rattle.policy_checks.specs.Index.{place_of, found}
 
 apart : (bs cs ks : List ℕ) → bytes_eq bs cs ≡ false → bytes_eq bs ks ≡ true → bytes_eq cs ks ≡ false
 apart bs cs ks n y = nat_list_eq_equiv.symm cs ks ∙ sym (nat_list_eq_equiv.congr bs ks cs y) ∙ n
@@ -85,3 +85,10 @@ place_of-again name q names n e =
           found ∙ sym (place_of-append q names (name ∷ []) n found)
       | inr other ↦ place_of-other q name names other
     ]
+
+-- what stands beside a name is what the map finds at it
+pub found_pairs : (name : List ℕ) (es : List (Vec ℕ Global × ℕ)) → found name (map (λ e. (e.0.items, e.1)) es) ≡ lookup (λ k. is_eq (slice_cmp nat_cmp name k.items)) es
+found_pairs name [] = refl
+found_pairs name (e ∷ es) =
+    ap (λ b. cond b (Some e.1) (found name (map (λ e. (e.0.items, e.1)) es))) (sym (is_eq-slice_cmp name e.0.items))
+    ∙ ap (cond (is_eq (slice_cmp nat_cmp name e.0.items)) (Some e.1)) (found_pairs name es)

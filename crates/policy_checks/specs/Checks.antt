@@ -6,7 +6,6 @@ use Rattle.std.specs.Str.{bytes_eq}
 use Rattle.hex.specs.Hex.{decode_of}
 use Rattle.names_realms.specs.Realms.{realm_fault}
 use Rattle.policy_tables.specs.declared.tables.PolicyTables.{PolicyTables}
-use Rattle.policy_checks.specs.declared.index.NameIndex.{NameIndex}
 use Rattle.policy_checks.specs.declared.texts.TextKind.{TextKind}
 use Rattle.policy_checks.specs.declared.texts.TextKind.TheVariants.{Secret, UserName, Token, GroupName, Member, RoleName, Permission, RealmName, Extended, BoundRole, Principal}
 use Rattle.policy_checks.specs.declared.texts.Check.{Check}
@@ -28,7 +27,7 @@ abbrev pub realm_names : PolicyTables → List (List ℕ)
 realm_names t = map (λ r. r.name) t.realms
 
 -- the indexes have the places of the names in the tables
-pub record IsIndexed (users groups roles realms : NameIndex) (t : PolicyTables) : Type 0 where
+pub record IsIndexed (users groups roles realms : List (List ℕ × ℕ)) (t : PolicyTables) : Type 0 where
   pub users_are : IsIndexOf users (user_names t)
   pub groups_are : IsIndexOf groups (group_names t)
   pub roles_are : IsIndexOf roles (role_names t)

@@ -1,10 +1,9 @@
 -- The twelve permissions and their texts.
-use Rattle.std.specs.Prelude.{ℕ, List, Option, codes}
+use Rattle.std.specs.Prelude.{ℕ, List, [], ◌∷◌, Option, codes}
 use Rattle.std.specs.List.{find}
 use Rattle.std.specs.Str.{bytes_eq}
 use Rattle.policy_checks.specs.declared.permission.Permission.{Permission}
 use Rattle.policy_checks.specs.declared.permission.Permission.TheVariants.{CreateInvocation, CreateWithReservedId, GetInvocation, IncludeInvocation, GetTestResult, ListTestResults, ListLimitedTestResults, GetTestExoneration, ListTestExonerations, ListLimitedTestExonerations, GetArtifact, ListArtifacts}
-use Rattle.policy_checks.specs.declared.permission.TheConstants.{EVERY}
 
 -- each permission's text
 abbrev pub permission_text : Permission → List ℕ
@@ -21,6 +20,23 @@ permission_text ListLimitedTestExonerations = codes "resultdb.testExonerations.l
 permission_text GetArtifact = codes "resultdb.artifacts.get"
 permission_text ListArtifacts = codes "resultdb.artifacts.list"
 
+-- every permission
+abbrev pub every_permission : List Permission
+every_permission =
+    CreateInvocation
+    ∷ CreateWithReservedId
+    ∷ GetInvocation
+    ∷ IncludeInvocation
+    ∷ GetTestResult
+    ∷ ListTestResults
+    ∷ ListLimitedTestResults
+    ∷ GetTestExoneration
+    ∷ ListTestExonerations
+    ∷ ListLimitedTestExonerations
+    ∷ GetArtifact
+    ∷ ListArtifacts
+    ∷ []
+
 -- the permission whose text this is
 unfoldable pub permission_of : List ℕ → Option Permission
-permission_of text = find (λ p. bytes_eq (permission_text p) text) EVERY
+permission_of text = find (λ p. bytes_eq (permission_text p) text) every_permission

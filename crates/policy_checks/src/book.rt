@@ -11,7 +11,7 @@ use std::alloc::{AllocError, Global};
 use std::marker::Model;
 
 /// Tables in which names are found without a scan.
-#[derive(Debug, Drop)]
+#[derive(Drop)]
 pub struct Book {
     tables: PolicyTables,
     users: NameIndex,

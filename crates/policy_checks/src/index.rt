@@ -1,14 +1,23 @@
 //! Places of names, found by the name.
 ghost use Rattle.std.specs.Prelude.{◌≡◌, ℕ, List, [], ◌∷◌, ◌++◌, IfOk, OnOk, None, length, map};
-ghost use Rattle.policy_checks.specs.Index.{IsIndexOf, place_of};
+ghost use Rattle.policy_checks.specs.Index.{IsIndexOf, found, place_of};
 
 use std::alloc::{AllocError, Global};
 use std::collections::BTreeMap;
+use std::marker::Model;
 
 /// The first place of each name of a list.
-#[derive(Debug, Drop)]
+#[derive(Drop)]
 pub struct NameIndex {
     places: BTreeMap<Vec<u8>, usize>,
+}
+
+impl Model for NameIndex {
+    ghost use Rattle.std.specs.Prelude.{ℕ, List, map};
+
+    ghost Value = { List (List ℕ × ℕ) };
+
+    ghost view = { λ i. map (λ e. (e.0.items, e.1)) i.places.entries };
 }
 
 /// What has a name.
@@ -31,7 +40,7 @@ impl NameIndex {
 
     /// The first place of a name.
     pub fn find(&self, name: &[u8]) -> Option<usize>
-        ensures { (names : List (List ℕ)) → IsIndexOf self.now names → result ≡ place_of name.now names }
+        ensures { result ≡ found name.now self.now }
     {
         self.places.get(name).copied()
     }

@@ -6,52 +6,47 @@ ghost use Rattle.policy_checks.specs.Index.{IsIndexOf};
 ghost use Rattle.policy_checks.specs.Owners.{repeated};
 
 use crate::index::NameIndex;
-use policy_tables::{Finding, User, note_path};
-use std::alloc::{AllocError, Global};
+use policy_tables::{Notes, User};
+use std::alloc::AllocError;
 
 /// Notes a token that is there already.
-fn note_if(
-    alloc: Global,
-    least: &mut Option<Finding>,
-    there: bool,
-    token: &[u8],
-) -> Result<(), AllocError>
-    ensures { OnOk result (least.new ≡ least_with least.old (if there then at token.now ∷ [] else [])) }
+fn note_if(notes: &mut Notes, there: bool, token: &[u8]) -> Result<(), AllocError>
+    requires { notes.old.path ≡ [] }
+    ensures path { OnOk result (notes.new.path ≡ []) }
+    ensures least { OnOk result (notes.new.least ≡ least_with notes.old.least (if there then at token.now ∷ [] else [])) }
 {
     if there {
-        return note_path(alloc, least, token);
+        return notes.note_key(token);
     }
     Ok(())
 }
 
 /// Adds the token of the next user.
 fn add_token(
-    alloc: Global,
-    least: &mut Option<Finding>,
+    notes: &mut Notes,
     index: &mut NameIndex,
     token: &[u8],
     place: usize,
 ) -> Result<(), AllocError>
+    requires { notes.old.path ≡ [] }
+    ensures path { OnOk result (notes.new.path ≡ []) }
     ensures index { (seen : List (List ℕ)) → IsIndexOf index.old seen → place ≡ length seen → OnOk result (IsIndexOf index.new (seen ++ token.now ∷ [])) }
-    ensures least { (seen : List (List ℕ)) → IsIndexOf index.old seen → OnOk result (least.new ≡ least_with least.old (if is_there token.now seen then at token.now ∷ [] else [])) }
+    ensures least { (seen : List (List ℕ)) → IsIndexOf index.old seen → OnOk result (notes.new.least ≡ least_with notes.old.least (if is_there token.now seen then at token.now ∷ [] else [])) }
 {
     let there = index.find(token).is_some();
-    note_if(alloc, least, there, token)?;
-    index.add(alloc, token, place)
+    note_if(notes, there, token)?;
+    index.add(notes.alloc(), token, place)
 }
 
 /// The index of the users' tokens, with the least token that two of them have.
-pub fn index_tokens(
-    alloc: Global,
-    least: &mut Option<Finding>,
-    users: &[User],
-) -> Result<NameIndex, AllocError>
+pub fn index_tokens(notes: &mut Notes, users: &[User]) -> Result<NameIndex, AllocError>
+    requires { notes.old.path ≡ [] }
     ensures index { IfOk result (λ index. IsIndexOf index (map (λ u. u.token) users.now)) }
-    ensures least { OnOk result (least.new ≡ least_with least.old (repeated [] users.now)) }
+    ensures least { OnOk result (notes.new.least ≡ least_with notes.old.least (repeated [] users.now)) }
 {
-    let mut index = NameIndex::new(alloc);
+    let mut index = NameIndex::new(notes.alloc());
     for (place, user) in users.iter().enumerate() {
-        add_token(alloc, least, &mut index, user.token.as_slice(), place)?;
+        add_token(notes, &mut index, user.token.as_slice(), place)?;
     }
     Ok(index)
 }

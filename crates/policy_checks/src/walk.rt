@@ -1,5 +1,5 @@
 //! Every text of a configuration, checked in turn.
-ghost use Rattle.std.specs.Prelude.{◌≡◌, ℕ, List, [], ◌∷◌, OnOk, IfOk, None};
+ghost use Rattle.std.specs.Prelude.{◌≡◌, ℕ, List, [], ◌∷◌, OnOk, IfOk};
 ghost use Rattle.std.specs.Fmt.{decimal};
 ghost use Rattle.policy_tables.specs.Findings.{joined, least_of};
 ghost use Rattle.policy_checks.specs.Spots.{spot, text_spots, spots_of, all_spots, failing, with_spots, Spot};
@@ -8,81 +8,96 @@ use crate::book::Book;
 use crate::check::fails;
 use crate::texts::{Check, TextKind};
 use name_parts::Bytes;
-use policy_tables::{
-    Binding, Finding, Group, RealmTable, Role, User, note_text, path_of_key, path_of_place,
-};
+use policy_tables::{Binding, Finding, Group, Notes, RealmTable, Role, User};
 use std::alloc::{AllocError, Global};
 
-/// Checks a text that stands at a path.
-fn look(
-    alloc: Global,
-    least: &mut Option<Finding>,
-    book: &Book,
+/// A check of a configuration's texts.
+#[derive(Drop)]
+struct Checker<'b> {
+    book: &'b Book,
     check: Check,
-    kind: TextKind,
-    path: &[u8],
-    text: &[u8],
-) -> Result<(), AllocError>
-    ensures { OnOk result (least.new ≡ with_spots book.now check least.old (spot kind path.now text.now ∷ [])) }
+}
+
+/// Checks the text that stands at the path.
+fn look(checker: &Checker, notes: &mut Notes, kind: TextKind, text: &[u8]) -> Result<(), AllocError>
+    ensures path { OnOk result (notes.new.path ≡ notes.old.path) }
+    ensures least { OnOk result (notes.new.least ≡ with_spots checker.now.book.now checker.now.check notes.old.least (spot kind notes.old.path text.now ∷ [])) }
 {
-    if fails(alloc, book, check, kind, text)? {
-        return note_text(alloc, least, path, text);
+    if fails(notes.alloc(), checker.book, checker.check, kind, text)? {
+        return notes.note(text);
     }
     Ok(())
 }
 
-/// Checks a text that stands at a key of the table at a path.
+/// Checks the text at a key of the table at the path.
+#[tactic(auto, using(policy_tables::proofs::PathLemmas::front_of_joined))]
 fn look_at_key(
-    alloc: Global,
-    least: &mut Option<Finding>,
-    book: &Book,
-    check: Check,
-    kind: TextKind,
-    at: &[u8],
+    checker: &Checker,
+    notes: &mut Notes,
     key: &[u8],
+    kind: TextKind,
     text: &[u8],
 ) -> Result<(), AllocError>
-    ensures { OnOk result (least.new ≡ with_spots book.now check least.old (spot kind (joined at.now key.now) text.now ∷ [])) }
+    ensures path { OnOk result (notes.new.path ≡ notes.old.path) }
+    ensures least { OnOk result (notes.new.least ≡ with_spots checker.now.book.now checker.now.check notes.old.least (spot kind (joined notes.old.path key.now) text.now ∷ [])) }
 {
-    let path = path_of_key(alloc, at, key)?;
-    look(alloc, least, book, check, kind, path.as_slice(), text)
+    let len = notes.enter_key(key)?;
+    look(checker, notes, kind, text)?;
+    notes.leave(len);
+    Ok(())
 }
 
-/// Checks a text that stands at a place of the list at a path.
+/// Checks the text at a place of the list at the path.
+#[tactic(auto, using(policy_tables::proofs::PathLemmas::front_of_joined))]
 fn look_at_place(
-    alloc: Global,
-    least: &mut Option<Finding>,
-    book: &Book,
-    check: Check,
-    kind: TextKind,
-    at: &[u8],
+    checker: &Checker,
+    notes: &mut Notes,
     place: usize,
+    kind: TextKind,
     text: &[u8],
 ) -> Result<(), AllocError>
-    ensures { OnOk result (least.new ≡ with_spots book.now check least.old (spot kind (joined at.now (decimal place)) text.now ∷ [])) }
+    ensures path { OnOk result (notes.new.path ≡ notes.old.path) }
+    ensures least { OnOk result (notes.new.least ≡ with_spots checker.now.book.now checker.now.check notes.old.least (spot kind (joined notes.old.path (decimal place)) text.now ∷ [])) }
 {
-    if fails(alloc, book, check, kind, text)? {
-        let path = path_of_place(alloc, at, place)?;
-        return note_text(alloc, least, path.as_slice(), text);
+    if fails(notes.alloc(), checker.book, checker.check, kind, text)? {
+        let len = notes.enter_place(place)?;
+        notes.note(text)?;
+        notes.leave(len);
     }
     Ok(())
 }
 
-/// Checks the texts of the list at a path.
-fn look_at_texts(
-    alloc: Global,
-    least: &mut Option<Finding>,
-    book: &Book,
-    check: Check,
+/// Checks the texts of the list at the path.
+fn look_at_items(
+    checker: &Checker,
+    notes: &mut Notes,
     kind: TextKind,
-    at: &[u8],
     texts: &[Bytes],
 ) -> Result<(), AllocError>
-    ensures { OnOk result (least.new ≡ with_spots book.now check least.old (text_spots kind at.now 0 texts.now)) }
+    ensures path { OnOk result (notes.new.path ≡ notes.old.path) }
+    ensures least { OnOk result (notes.new.least ≡ with_spots checker.now.book.now checker.now.check notes.old.least (text_spots kind notes.old.path 0 texts.now)) }
 {
     for (place, text) in texts.iter().enumerate() {
-        look_at_place(alloc, least, book, check, kind, at, place, text.as_slice())?;
+        look_at_place(checker, notes, place, kind, text.as_slice())?;
     }
+    Ok(())
+}
+
+/// Checks the texts of the list at a key of the table at the path.
+#[tactic(auto, using(policy_tables::proofs::PathLemmas::front_of_joined))]
+fn look_at_texts(
+    checker: &Checker,
+    notes: &mut Notes,
+    key: &[u8],
+    kind: TextKind,
+    texts: &[Bytes],
+) -> Result<(), AllocError>
+    ensures path { OnOk result (notes.new.path ≡ notes.old.path) }
+    ensures least { OnOk result (notes.new.least ≡ with_spots checker.now.book.now checker.now.check notes.old.least (text_spots kind (joined notes.old.path key.now) 0 texts.now)) }
+{
+    let len = notes.enter_key(key)?;
+    look_at_items(checker, notes, kind, texts)?;
+    notes.leave(len);
     Ok(())
 }
 
@@ -92,32 +107,40 @@ trait Texts {
     ghost spots: { List ℕ → ℕ → Self → List Spot };
 
     /// Checks each of them.
-    fn look(
-        &self,
-        alloc: Global,
-        least: &mut Option<Finding>,
-        book: &Book,
-        check: Check,
-        at: &[u8],
-        place: usize,
-    ) -> Result<(), AllocError>
-        ensures { OnOk result (least.new ≡ with_spots book.now check least.old (spots at.now place self.now)) };
+    fn look(&self, checker: &Checker, notes: &mut Notes, place: usize) -> Result<(), AllocError>
+        ensures path { OnOk result (notes.new.path ≡ notes.old.path) }
+        ensures least { OnOk result (notes.new.least ≡ with_spots checker.now.book.now checker.now.check notes.old.least (spots notes.old.path place self.now)) };
 }
 
-/// Checks the texts of each of these.
-fn look_at_all<T: Texts>(
-    alloc: Global,
-    least: &mut Option<Finding>,
-    book: &Book,
-    check: Check,
-    at: &[u8],
+/// Checks the texts of each row of the list or table at the path.
+fn look_at_rows<T: Texts>(
+    checker: &Checker,
+    notes: &mut Notes,
     rows: &[T],
 ) -> Result<(), AllocError>
-    ensures { OnOk result (least.new ≡ with_spots book.now check least.old (spots_of T.spots at.now 0 rows.now)) }
+    ensures path { OnOk result (notes.new.path ≡ notes.old.path) }
+    ensures least { OnOk result (notes.new.least ≡ with_spots checker.now.book.now checker.now.check notes.old.least (spots_of T.spots notes.old.path 0 rows.now)) }
 {
     for (place, row) in rows.iter().enumerate() {
-        row.look(alloc, least, book, check, at, place)?;
+        row.look(checker, notes, place)?;
     }
+    Ok(())
+}
+
+/// Checks the texts of each row of the list or table at a key.
+#[tactic(auto, using(policy_tables::proofs::PathLemmas::front_of_joined))]
+fn look_at_all<T: Texts>(
+    checker: &Checker,
+    notes: &mut Notes,
+    key: &[u8],
+    rows: &[T],
+) -> Result<(), AllocError>
+    ensures path { OnOk result (notes.new.path ≡ notes.old.path) }
+    ensures least { OnOk result (notes.new.least ≡ with_spots checker.now.book.now checker.now.check notes.old.least (spots_of T.spots (joined notes.old.path key.now) 0 rows.now)) }
+{
+    let len = notes.enter_key(key)?;
+    look_at_rows(checker, notes, rows)?;
+    notes.leave(len);
     Ok(())
 }
 
@@ -126,36 +149,20 @@ impl Texts for User {
 
     ghost spots = { user_spots };
 
-    fn look(
-        &self,
-        alloc: Global,
-        least: &mut Option<Finding>,
-        book: &Book,
-        check: Check,
-        at: &[u8],
-        place: usize,
-    ) -> Result<(), AllocError> {
+    #[tactic(auto, using(policy_tables::proofs::PathLemmas::front_of_joined))]
+    fn look(&self, checker: &Checker, notes: &mut Notes, place: usize) -> Result<(), AllocError> {
         let _ = place;
-        let path = path_of_key(alloc, at, self.name.as_slice())?;
-        look(
-            alloc,
-            least,
-            book,
-            check,
-            TextKind::UserName,
-            path.as_slice(),
-            self.name.as_slice(),
-        )?;
+        let len = notes.enter_key(self.name.as_slice())?;
+        look(checker, notes, TextKind::UserName, self.name.as_slice())?;
         look_at_key(
-            alloc,
-            least,
-            book,
-            check,
-            TextKind::Token,
-            path.as_slice(),
+            checker,
+            notes,
             b"token",
+            TextKind::Token,
             self.token.as_slice(),
-        )
+        )?;
+        notes.leave(len);
+        Ok(())
     }
 }
 
@@ -164,36 +171,20 @@ impl Texts for Group {
 
     ghost spots = { group_spots };
 
-    fn look(
-        &self,
-        alloc: Global,
-        least: &mut Option<Finding>,
-        book: &Book,
-        check: Check,
-        at: &[u8],
-        place: usize,
-    ) -> Result<(), AllocError> {
+    #[tactic(auto, using(policy_tables::proofs::PathLemmas::front_of_joined))]
+    fn look(&self, checker: &Checker, notes: &mut Notes, place: usize) -> Result<(), AllocError> {
         let _ = place;
-        let path = path_of_key(alloc, at, self.name.as_slice())?;
-        look(
-            alloc,
-            least,
-            book,
-            check,
-            TextKind::GroupName,
-            path.as_slice(),
-            self.name.as_slice(),
-        )?;
-        let members = path_of_key(alloc, path.as_slice(), b"members")?;
+        let len = notes.enter_key(self.name.as_slice())?;
+        look(checker, notes, TextKind::GroupName, self.name.as_slice())?;
         look_at_texts(
-            alloc,
-            least,
-            book,
-            check,
+            checker,
+            notes,
+            b"members",
             TextKind::Member,
-            members.as_slice(),
             self.members.as_slice(),
-        )
+        )?;
+        notes.leave(len);
+        Ok(())
     }
 }
 
@@ -202,36 +193,20 @@ impl Texts for Role {
 
     ghost spots = { role_spots };
 
-    fn look(
-        &self,
-        alloc: Global,
-        least: &mut Option<Finding>,
-        book: &Book,
-        check: Check,
-        at: &[u8],
-        place: usize,
-    ) -> Result<(), AllocError> {
+    #[tactic(auto, using(policy_tables::proofs::PathLemmas::front_of_joined))]
+    fn look(&self, checker: &Checker, notes: &mut Notes, place: usize) -> Result<(), AllocError> {
         let _ = place;
-        let path = path_of_key(alloc, at, self.name.as_slice())?;
-        look(
-            alloc,
-            least,
-            book,
-            check,
-            TextKind::RoleName,
-            path.as_slice(),
-            self.name.as_slice(),
-        )?;
-        let permissions = path_of_key(alloc, path.as_slice(), b"permissions")?;
+        let len = notes.enter_key(self.name.as_slice())?;
+        look(checker, notes, TextKind::RoleName, self.name.as_slice())?;
         look_at_texts(
-            alloc,
-            least,
-            book,
-            check,
+            checker,
+            notes,
+            b"permissions",
             TextKind::Permission,
-            permissions.as_slice(),
             self.permissions.as_slice(),
-        )
+        )?;
+        notes.leave(len);
+        Ok(())
     }
 }
 
@@ -240,36 +215,25 @@ impl Texts for Binding {
 
     ghost spots = { binding_spots };
 
-    fn look(
-        &self,
-        alloc: Global,
-        least: &mut Option<Finding>,
-        book: &Book,
-        check: Check,
-        at: &[u8],
-        place: usize,
-    ) -> Result<(), AllocError> {
-        let path = path_of_place(alloc, at, place)?;
+    #[tactic(auto, using(policy_tables::proofs::PathLemmas::front_of_joined))]
+    fn look(&self, checker: &Checker, notes: &mut Notes, place: usize) -> Result<(), AllocError> {
+        let len = notes.enter_place(place)?;
         look_at_key(
-            alloc,
-            least,
-            book,
-            check,
-            TextKind::BoundRole,
-            path.as_slice(),
+            checker,
+            notes,
             b"role",
+            TextKind::BoundRole,
             self.role.as_slice(),
         )?;
-        let principals = path_of_key(alloc, path.as_slice(), b"principals")?;
         look_at_texts(
-            alloc,
-            least,
-            book,
-            check,
+            checker,
+            notes,
+            b"principals",
             TextKind::Principal,
-            principals.as_slice(),
             self.principals.as_slice(),
-        )
+        )?;
+        notes.leave(len);
+        Ok(())
     }
 }
 
@@ -278,86 +242,41 @@ impl Texts for RealmTable {
 
     ghost spots = { realm_spots };
 
-    fn look(
-        &self,
-        alloc: Global,
-        least: &mut Option<Finding>,
-        book: &Book,
-        check: Check,
-        at: &[u8],
-        place: usize,
-    ) -> Result<(), AllocError> {
+    #[tactic(auto, using(policy_tables::proofs::PathLemmas::front_of_joined))]
+    fn look(&self, checker: &Checker, notes: &mut Notes, place: usize) -> Result<(), AllocError> {
         let _ = place;
-        let path = path_of_key(alloc, at, self.name.as_slice())?;
-        look(
-            alloc,
-            least,
-            book,
-            check,
-            TextKind::RealmName,
-            path.as_slice(),
-            self.name.as_slice(),
-        )?;
-        let extends = path_of_key(alloc, path.as_slice(), b"extends")?;
+        let len = notes.enter_key(self.name.as_slice())?;
+        look(checker, notes, TextKind::RealmName, self.name.as_slice())?;
         look_at_texts(
-            alloc,
-            least,
-            book,
-            check,
+            checker,
+            notes,
+            b"extends",
             TextKind::Extended,
-            extends.as_slice(),
             self.extends.as_slice(),
         )?;
-        let bindings = path_of_key(alloc, path.as_slice(), b"bindings")?;
-        look_at_all(
-            alloc,
-            least,
-            book,
-            check,
-            bindings.as_slice(),
-            self.bindings.as_slice(),
-        )
+        look_at_all(checker, notes, b"bindings", self.bindings.as_slice())?;
+        notes.leave(len);
+        Ok(())
     }
 }
 
 /// Checks each text of the tables.
-fn look_at_tables(
-    alloc: Global,
-    least: &mut Option<Finding>,
-    book: &Book,
-    check: Check,
-) -> Result<(), AllocError>
-    ensures { OnOk result (least.new ≡ with_spots book.now check least.old (all_spots book.now)) }
+fn look_at_tables(checker: &Checker, notes: &mut Notes) -> Result<(), AllocError>
+    requires { notes.old.path ≡ [] }
+    ensures { OnOk result (notes.new.least ≡ with_spots checker.now.book.now checker.now.check notes.old.least (all_spots checker.now.book.now)) }
 {
-    let tables = book.tables();
-    let secret = tables.secret.as_slice();
-    look(
-        alloc,
-        least,
-        book,
-        check,
-        TextKind::Secret,
+    let tables = checker.book.tables();
+    look_at_key(
+        checker,
+        notes,
         b"secret",
-        secret,
+        TextKind::Secret,
+        tables.secret.as_slice(),
     )?;
-    look_at_all(alloc, least, book, check, b"user", tables.users.as_slice())?;
-    look_at_all(
-        alloc,
-        least,
-        book,
-        check,
-        b"group",
-        tables.groups.as_slice(),
-    )?;
-    look_at_all(alloc, least, book, check, b"role", tables.roles.as_slice())?;
-    look_at_all(
-        alloc,
-        least,
-        book,
-        check,
-        b"realm",
-        tables.realms.as_slice(),
-    )
+    look_at_all(checker, notes, b"user", tables.users.as_slice())?;
+    look_at_all(checker, notes, b"group", tables.groups.as_slice())?;
+    look_at_all(checker, notes, b"role", tables.roles.as_slice())?;
+    look_at_all(checker, notes, b"realm", tables.realms.as_slice())
 }
 
 /// The text with the least path that isn't what the check asks for, none where each is.
@@ -368,7 +287,7 @@ pub fn first_failing(
 ) -> Result<Option<Finding>, AllocError>
     ensures { IfOk result (λ least. least ≡ least_of (failing book.now check (all_spots book.now))) }
 {
-    let mut least = None;
-    look_at_tables(alloc, &mut least, book, check)?;
-    Ok(least)
+    let mut notes = Notes::new(alloc);
+    look_at_tables(&Checker { book, check }, &mut notes)?;
+    Ok(notes.into_least())
 }

@@ -13,14 +13,14 @@ joined (b ∷ bs) key = (b ∷ bs) ++ 46 ∷ key
 abbrev pub at : List ℕ → Finding
 at path = record { path = path; text = [] }
 
--- the finding's path comes before the other's in byte order
-abbrev pub goes_first : Finding → Option Finding → Bool
-goes_first f None = true
-goes_first f (Some g) = is_lt (slice_cmp nat_cmp f.path g.path)
+-- the path comes before the finding's in byte order
+abbrev pub goes_before : List ℕ → Option Finding → Bool
+goes_before path None = true
+goes_before path (Some g) = is_lt (slice_cmp nat_cmp path g.path)
 
 -- of two findings the one with the lesser path, of equal paths the first
 abbrev pub lesser : Option Finding → Finding → Option Finding
-lesser least f = if goes_first f least then Some f else least
+lesser least f = if goes_before f.path least then Some f else least
 
 -- the least after these findings too
 abbrev pub least_with : Option Finding → List Finding → Option Finding

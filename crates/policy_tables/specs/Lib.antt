@@ -1,3 +1,4 @@
 pub mod Document
 pub mod Entries
 pub mod Findings
+pub mod Notes

@@ -2,10 +2,11 @@
 ghost use Rattle.std.specs.Prelude.{◌≡◌, ℕ, List, [], ◌++◌, IfOk, OnOk, option_map};
 ghost use Rattle.toml.specs.Data.{Members, as_table};
 ghost use Rattle.toml.specs.View.{view, table_view, array_view};
-ghost use Rattle.policy_tables.specs.Findings.{least_with};
+ghost use Rattle.policy_tables.specs.Findings.{joined, least_with};
 ghost use Rattle.policy_tables.specs.Document.{table_findings, with_entry, entries_of, entries_findings, section_of, section_findings, item_bindings, item_bindings_findings, bindings_of, bindings_findings, tables_of, shape_findings};
 
-use crate::findings::{Finding, copied, note_path, path_of_key, path_of_place};
+use crate::findings::copied;
+use crate::notes::Notes;
 use crate::read::{
     find_list, find_table, note_if_there, note_unknown, read_text, read_texts, read_texts_if_there,
 };
@@ -27,15 +28,10 @@ trait Entry: Drop {
     ghost findings: { List ℕ → Members → List Finding };
 
     /// Reads the entry of a key, whose table stands at a path.
-    fn read(
-        alloc: Global,
-        least: &mut Option<Finding>,
-        at: &[u8],
-        name: &[u8],
-        table: &Table,
-    ) -> Result<Self, AllocError>
+    fn read(notes: &mut Notes, name: &[u8], table: &Table) -> Result<Self, AllocError>
         ensures entry { IfOk result (λ e. e ≡ entry name.now (table_view table.now)) }
-        ensures least { OnOk result (least.new ≡ least_with least.old (findings at.now (table_view table.now))) };
+        ensures path { OnOk result (notes.new.path ≡ notes.old.path) }
+        ensures least { OnOk result (notes.new.least ≡ least_with notes.old.least (findings notes.old.path (table_view table.now))) };
 }
 
 impl Entry for User {
@@ -45,17 +41,11 @@ impl Entry for User {
 
     ghost findings = { user_findings };
 
-    fn read(
-        alloc: Global,
-        least: &mut Option<Finding>,
-        at: &[u8],
-        name: &[u8],
-        table: &Table,
-    ) -> Result<Self, AllocError> {
-        note_unknown(alloc, least, Shape::User, at, table)?;
-        let token = read_text(alloc, least, at, table, "token")?;
+    fn read(notes: &mut Notes, name: &[u8], table: &Table) -> Result<Self, AllocError> {
+        note_unknown(notes, Shape::User, table)?;
+        let token = read_text(notes, table, "token")?;
         Ok(User {
-            name: copied(alloc, name)?,
+            name: copied(notes.alloc(), name)?,
             token,
         })
     }
@@ -68,17 +58,11 @@ impl Entry for Group {
 
     ghost findings = { group_findings };
 
-    fn read(
-        alloc: Global,
-        least: &mut Option<Finding>,
-        at: &[u8],
-        name: &[u8],
-        table: &Table,
-    ) -> Result<Self, AllocError> {
-        note_unknown(alloc, least, Shape::Group, at, table)?;
-        let members = read_texts(alloc, least, at, table, "members")?;
+    fn read(notes: &mut Notes, name: &[u8], table: &Table) -> Result<Self, AllocError> {
+        note_unknown(notes, Shape::Group, table)?;
+        let members = read_texts(notes, table, "members")?;
         Ok(Group {
-            name: copied(alloc, name)?,
+            name: copied(notes.alloc(), name)?,
             members,
         })
     }
@@ -91,17 +75,11 @@ impl Entry for Role {
 
     ghost findings = { role_findings };
 
-    fn read(
-        alloc: Global,
-        least: &mut Option<Finding>,
-        at: &[u8],
-        name: &[u8],
-        table: &Table,
-    ) -> Result<Self, AllocError> {
-        note_unknown(alloc, least, Shape::Role, at, table)?;
-        let permissions = read_texts(alloc, least, at, table, "permissions")?;
+    fn read(notes: &mut Notes, name: &[u8], table: &Table) -> Result<Self, AllocError> {
+        note_unknown(notes, Shape::Role, table)?;
+        let permissions = read_texts(notes, table, "permissions")?;
         Ok(Role {
-            name: copied(alloc, name)?,
+            name: copied(notes.alloc(), name)?,
             permissions,
         })
     }
@@ -114,17 +92,11 @@ impl Entry for Binding {
 
     ghost findings = { binding_findings };
 
-    fn read(
-        alloc: Global,
-        least: &mut Option<Finding>,
-        at: &[u8],
-        name: &[u8],
-        table: &Table,
-    ) -> Result<Self, AllocError> {
+    fn read(notes: &mut Notes, name: &[u8], table: &Table) -> Result<Self, AllocError> {
         let _ = name;
-        note_unknown(alloc, least, Shape::Binding, at, table)?;
-        let role = read_text(alloc, least, at, table, "role")?;
-        let principals = read_texts(alloc, least, at, table, "principals")?;
+        note_unknown(notes, Shape::Binding, table)?;
+        let role = read_text(notes, table, "role")?;
+        let principals = read_texts(notes, table, "principals")?;
         Ok(Binding { role, principals })
     }
 }
@@ -136,18 +108,12 @@ impl Entry for RealmTable {
 
     ghost findings = { realm_findings };
 
-    fn read(
-        alloc: Global,
-        least: &mut Option<Finding>,
-        at: &[u8],
-        name: &[u8],
-        table: &Table,
-    ) -> Result<Self, AllocError> {
-        note_unknown(alloc, least, Shape::Realm, at, table)?;
-        let extends = read_texts_if_there(alloc, least, at, table, "extends")?;
-        let bindings = read_bindings(alloc, least, at, table, "bindings")?;
+    fn read(notes: &mut Notes, name: &[u8], table: &Table) -> Result<Self, AllocError> {
+        note_unknown(notes, Shape::Realm, table)?;
+        let extends = read_texts_if_there(notes, table, "extends")?;
+        let bindings = read_bindings(notes, table, "bindings")?;
         Ok(RealmTable {
-            name: copied(alloc, name)?,
+            name: copied(notes.alloc(), name)?,
             extends,
             bindings,
         })
@@ -156,125 +122,131 @@ impl Entry for RealmTable {
 
 /// Reads an entry more, where a table stands at the path. Else notes the path.
 fn push_entry<E: Entry>(
-    alloc: Global,
-    least: &mut Option<Finding>,
-    at: &[u8],
+    notes: &mut Notes,
     name: &[u8],
     value: &Value,
     entries: &mut Vec<E>,
 ) -> Result<(), AllocError>
     ensures entries { OnOk result (entries.new.items ≡ entries.old.items ++ with_entry (option_map (E.entry name.now) (as_table (view value.now))) []) }
-    ensures least { OnOk result (least.new ≡ least_with least.old (table_findings E.findings at.now (as_table (view value.now)))) }
+    ensures path { OnOk result (notes.new.path ≡ notes.old.path) }
+    ensures least { OnOk result (notes.new.least ≡ least_with notes.old.least (table_findings E.findings notes.old.path (as_table (view value.now)))) }
 {
     match value.as_table() {
         Some(table) => {
-            entries.push(E::read(alloc, least, at, name, table)?)?;
+            entries.push(E::read(notes, name, table)?)?;
             Ok(())
         }
-        None => note_path(alloc, least, at),
+        None => notes.note(b""),
     }
 }
 
 /// Reads the bindings in a list that stands at a path.
-fn read_binding_items(
-    alloc: Global,
-    least: &mut Option<Finding>,
-    at: &[u8],
-    array: &Array,
-) -> Result<Vec<Binding>, AllocError>
+#[tactic(auto, using(crate::proofs::PathLemmas::front_of_joined))]
+fn read_binding_items(notes: &mut Notes, array: &Array) -> Result<Vec<Binding>, AllocError>
     ensures bindings { IfOk result (λ bindings. bindings.items ≡ item_bindings (array_view array.now)) }
-    ensures least { OnOk result (least.new ≡ least_with least.old (item_bindings_findings at.now 0 (array_view array.now))) }
+    ensures path { OnOk result (notes.new.path ≡ notes.old.path) }
+    ensures least { OnOk result (notes.new.least ≡ least_with notes.old.least (item_bindings_findings notes.old.path 0 (array_view array.now))) }
 {
-    let mut bindings = Vec::new(alloc);
+    let mut bindings = Vec::new(notes.alloc());
     for (place, value) in array.iter().enumerate() {
-        let path = path_of_place(alloc, at, place)?;
-        push_entry(alloc, least, path.as_slice(), b"", value, &mut bindings)?;
+        let len = notes.enter_place(place)?;
+        push_entry(notes, b"", value, &mut bindings)?;
+        notes.leave(len);
     }
     Ok(bindings)
 }
 
 /// Reads the bindings at a key that may be absent. Notes where something else stands.
-fn read_bindings(
-    alloc: Global,
-    least: &mut Option<Finding>,
-    at: &[u8],
-    table: &Table,
-    key: &str,
-) -> Result<Listed<Binding>, AllocError>
+#[tactic(auto, using(crate::proofs::PathLemmas::front_of_joined))]
+fn read_bindings(notes: &mut Notes, table: &Table, key: &str) -> Result<Listed<Binding>, AllocError>
     ensures bindings { IfOk result (λ bindings. bindings ≡ bindings_of key.now (table_view table.now)) }
-    ensures least { OnOk result (least.new ≡ least_with least.old (bindings_findings at.now key.now (table_view table.now))) }
+    ensures path { OnOk result (notes.new.path ≡ notes.old.path) }
+    ensures least { OnOk result (notes.new.least ≡ least_with notes.old.least (bindings_findings notes.old.path key.now (table_view table.now))) }
 {
     match find_list(table, key) {
         Some(array) => {
-            let path = path_of_key(alloc, at, key.as_bytes())?;
-            Ok(Listed::new(read_binding_items(alloc, least, path.as_slice(), array)?))
+            let len = notes.enter_key(key.as_bytes())?;
+            let bindings = read_binding_items(notes, array)?;
+            notes.leave(len);
+            Ok(Listed::new(bindings))
         }
         None => {
-            note_if_there(alloc, least, at, table, key)?;
-            Ok(Listed::new(Vec::new(alloc)))
+            note_if_there(notes, table, key)?;
+            Ok(Listed::new(Vec::new(notes.alloc())))
         }
     }
 }
 
-/// Reads the entries of a table of tables that stands at a path.
-fn read_entries<E: Entry>(
-    alloc: Global,
-    least: &mut Option<Finding>,
-    at: &[u8],
-    table: &Table,
-) -> Result<Vec<E>, AllocError>
-    ensures entries { IfOk result (λ entries. entries.items ≡ entries_of E.entry (table_view table.now)) }
-    ensures least { OnOk result (least.new ≡ least_with least.old (entries_findings E.findings at.now (table_view table.now))) }
+/// Reads the entry of a key of the table at the path.
+#[tactic(auto, using(crate::proofs::PathLemmas::front_of_joined))]
+fn read_keyed<E: Entry>(
+    notes: &mut Notes,
+    key: &[u8],
+    value: &Value,
+    entries: &mut Vec<E>,
+) -> Result<(), AllocError>
+    ensures entries { OnOk result (entries.new.items ≡ entries.old.items ++ with_entry (option_map (E.entry key.now) (as_table (view value.now))) []) }
+    ensures path { OnOk result (notes.new.path ≡ notes.old.path) }
+    ensures least { OnOk result (notes.new.least ≡ least_with notes.old.least (table_findings E.findings (joined notes.old.path key.now) (as_table (view value.now)))) }
 {
-    let mut entries = Vec::new(alloc);
+    let len = notes.enter_key(key)?;
+    push_entry(notes, key, value, entries)?;
+    notes.leave(len);
+    Ok(())
+}
+
+/// Reads the entries of a table of tables that stands at the path.
+fn read_entries<E: Entry>(notes: &mut Notes, table: &Table) -> Result<Vec<E>, AllocError>
+    ensures entries { IfOk result (λ entries. entries.items ≡ entries_of E.entry (table_view table.now)) }
+    ensures path { OnOk result (notes.new.path ≡ notes.old.path) }
+    ensures least { OnOk result (notes.new.least ≡ least_with notes.old.least (entries_findings E.findings notes.old.path (table_view table.now))) }
+{
+    let mut entries = Vec::new(notes.alloc());
     for (key, value) in table {
-        let path = path_of_key(alloc, at, key.as_bytes())?;
-        push_entry(
-            alloc,
-            least,
-            path.as_slice(),
-            key.as_bytes(),
-            value,
-            &mut entries,
-        )?;
+        read_keyed(notes, key.as_bytes(), value, &mut entries)?;
     }
     Ok(entries)
 }
 
 /// Reads the entries at a key of the document, which may be absent.
+#[tactic(auto, using(crate::proofs::PathLemmas::front_of_joined))]
 fn read_section<E: Entry>(
-    alloc: Global,
-    least: &mut Option<Finding>,
+    notes: &mut Notes,
     document: &Table,
     key: &str,
 ) -> Result<Listed<E>, AllocError>
+    requires { notes.old.path ≡ [] }
     ensures entries { IfOk result (λ entries. entries ≡ section_of E.entry key.now (table_view document.now)) }
-    ensures least { OnOk result (least.new ≡ least_with least.old (section_findings E.findings key.now (table_view document.now))) }
+    ensures path { OnOk result (notes.new.path ≡ []) }
+    ensures least { OnOk result (notes.new.least ≡ least_with notes.old.least (section_findings E.findings key.now (table_view document.now))) }
 {
     match find_table(document, key) {
-        Some(table) => Ok(Listed::new(read_entries(alloc, least, key.as_bytes(), table)?)),
+        Some(table) => {
+            let len = notes.enter_key(key.as_bytes())?;
+            let entries = read_entries(notes, table)?;
+            notes.leave(len);
+            Ok(Listed::new(entries))
+        }
         None => {
-            note_if_there(alloc, least, b"", document, key)?;
-            Ok(Listed::new(Vec::new(alloc)))
+            note_if_there(notes, document, key)?;
+            Ok(Listed::new(Vec::new(notes.alloc())))
         }
     }
 }
 
-/// Reads the tables of a document, with the least path at which it isn't of their shape.
-pub fn read_tables(
-    alloc: Global,
-    least: &mut Option<Finding>,
-    document: &Table,
-) -> Result<PolicyTables, AllocError>
+/// Reads the tables of a document. Notes each path where it isn't of their shape.
+pub fn read_tables(notes: &mut Notes, document: &Table) -> Result<PolicyTables, AllocError>
+    requires { notes.old.path ≡ [] }
     ensures tables { IfOk result (λ tables. tables ≡ tables_of (table_view document.now)) }
-    ensures least { OnOk result (least.new ≡ least_with least.old (shape_findings (table_view document.now))) }
+    ensures path { OnOk result (notes.new.path ≡ []) }
+    ensures least { OnOk result (notes.new.least ≡ least_with notes.old.least (shape_findings (table_view document.now))) }
 {
-    note_unknown(alloc, least, Shape::Document, b"", document)?;
-    let secret = read_text(alloc, least, b"", document, "secret")?;
-    let users = read_section(alloc, least, document, "user")?;
-    let groups = read_section(alloc, least, document, "group")?;
-    let roles = read_section(alloc, least, document, "role")?;
-    let realms = read_section(alloc, least, document, "realm")?;
+    note_unknown(notes, Shape::Document, document)?;
+    let secret = read_text(notes, document, "secret")?;
+    let users = read_section(notes, document, "user")?;
+    let groups = read_section(notes, document, "group")?;
+    let roles = read_section(notes, document, "role")?;
+    let realms = read_section(notes, document, "realm")?;
     Ok(PolicyTables {
         secret,
         users,

@@ -3,6 +3,7 @@
 
 mod entries;
 mod findings;
+mod notes;
 mod read;
 mod shape;
 mod tables;
@@ -10,6 +11,7 @@ mod tables;
 mod tests;
 
 pub use entries::read_tables;
-pub use findings::{Finding, note_path, note_text, path_of_key, path_of_place};
+pub use findings::Finding;
 pub use lists::Listed;
+pub use notes::Notes;
 pub use tables::{Binding, Group, PolicyTables, RealmTable, Role, User, count_entries};

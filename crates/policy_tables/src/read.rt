@@ -6,7 +6,8 @@ ghost use Rattle.toml.specs.View.{view, table_view, array_view};
 ghost use Rattle.policy_tables.specs.Findings.{joined, least_with};
 ghost use Rattle.policy_tables.specs.Document.{is_known, unknown_keys, text_at, list_at, text_of, text_findings, missing, item_texts, item_findings, texts_of, texts_findings, wrong_kind, optional_texts_findings, table_at};
 
-use crate::findings::{Finding, copied, note_path, path_of_key, path_of_place};
+use crate::findings::copied;
+use crate::notes::Notes;
 use crate::shape::Shape;
 use lists::Listed;
 use name_parts::Bytes;
@@ -61,147 +62,106 @@ fn has_key(table: &Table, key: &str) -> bool
     }
 }
 
-/// Notes a key of the table that stands at a path.
-fn note_key(
-    alloc: Global,
-    least: &mut Option<Finding>,
-    at: &[u8],
-    key: &[u8],
-) -> Result<(), AllocError>
-    ensures { OnOk result (least.new ≡ least_with least.old (missing {A = ℕ} (joined at.now key.now) None)) }
-{
-    let path = path_of_key(alloc, at, key)?;
-    note_path(alloc, least, path.as_slice())
-}
-
 /// Reads the text at a key. Notes where there is none.
-pub(crate) fn read_text(
-    alloc: Global,
-    least: &mut Option<Finding>,
-    at: &[u8],
-    table: &Table,
-    key: &str,
-) -> Result<Bytes, AllocError>
+pub(crate) fn read_text(notes: &mut Notes, table: &Table, key: &str) -> Result<Bytes, AllocError>
     ensures text { IfOk result (λ text. text ≡ text_of key.now (table_view table.now)) }
-    ensures least { OnOk result (least.new ≡ least_with least.old (text_findings at.now key.now (table_view table.now))) }
+    ensures path { OnOk result (notes.new.path ≡ notes.old.path) }
+    ensures least { OnOk result (notes.new.least ≡ least_with notes.old.least (text_findings notes.old.path key.now (table_view table.now))) }
 {
     match find_text(table, key) {
-        Some(text) => copied(alloc, text.as_bytes()),
+        Some(text) => copied(notes.alloc(), text.as_bytes()),
         None => {
-            note_key(alloc, least, at, key.as_bytes())?;
-            Ok(no_bytes(alloc))
+            notes.note_key(key.as_bytes())?;
+            Ok(no_bytes(notes.alloc()))
         }
     }
 }
 
-/// Notes a place of the list that stands at a path.
-fn note_place(
-    alloc: Global,
-    least: &mut Option<Finding>,
-    at: &[u8],
-    place: usize,
-) -> Result<(), AllocError>
-    ensures { OnOk result (least.new ≡ least_with least.old (missing {A = ℕ} (joined at.now (decimal place)) None)) }
-{
-    let path = path_of_place(alloc, at, place)?;
-    note_path(alloc, least, path.as_slice())
-}
-
 /// Reads the text at a place of a list. Notes where it is none.
-fn read_item(
-    alloc: Global,
-    least: &mut Option<Finding>,
-    at: &[u8],
-    place: usize,
-    value: &Value,
-) -> Result<Bytes, AllocError>
+fn read_item(notes: &mut Notes, place: usize, value: &Value) -> Result<Bytes, AllocError>
     ensures text { IfOk result (λ text. text ≡ unwrap_or (as_str (view value.now)) []) }
-    ensures least { OnOk result (least.new ≡ least_with least.old (missing (joined at.now (decimal place)) (as_str (view value.now)))) }
+    ensures path { OnOk result (notes.new.path ≡ notes.old.path) }
+    ensures least { OnOk result (notes.new.least ≡ least_with notes.old.least (missing (joined notes.old.path (decimal place)) (as_str (view value.now)))) }
 {
     match value.as_str() {
-        Some(text) => copied(alloc, text.as_bytes()),
+        Some(text) => copied(notes.alloc(), text.as_bytes()),
         None => {
-            note_place(alloc, least, at, place)?;
-            Ok(no_bytes(alloc))
+            notes.note_place(place)?;
+            Ok(no_bytes(notes.alloc()))
         }
     }
 }
 
 /// Reads the texts of a list. Notes each place that holds none.
-fn read_items(
-    alloc: Global,
-    least: &mut Option<Finding>,
-    at: &[u8],
-    array: &Array,
-) -> Result<Vec<Bytes>, AllocError>
+fn read_items(notes: &mut Notes, array: &Array) -> Result<Vec<Bytes>, AllocError>
     ensures texts { IfOk result (λ texts. texts.items ≡ item_texts (array_view array.now)) }
-    ensures least { OnOk result (least.new ≡ least_with least.old (item_findings at.now 0 (array_view array.now))) }
+    ensures path { OnOk result (notes.new.path ≡ notes.old.path) }
+    ensures least { OnOk result (notes.new.least ≡ least_with notes.old.least (item_findings notes.old.path 0 (array_view array.now))) }
 {
-    let mut texts = Vec::new(alloc);
+    let mut texts = Vec::new(notes.alloc());
     for (place, value) in array.iter().enumerate() {
-        texts.push(read_item(alloc, least, at, place, value)?)?;
+        texts.push(read_item(notes, place, value)?)?;
     }
     Ok(texts)
 }
 
 /// Reads the list of texts at a key. Notes where there is none.
+#[tactic(auto, using(crate::proofs::PathLemmas::front_of_joined))]
 pub(crate) fn read_texts(
-    alloc: Global,
-    least: &mut Option<Finding>,
-    at: &[u8],
+    notes: &mut Notes,
     table: &Table,
     key: &str,
 ) -> Result<Listed<Bytes>, AllocError>
     ensures texts { IfOk result (λ texts. texts ≡ texts_of key.now (table_view table.now)) }
-    ensures least { OnOk result (least.new ≡ least_with least.old (texts_findings at.now key.now (table_view table.now))) }
+    ensures path { OnOk result (notes.new.path ≡ notes.old.path) }
+    ensures least { OnOk result (notes.new.least ≡ least_with notes.old.least (texts_findings notes.old.path key.now (table_view table.now))) }
 {
     match find_list(table, key) {
         Some(array) => {
-            let path = path_of_key(alloc, at, key.as_bytes())?;
-            Ok(Listed::new(read_items(alloc, least, path.as_slice(), array)?))
+            let len = notes.enter_key(key.as_bytes())?;
+            let texts = read_items(notes, array)?;
+            notes.leave(len);
+            Ok(Listed::new(texts))
         }
         None => {
-            note_key(alloc, least, at, key.as_bytes())?;
-            Ok(Listed::new(Vec::new(alloc)))
+            notes.note_key(key.as_bytes())?;
+            Ok(Listed::new(Vec::new(notes.alloc())))
         }
     }
 }
 
 /// Notes what stands at a key, if anything does.
-pub(crate) fn note_if_there(
-    alloc: Global,
-    least: &mut Option<Finding>,
-    at: &[u8],
-    table: &Table,
-    key: &str,
-) -> Result<(), AllocError>
-    ensures { OnOk result (least.new ≡ least_with least.old (wrong_kind (joined at.now key.now) (get_member key.now (table_view table.now)))) }
+pub(crate) fn note_if_there(notes: &mut Notes, table: &Table, key: &str) -> Result<(), AllocError>
+    ensures path { OnOk result (notes.new.path ≡ notes.old.path) }
+    ensures least { OnOk result (notes.new.least ≡ least_with notes.old.least (wrong_kind (joined notes.old.path key.now) (get_member key.now (table_view table.now)))) }
 {
     if has_key(table, key) {
-        return note_key(alloc, least, at, key.as_bytes());
+        return notes.note_key(key.as_bytes());
     }
     Ok(())
 }
 
 /// Reads the list of texts at a key that may be absent. Notes where something else stands.
+#[tactic(auto, using(crate::proofs::PathLemmas::front_of_joined))]
 pub(crate) fn read_texts_if_there(
-    alloc: Global,
-    least: &mut Option<Finding>,
-    at: &[u8],
+    notes: &mut Notes,
     table: &Table,
     key: &str,
 ) -> Result<Listed<Bytes>, AllocError>
     ensures texts { IfOk result (λ texts. texts ≡ texts_of key.now (table_view table.now)) }
-    ensures least { OnOk result (least.new ≡ least_with least.old (optional_texts_findings at.now key.now (table_view table.now))) }
+    ensures path { OnOk result (notes.new.path ≡ notes.old.path) }
+    ensures least { OnOk result (notes.new.least ≡ least_with notes.old.least (optional_texts_findings notes.old.path key.now (table_view table.now))) }
 {
     match find_list(table, key) {
         Some(array) => {
-            let path = path_of_key(alloc, at, key.as_bytes())?;
-            Ok(Listed::new(read_items(alloc, least, path.as_slice(), array)?))
+            let len = notes.enter_key(key.as_bytes())?;
+            let texts = read_items(notes, array)?;
+            notes.leave(len);
+            Ok(Listed::new(texts))
         }
         None => {
-            note_if_there(alloc, least, at, table, key)?;
-            Ok(Listed::new(Vec::new(alloc)))
+            note_if_there(notes, table, key)?;
+            Ok(Listed::new(Vec::new(notes.alloc())))
         }
     }
 }
@@ -225,18 +185,13 @@ fn may_have(shape: Shape, key: &str) -> bool
 }
 
 /// Notes each key that a table of this kind may not have.
-pub(crate) fn note_unknown(
-    alloc: Global,
-    least: &mut Option<Finding>,
-    shape: Shape,
-    at: &[u8],
-    table: &Table,
-) -> Result<(), AllocError>
-    ensures { OnOk result (least.new ≡ least_with least.old (unknown_keys shape at.now (table_view table.now))) }
+pub(crate) fn note_unknown(notes: &mut Notes, shape: Shape, table: &Table) -> Result<(), AllocError>
+    ensures path { OnOk result (notes.new.path ≡ notes.old.path) }
+    ensures least { OnOk result (notes.new.least ≡ least_with notes.old.least (unknown_keys shape notes.old.path (table_view table.now))) }
 {
     for (key, _) in table {
         if !may_have(shape, key.as_str()) {
-            note_key(alloc, least, at, key.as_bytes())?;
+            notes.note_key(key.as_bytes())?;
         }
     }
     Ok(())

@@ -6,35 +6,35 @@ use lists::Listed;
 use name_parts::Bytes;
 
 /// A user: a name, and the token that the user shows.
-#[derive(Debug, Drop)]
+#[derive(Drop)]
 pub struct User {
     pub name: Bytes,
     pub token: Bytes,
 }
 
 /// A group: a name, and the names of the users in it.
-#[derive(Debug, Drop)]
+#[derive(Drop)]
 pub struct Group {
     pub name: Bytes,
     pub members: Listed<Bytes>,
 }
 
 /// A role: a name, and the permissions that it holds.
-#[derive(Debug, Drop)]
+#[derive(Drop)]
 pub struct Role {
     pub name: Bytes,
     pub permissions: Listed<Bytes>,
 }
 
 /// A role, and to whom it is given.
-#[derive(Debug, Drop)]
+#[derive(Drop)]
 pub struct Binding {
     pub role: Bytes,
     pub principals: Listed<Bytes>,
 }
 
 /// A realm: a name, the realms that it extends, and the bindings in it.
-#[derive(Debug, Drop)]
+#[derive(Drop)]
 pub struct RealmTable {
     pub name: Bytes,
     pub extends: Listed<Bytes>,
@@ -42,7 +42,7 @@ pub struct RealmTable {
 }
 
 /// The tables of a configuration, each in byte order of the names in it, and the secret in hex digits.
-#[derive(Debug, Drop)]
+#[derive(Drop)]
 pub struct PolicyTables {
     pub secret: Bytes,
     pub users: Listed<User>,

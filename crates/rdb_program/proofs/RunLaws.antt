@@ -218,36 +218,34 @@ says_served words before tb after ta cause run =
           ends_at _ before cause after s stream ms (stream_ends.Fault fault) 8 told framed few fine takes (λ e. absurd (fault_not_finished fault e)) (λ f e. refl);
     }
 
+-- A run that touched nothing, by one of the statuses 1 and 7.
+says_untouched : (status : ℕ) (words : List (List ℕ)) (before after : Ends) → after ≡ before → (status ≡ 1) ⊎ (status ≡ 7)
+    → (status ≡ 1 → ¬ IsAnswerWords words) → (status ≢ 1 → IsAnswerWords words) → (IsAnswerWords words → status ≡ 7) → StatusSays status words before after
+says_untouched status words before after same one refused accepted seven = record {
+  words_refused = refused;
+  words_accepted = accepted;
+  untouched = λ is. same;
+  done = λ is. absurd (not_this status 0 one (omega arith) (omega arith) is);
+  failed = λ is. absurd (not_this status 4 one (omega arith) (omega arith) is);
+  broken = λ is. absurd (not_this status 8 one (omega arith) (omega arith) is);
+  stalled = λ is. absurd (not_this status 9 one (omega arith) (omega arith) is);
+  no_read_fault = λ n4. ap (λ (e : Ends). e.incoming.faults) same;
+  no_write_fault = λ n4 n7 n8. ap (λ (e : Ends). e.outgoing.faults) same;
+  no_stall = λ n8 n9. ap (λ (e : Ends). e.outgoing.stalls) same;
+  whole_stream = λ are stream ms told framed few fine takes. inr (seven are);
+  broken_stream = λ are fault stream ms told framed few fine takes. inr (seven are);
+}
+  where
+    not_this : (status other : ℕ) → (status ≡ 1) ⊎ (status ≡ 7) → 1 ≢ other → 7 ≢ other → status ≢ other
+    not_this status other (inl one) n1 n7 is = n1 (sym one ∙ is)
+    not_this status other (inr seven) n1 n7 is = n7 (sym seven ∙ is)
+
 pub says : (words : List (List ℕ)) (before : Ends) (tb : List ℤ → Type 0) (after : Ends) (ta : List ℤ → Type 0) (ending : Ending)
     → IsRun ending words before tb after ta → StatusSays (status_of ending) words before after
-says words before tb after ta WordsRefused run = record {
-  words_refused = λ is. run.0;
-  words_accepted = λ isnt. absurd (isnt refl);
-  untouched = λ is. run.1;
-  done = λ is. absurd (omega (arith, is));
-  failed = λ is. absurd (omega (arith, is));
-  broken = λ is. absurd (omega (arith, is));
-  stalled = λ is. absurd (omega (arith, is));
-  no_read_fault = λ n4. ap (λ (e : Ends). e.incoming.faults) run.1;
-  no_write_fault = λ n4 n7 n8. ap (λ (e : Ends). e.outgoing.faults) run.1;
-  no_stall = λ n8 n9. ap (λ (e : Ends). e.outgoing.stalls) run.1;
-  whole_stream = λ are. absurd (run.0 are);
-  broken_stream = λ are. absurd (run.0 are);
-}
-says words before tb after ta Unstarted run = record {
-  words_refused = λ is. absurd (omega (arith, is));
-  words_accepted = λ isnt. run.0;
-  untouched = λ is. run.1;
-  done = λ is. absurd (omega (arith, is));
-  failed = λ is. absurd (omega (arith, is));
-  broken = λ is. absurd (omega (arith, is));
-  stalled = λ is. absurd (omega (arith, is));
-  no_read_fault = λ n4. ap (λ (e : Ends). e.incoming.faults) run.1;
-  no_write_fault = λ n4 n7 n8. ap (λ (e : Ends). e.outgoing.faults) run.1;
-  no_stall = λ n8 n9. ap (λ (e : Ends). e.outgoing.stalls) run.1;
-  whole_stream = λ are stream ms told framed few fine takes. inr refl;
-  broken_stream = λ are fault stream ms told framed few fine takes. inr refl;
-}
+says words before tb after ta WordsRefused run =
+    says_untouched 1 words before after run.1 (inl refl) (λ is. run.0) (λ isnt. absurd (isnt refl)) (λ are. absurd (run.0 are))
+says words before tb after ta Unstarted run =
+    says_untouched 7 words before after run.1 (inr refl) (λ is. absurd (omega (arith, is))) (λ isnt. run.0) (λ are. refl)
 says words before tb after ta (WasServed cause) run = says_served words before tb after ta cause run
 
 -- ---- the history of a connection over an empty world

@@ -82,49 +82,6 @@ sent_behind asked before now after wire n s last result writes = record {
   writes = writes;
 }
 
--- The input was read to its end.
-pub ended : (asked : List Exchange → Type 0) (before now after : Ends) (wire wire' : WireState) (n : ℕ) → n < reply_limit
-    → Serving asked before wire n now → Reading wire now.incoming (Ok None) after.incoming wire' → after.outgoing ≡ now.outgoing
-    → Connection asked before causes.End after
-ended asked before now after wire wire' n few s reading same = record {
-  turns = s.turns;
-  text = s.text;
-  rest = wire.held ++ reading.got;
-  earlier = replies s.turns;
-  last = [];
-  result = Ok tt;
-  read = read_on before.incoming.left now.incoming.left after.incoming.left s.text wire.held reading.got s.read reading.gave;
-  spelled = s.spelled;
-  told = s.told;
-  few = omega (arith, s.counted, few);
-  sent = sent_behind asked before now after wire n s [] (Ok tt) (wrote_nothing now.outgoing after.outgoing same);
-  last_is = (refl, refl);
-  last_write = refl;
-  rest_is = (reading.answer.0, reading.answer.2);
-  reads = reading.faults ∙ s.reads;
-}
-
--- As many messages were answered as a connection answers.
-pub full : (asked : List Exchange → Type 0) (before now : Ends) (wire : WireState) (n : ℕ) → reply_limit ≤ n → n ≤ reply_limit
-    → Serving asked before wire n now → Connection asked before causes.Closed now
-full asked before now wire n least most s = record {
-  turns = s.turns;
-  text = s.text;
-  rest = wire.held;
-  earlier = replies s.turns;
-  last = [];
-  result = Ok tt;
-  read = s.read;
-  spelled = s.spelled;
-  told = s.told;
-  few = omega (arith, s.counted, most);
-  sent = sent_behind asked before now now wire n s [] (Ok tt) (wrote_nothing now.outgoing now.outgoing refl);
-  last_is = ((refl, refl), omega (arith, s.counted, least, most));
-  last_write = refl;
-  rest_is = tt;
-  reads = s.reads;
-}
-
 -- One message more was read and asked.
 turns_more : (asked asked' : List Exchange → Type 0) (turns : List Turn) (t : Turn) → asked (exchanges_of turns)
     → ((es : List Exchange) → asked es → asked' (es ++ exchange_in t ∷ [])) → asked' (exchanges_of (turns ++ t ∷ []))
@@ -174,54 +131,47 @@ last_reply turns n t counted = record {
   last_is = ap (λ k. reply_of k t) (sym counted);
 }
 
--- One message more was asked, and its reply wasn't written whole.
+-- One message more was asked, and its reply wasn't written whole: a cause of which this is all that it says.
+breaks_by : (asked asked' : List Exchange → Type 0) (is_told : Told → Type 0) (before now then : Ends) (wire wire' : WireState) (n : ℕ) (m : Message) (end : WriteEnd)
+    → n < reply_limit → Serving asked before wire n now → Reading wire now.incoming (Ok (Some m)) then.incoming wire'
+    → Answers is_told (closes n m) now.outgoing (Err end) then.outgoing → Extends asked m is_told asked'
+    → (cause : Cause) → ((turns : List Turn) (earlier last : List ℕ) → IsLastReply turns earlier last → IsLast cause turns earlier last)
+    → IsLastWrite cause (Err end) → ((rest : List ℕ) (left : Option (List ℕ)) → IsRest cause rest left)
+    → ((a b : ℕ) → b ≡ a → CountsReads cause a b) → Connection asked' before cause then
+breaks_by asked asked' is_told before now then wire wire' n m end few s reading answers extends cause is_last last_write is_rest reads =
+    let t : Turn = record { message = m; told = answers.told } in
+    let bytes = reading.answer.0 in
+    record {
+      turns = s.turns ++ t ∷ [];
+      text = s.text ++ bytes;
+      rest = wire'.held;
+      earlier = replies s.turns;
+      last = reply_of n t;
+      result = Err end;
+      read = read_message before.incoming.left now.incoming.left then.incoming.left s.text wire.held reading.got bytes wire'.held s.read reading.gave reading.answer.2;
+      spelled = spelled_more s.turns s.text bytes t s.spelled reading.answer.1;
+      told = turns_more asked asked' s.turns t s.told (extends answers.told answers.tells);
+      few = omega (arith, s.counted, few, length-append s.turns (t ∷ []));
+      sent = sent_behind asked before now then wire n s (reply_of n t) (Err end) answers.writes;
+      last_is = is_last (s.turns ++ t ∷ []) (replies s.turns) (reply_of n t) (last_reply s.turns n t s.counted);
+      last_write = last_write;
+      rest_is = is_rest wire'.held then.incoming.left;
+      reads = reads before.incoming.faults then.incoming.faults (reading.faults ∙ s.reads);
+    }
+
 pub breaks_off : (asked asked' : List Exchange → Type 0) (is_told : Told → Type 0) (before now then : Ends) (wire wire' : WireState) (n : ℕ) (m : Message) (end : WriteEnd)
     → n < reply_limit → Serving asked before wire n now → Reading wire now.incoming (Ok (Some m)) then.incoming wire'
     → Answers is_told (closes n m) now.outgoing (Err end) then.outgoing → Extends asked m is_told asked'
     → Connection asked' before (cause_of end) then
 breaks_off asked asked' is_told before now then wire wire' n m write_ends.WriteFault few s reading answers extends =
-    let t : Turn = record { message = m; told = answers.told } in
-    let bytes = reading.answer.0 in
-    record {
-      turns = s.turns ++ t ∷ [];
-      text = s.text ++ bytes;
-      rest = wire'.held;
-      earlier = replies s.turns;
-      last = reply_of n t;
-      result = Err write_ends.WriteFault;
-      read = read_message before.incoming.left now.incoming.left then.incoming.left s.text wire.held reading.got bytes wire'.held s.read reading.gave reading.answer.2;
-      spelled = spelled_more s.turns s.text bytes t s.spelled reading.answer.1;
-      told = turns_more asked asked' s.turns t s.told (extends answers.told answers.tells);
-      few = omega (arith, s.counted, few, length-append s.turns (t ∷ []));
-      sent = sent_behind asked before now then wire n s (reply_of n t) (Err write_ends.WriteFault) answers.writes;
-      last_is = last_reply s.turns n t s.counted;
-      last_write = refl;
-      rest_is = tt;
-      reads = reading.faults ∙ s.reads;
-    }
+    breaks_by asked asked' is_told before now then wire wire' n m write_ends.WriteFault few s reading answers extends causes.WriteFault
+        (λ turns earlier last is. is) refl (λ rest left. tt) (λ a b same. same)
 breaks_off asked asked' is_told before now then wire wire' n m write_ends.SinkTakesNothing few s reading answers extends =
-    let t : Turn = record { message = m; told = answers.told } in
-    let bytes = reading.answer.0 in
-    record {
-      turns = s.turns ++ t ∷ [];
-      text = s.text ++ bytes;
-      rest = wire'.held;
-      earlier = replies s.turns;
-      last = reply_of n t;
-      result = Err write_ends.SinkTakesNothing;
-      read = read_message before.incoming.left now.incoming.left then.incoming.left s.text wire.held reading.got bytes wire'.held s.read reading.gave reading.answer.2;
-      spelled = spelled_more s.turns s.text bytes t s.spelled reading.answer.1;
-      told = turns_more asked asked' s.turns t s.told (extends answers.told answers.tells);
-      few = omega (arith, s.counted, few, length-append s.turns (t ∷ []));
-      sent = sent_behind asked before now then wire n s (reply_of n t) (Err write_ends.SinkTakesNothing) answers.writes;
-      last_is = inl (last_reply s.turns n t s.counted);
-      last_write = refl;
-      rest_is = tt;
-      reads = reading.faults ∙ s.reads;
-    }
+    breaks_by asked asked' is_told before now then wire wire' n m write_ends.SinkTakesNothing few s reading answers extends causes.SinkTakesNothing
+        (λ turns earlier last is. inl is) refl (λ rest left. tt) (λ a b same. same)
 
 -- All replies went out whole, and then the cause's closing bytes were written, as far as they were.
-ends_by : (asked : List Exchange → Type 0) (before now after : Ends) (wire : WireState) (n : ℕ) → n < reply_limit
+ends_by : (asked : List Exchange → Type 0) (before now after : Ends) (wire : WireState) (n : ℕ) → n ≤ reply_limit
     → (s : Serving asked before wire n now) (got : List ℕ) → Gave now.incoming.left got after.incoming.left
     → (cause : Cause) (last : List ℕ) (result : Result (Unit {0}) WriteEnd) → WritesWhole now.outgoing last result after.outgoing
     → IsLast cause s.turns (replies s.turns) last → IsLastWrite cause result → IsRest cause (wire.held ++ got) after.incoming.left
@@ -244,21 +194,36 @@ ends_by asked before now after wire n few s got gave cause last result writes la
   reads = reads;
 }
 
+-- The input was read to its end.
+pub ended : (asked : List Exchange → Type 0) (before now after : Ends) (wire wire' : WireState) (n : ℕ) → n < reply_limit
+    → Serving asked before wire n now → Reading wire now.incoming (Ok None) after.incoming wire' → after.outgoing ≡ now.outgoing
+    → Connection asked before causes.End after
+ended asked before now after wire wire' n few s reading same =
+    ends_by asked before now after wire n (omega (arith, few)) s reading.got reading.gave causes.End [] (Ok tt) (wrote_nothing now.outgoing after.outgoing same)
+        (refl, refl) refl (reading.answer.0, reading.answer.2) (reading.faults ∙ s.reads)
+
+-- As many messages were answered as a connection answers.
+pub full : (asked : List Exchange → Type 0) (before now : Ends) (wire : WireState) (n : ℕ) → reply_limit ≤ n → n ≤ reply_limit
+    → Serving asked before wire n now → Connection asked before causes.Closed now
+full asked before now wire n least most s =
+    ends_by asked before now now wire n most s [] (gave_nothing now.incoming.left) causes.Closed [] (Ok tt) (wrote_nothing now.outgoing now.outgoing refl)
+        ((refl, refl), omega (arith, s.counted, least, most)) refl tt s.reads
+
 -- The wire answered a fault, and the connection is closed.
 pub closed : (asked : List Exchange → Type 0) (before now after : Ends) (wire wire' : WireState) (n : ℕ) (fault : WireFault) (cause : Cause) → n < reply_limit
     → Serving asked before wire n now → Reading wire now.incoming (Err fault) after.incoming wire' → Closes fault cause now.outgoing after.outgoing
     → Connection asked before cause after
 closed asked before now after wire wire' n (faults.CutShort have) cause few s reading how =
     subst (λ (k : Cause). Connection asked before k after) (sym how.1.0)
-    (ends_by asked before now after wire n few s reading.got reading.gave (causes.Wire (faults.CutShort have)) [] (Ok tt)
+    (ends_by asked before now after wire n (omega (arith, few)) s reading.got reading.gave (causes.Wire (faults.CutShort have)) [] (Ok tt)
     (wrote_nothing now.outgoing after.outgoing how.1.1.1) (refl, refl) tt reading.answer (reading.faults ∙ s.reads))
 closed asked before now after wire wire' n faults.Unread cause few s reading how =
     subst (λ (k : Cause). Connection asked before k after) (sym how.1.0)
-    (ends_by asked before now after wire n few s reading.got reading.gave (causes.Wire faults.Unread) (row_of (causes.Wire faults.Unread)).closing how.0
+    (ends_by asked before now after wire n (omega (arith, few)) s reading.got reading.gave (causes.Wire faults.Unread) (row_of (causes.Wire faults.Unread)).closing how.0
     how.1.1 (refl, refl) tt (reading.answer.0, tt) (reading.faults ∙ s.reads))
 closed asked before now after wire wire' n faults.ReadFault cause few s reading how =
     subst (λ (k : Cause). Connection asked before k after) (sym how.1.0)
-    (ends_by asked before now after wire n few s reading.got reading.gave causes.ReadFault [] (Ok tt)
+    (ends_by asked before now after wire n (omega (arith, few)) s reading.got reading.gave causes.ReadFault [] (Ok tt)
     (wrote_nothing now.outgoing after.outgoing how.1.1.1) (refl, refl) refl reading.answer
     (subst (λ (k : ℕ). (k ≤ after.incoming.faults) × Rose k after.incoming.faults) s.reads reading.faults))
 closed asked before now after wire wire' n faults.Memory cause few s reading how =
@@ -271,10 +236,10 @@ closed asked before now after wire wire' n faults.Memory cause few s reading how
         → Connection asked before cause after
     out_of_memory asked before now after wire n cause result few s got gave reads writes (inl memory) =
         subst (λ (k : Cause). Connection asked before k after) (sym memory.0)
-        (ends_by asked before now after wire n few s got gave causes.Memory closing_standin result writes (refl, refl) memory.1 tt reads)
+        (ends_by asked before now after wire n (omega (arith, few)) s got gave causes.Memory closing_standin result writes (refl, refl) memory.1 tt reads)
     out_of_memory asked before now after wire n cause result few s got gave reads writes (inr stall) =
         subst (λ (k : Cause). Connection asked before k after) (sym stall.0)
-        (ends_by asked before now after wire n few s got gave causes.SinkTakesNothing closing_standin result writes (inr (refl, refl)) stall.1 tt reads)
+        (ends_by asked before now after wire n (omega (arith, few)) s got gave causes.SinkTakesNothing closing_standin result writes (inr (refl, refl)) stall.1 tt reads)
 
 -- ---- over the ends between a read and a write
 

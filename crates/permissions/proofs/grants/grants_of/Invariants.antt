@@ -6,4 +6,4 @@ use Rattle.permissions.specs.Grants.{granted}
 use Rattle.permissions.proofs.grants.grants_of.Given as goal
 
 abbrev pub invariant-loop-binding : goal.invariant-loop-binding
-invariant-loop-binding l = (u : ℕ) (p : Permission) → granted u p l.grants.items ≡ list_any (binds_in l.book u p) (take l.binding-index l.bindings)
+invariant-loop-binding l = (u : ℕ) (p : Permission) → granted l.book u p l.grants ≡ list_any (binds_in l.book u p) (take l.binding-index l.bindings)

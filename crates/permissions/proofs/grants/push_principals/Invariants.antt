@@ -7,4 +7,5 @@ use Rattle.permissions.specs.Masks.{has_bit}
 use Rattle.permissions.proofs.grants.push_principals.Given as goal
 
 abbrev pub invariant-loop-text : goal.invariant-loop-text
-invariant-loop-text l = (u : ℕ) (p : Permission) → granted u p l.grants.items ≡ (granted u p l.initial.grants.items || (list_any (gives l.book u) (take l.text-index l.texts) && has_bit l.mask p))
+invariant-loop-text l = (u : ℕ) (p : Permission)
+    → granted l.book u p l.grants ≡ (granted l.book u p l.initial.grants || (list_any (gives l.book u) (take l.text-index l.texts) && has_bit l.mask p))

@@ -1,6 +1,6 @@
 use Rattle.std.proofs.Common.{◌≡◌, ◌++◌, drop}
 use Rattle.policy_checks.specs.Checks.{realm_names}
-use Rattle.permissions.specs.Reach.{graph_from}
+use Rattle.permissions.specs.Graph.{graph_from}
 use Rattle.permissions.proofs.realms.all_places.Given as goal
 
 abbrev pub invariant-loop-realm : goal.invariant-loop-realm

@@ -1,6 +1,6 @@
 use Rattle.std.proofs.Common.{◌≡◌, ◌++◌, drop}
 use Rattle.policy_checks.specs.Checks.{realm_names}
-use Rattle.permissions.specs.Reach.{places_in}
+use Rattle.permissions.specs.Graph.{places_in}
 use Rattle.permissions.proofs.realms.places_of.Given as goal
 
 abbrev pub invariant-loop-name : goal.invariant-loop-name

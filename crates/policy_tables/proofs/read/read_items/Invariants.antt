@@ -7,7 +7,8 @@ use Rattle.policy_tables.proofs.read.read_items.Given as goal
 -- what is read and noted so far, with what is to come, is that of the whole list
 abbrev pub invariant-loop-place : goal.invariant-loop-place
 invariant-loop-place l = record {
+  path : l.notes.path ≡ l.initial.notes.path;
   texts : l.texts.items ++ item_texts (items_view (drop l.place l.array.items)) ≡ item_texts (items_view l.array.items);
-  least : least_with l.least (item_findings l.at l.place (items_view (drop l.place l.array.items)))
-      ≡ least_with l.initial.least (item_findings l.at 0 (items_view l.array.items));
+  least : least_with l.notes.least (item_findings l.initial.notes.path l.place (items_view (drop l.place l.array.items)))
+      ≡ least_with l.initial.notes.least (item_findings l.initial.notes.path 0 (items_view l.array.items));
 }
