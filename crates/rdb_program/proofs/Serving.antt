@@ -165,10 +165,10 @@ pub breaks_off : (asked asked' : List Exchange → Type 0) (is_told : Told → T
     → Connection asked' before (cause_of end) then
 breaks_off asked asked' is_told before now then wire wire' n m write_ends.WriteFault few s reading answers extends =
     breaks_by asked asked' is_told before now then wire wire' n m write_ends.WriteFault few s reading answers extends causes.WriteFault
-        (λ turns earlier last is. is) refl (λ rest left. tt) (λ a b same. same)
+    (λ turns earlier last is. is) refl (λ rest left. tt) (λ a b same. same)
 breaks_off asked asked' is_told before now then wire wire' n m write_ends.SinkTakesNothing few s reading answers extends =
     breaks_by asked asked' is_told before now then wire wire' n m write_ends.SinkTakesNothing few s reading answers extends causes.SinkTakesNothing
-        (λ turns earlier last is. inl is) refl (λ rest left. tt) (λ a b same. same)
+    (λ turns earlier last is. inl is) refl (λ rest left. tt) (λ a b same. same)
 
 -- All replies went out whole, and then the cause's closing bytes were written, as far as they were.
 ends_by : (asked : List Exchange → Type 0) (before now after : Ends) (wire : WireState) (n : ℕ) → n ≤ reply_limit
@@ -200,14 +200,14 @@ pub ended : (asked : List Exchange → Type 0) (before now after : Ends) (wire w
     → Connection asked before causes.End after
 ended asked before now after wire wire' n few s reading same =
     ends_by asked before now after wire n (omega (arith, few)) s reading.got reading.gave causes.End [] (Ok tt) (wrote_nothing now.outgoing after.outgoing same)
-        (refl, refl) refl (reading.answer.0, reading.answer.2) (reading.faults ∙ s.reads)
+    (refl, refl) refl (reading.answer.0, reading.answer.2) (reading.faults ∙ s.reads)
 
 -- As many messages were answered as a connection answers.
 pub full : (asked : List Exchange → Type 0) (before now : Ends) (wire : WireState) (n : ℕ) → reply_limit ≤ n → n ≤ reply_limit
     → Serving asked before wire n now → Connection asked before causes.Closed now
 full asked before now wire n least most s =
     ends_by asked before now now wire n most s [] (gave_nothing now.incoming.left) causes.Closed [] (Ok tt) (wrote_nothing now.outgoing now.outgoing refl)
-        ((refl, refl), omega (arith, s.counted, least, most)) refl tt s.reads
+    ((refl, refl), omega (arith, s.counted, least, most)) refl tt s.reads
 
 -- The wire answered a fault, and the connection is closed.
 pub closed : (asked : List Exchange → Type 0) (before now after : Ends) (wire wire' : WireState) (n : ℕ) (fault : WireFault) (cause : Cause) → n < reply_limit
