@@ -1,9 +1,12 @@
 -- Faults of which nothing is said to the peer.
-use Rattle.std.proofs.Common.{◌≡◌, ℕ, Ok, refl, sym, subst}
+use Rattle.std.proofs.Common.{◌≡◌, ◌≢◌, ◌⊎◌, inl, inr, ℕ, Bool, false, Result, Ok, Err, refl, sym, subst}
+use Rattle.outside.specs.declared.whole.WriteEnd.{WriteEnd}
+use Rattle.outside.specs.declared.whole.WriteEnd.TheVariants as write_ends
 use Rattle.outside.specs.Ends.{Outgoing}
 use Rattle.http_wire.specs.declared.message.WireFault.{WireFault}
 use Rattle.http_wire.specs.declared.message.WireFault.TheVariants as faults
-use Rattle.rdb_program.specs.Closing.{Closes}
+use Rattle.rdb_program.specs.Closing.{Closes, LeavesWire}
+use Rattle.rdb_program.specs.declared.ending.Cause.{Cause}
 use Rattle.rdb_program.specs.declared.ending.Cause.TheVariants as causes
 
 pub closes_cut : (fault : WireFault) (have : ℕ) (out : Outgoing) → fault ≡ faults.CutShort have → Closes fault (causes.Wire fault) out out
@@ -13,3 +16,17 @@ closes_cut fault have out is =
 pub closes_unread : (fault : WireFault) (out : Outgoing) → fault ≡ faults.ReadFault → Closes fault causes.ReadFault out out
 closes_unread fault out is =
     subst (λ (f : WireFault). Closes f causes.ReadFault out out) (sym is) (Ok tt, (refl, (refl, refl)))
+
+-- the cause that a fault came to leaves the wire closed
+pub leaves_wire : (fault : WireFault) (cause : Cause) (before after : Outgoing) (is_open : Bool) → Closes fault cause before after → is_open ≡ false
+    → LeavesWire cause is_open
+leaves_wire (faults.CutShort have) cause before after is_open how shut = subst (λ (k : Cause). LeavesWire k is_open) (sym how.1.0) shut
+leaves_wire faults.Unread cause before after is_open how shut = subst (λ (k : Cause). LeavesWire k is_open) (sym how.1.0) shut
+leaves_wire faults.ReadFault cause before after is_open how shut = subst (λ (k : Cause). LeavesWire k is_open) (sym how.1.0) shut
+leaves_wire faults.Memory cause before after is_open how shut = by_memory cause how.0 is_open how.1.1 shut
+  where
+    by_memory : (cause : Cause) (result : Result (Unit {0}) WriteEnd) (is_open : Bool)
+        → ((cause ≡ causes.Memory) × (result ≢ Err write_ends.SinkTakesNothing)) ⊎ ((cause ≡ causes.SinkTakesNothing) × (result ≡ Err write_ends.SinkTakesNothing))
+        → is_open ≡ false → LeavesWire cause is_open
+    by_memory cause result is_open (inl memory) shut = subst (λ (k : Cause). LeavesWire k is_open) (sym memory.0) shut
+    by_memory cause result is_open (inr stall) shut = subst (λ (k : Cause). LeavesWire k is_open) (sym stall.0) tt

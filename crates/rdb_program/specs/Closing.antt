@@ -1,5 +1,5 @@
 -- How a connection is closed after the wire's last answer.
-use Rattle.std.specs.Prelude.{◌≡◌, ◌≢◌, ◌⊎◌, List, [], Result, Ok, Err}
+use Rattle.std.specs.Prelude.{◌≡◌, ◌≢◌, ◌⊎◌, Bool, false, List, [], Result, Ok, Err}
 use Rattle.outside.specs.Ends.{Outgoing}
 use Rattle.outside.specs.Whole.{WritesWhole}
 use Rattle.outside.specs.declared.whole.WriteEnd.{WriteEnd}
@@ -28,3 +28,13 @@ ClosesBy faults.Memory cause result before after =
 
 abbrev pub Closes : WireFault → Cause → Outgoing → Outgoing → Type 0
 Closes fault cause before after = (result : Result (Unit {0}) WriteEnd) × ClosesBy fault cause result before after
+
+-- A cause that the wire gave leaves it closed, so that want of memory is told only where the wire answered it.
+abbrev pub LeavesWire : Cause → Bool → Type 0
+LeavesWire causes.Memory is_open = is_open ≡ false
+LeavesWire causes.ReadFault is_open = is_open ≡ false
+LeavesWire (causes.Wire fault) is_open = is_open ≡ false
+LeavesWire causes.End is_open = Unit {0}
+LeavesWire causes.Closed is_open = Unit {0}
+LeavesWire causes.WriteFault is_open = Unit {0}
+LeavesWire causes.SinkTakesNothing is_open = Unit {0}

@@ -6,7 +6,7 @@ ghost use Rattle.service_core.specs.ReplyBytes.{told_bytes};
 ghost use Rattle.record_desk.specs.Exchange.{Exchange};
 ghost use Rattle.rdb_program.specs.Turns.{reply_limit, closes};
 ghost use Rattle.rdb_program.specs.Connection.{Answers, Connection};
-ghost use Rattle.rdb_program.specs.Closing.{Closes};
+ghost use Rattle.rdb_program.specs.Closing.{Closes, LeavesWire};
 
 use crate::ending::Cause;
 use http_wire::{Message, Wire, WireFault, write_farewell, write_response, write_standin};
@@ -99,6 +99,7 @@ pub fn serve_connection<T: Teller, L: Link>(
         (λ exchanges. (first : T) (before : List Exchange) → T.stands first teller.old before
         → T.stands first teller.new (before ++ exchanges))
         (L.ends link.old) result (L.ends link.new) }
+    ensures wire { LeavesWire result wire.new.is_open }
     ensures teller_holds { T.holds teller.new ≡ T.holds teller.old }
     ensures link_holds { L.holds link.new ≡ L.holds link.old }
 {

@@ -1,5 +1,6 @@
 use Rattle.std.proofs.Common.{refl, ◌∙◌, subst}
 use Rattle.rdb_program.proofs.Serving.{Serving, begins, goes_on, breaks_off, ended, full, closed, reading_to, answers_from, closes_from, stands_nothing, stands_more}
+use Rattle.rdb_program.proofs.ClosingLaws.{leaves_wire}
 use Rattle.rdb_program.proofs.connection.serve_connection.Goals as goal
 
 pub loop-answered-init : goal.loop-answered-init
@@ -48,3 +49,8 @@ loop-answered-preserved g c =
 
 pub returns-clause-connection : goal.returns-clause-connection
 returns-clause-connection g c = full _ _ _ _ _ c.loop-answered-test.false c.loop-answered.auto.answered-end c.loop-answered.invariant.serving
+
+pub returns-in-Err-clause-wire : goal.returns-in-Err-clause-wire
+returns-in-Err-clause-wire g c =
+    let s = c.loop-answered.invariant.serving in
+    leaves_wire c.in-Err.fault c.close_after.result _ _ _ c.close_after.ensures.closes (c.in-Err.ensures.reading s.is_open).stays_open
