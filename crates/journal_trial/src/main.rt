@@ -8,9 +8,8 @@
 mod trial;
 
 use disks::FileDisk;
-use std::env;
-use std::io;
 use std::process::ExitCode;
+use std::{env, io};
 use trial::{append_records, read_records};
 
 fn number(word: Option<&String>) -> u64 {

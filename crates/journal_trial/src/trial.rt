@@ -81,5 +81,8 @@ fn open<D: Disk + Drop>(alloc: Global, disk: D) -> Option<(Journal<D>, u64)>
 
 fn number_in(body: &[u8]) -> Option<u64> {
     let end = body.iter().position(|b| *b == b'.')?;
-    std::str::from_utf8(body.get(..end)?).ok()?.parse::<u64>().ok()
+    std::str::from_utf8(body.get(..end)?)
+        .ok()?
+        .parse::<u64>()
+        .ok()
 }
