@@ -1,12 +1,12 @@
 -- How a journal is begun anew.
-use Rattle.std.proofs.Common.{◌≡◌, ◌≢◌, ◌⊎◌, inl, inr, ⊎_elim, ℕ, ◌+◌, ◌<◌, ◌≤◌, Option, None, Some, Result, Ok, Err, MatchResult, List, [], ◌∷◌, ◌++◌, length, get_or, take, drop, refl, sym, ◌∙◌, ap, subst, arith, true}
-use Rattle.std.proofs.lemmas.List.{ext_get_or, get_or-take, take_all}
-use Rattle.disks.specs.Parts.{Part, Image, IsPartImage, MayLeave, with_part, all_synced, written_over, write_begun, cut_begun}
+use Rattle.std.proofs.Common.{◌≡◌, inl, inr, ⊎_elim, ℕ, ◌<◌, ◌≤◌, Option, None, Some, Result, Ok, Err, MatchResult, List, [], ◌∷◌, ◌++◌, length, get_or, take, refl, sym, ◌∙◌, ap, subst, arith, true}
+use Rattle.std.proofs.lemmas.List.{ext_get_or, get_or-take}
+use Rattle.disks.specs.Parts.{Part, Image, IsPartImage, MayLeave, all_synced, written_over, write_begun, cut_begun}
 use Rattle.disks.specs.Moments.{Told, after, AtEachMoment}
 use Rattle.disks.specs.Calls.{MayHaveBegun, Writes, Cuts, Syncs, ReadsAsImage}
 use Rattle.disks.proofs.MomentLaws.{at_first, at_next, at_both}
 use Rattle.result_journal.specs.Whole.{FillsRoom}
-use Rattle.result_journal.specs.Grammar.{head, IsOfHead, IsForeign, IsNewer, Bodies, LongReads, Reads}
+use Rattle.result_journal.specs.Grammar.{head, IsOfHead, Bodies, LongReads, Reads}
 use Rattle.result_journal.specs.Openings.{LeftBeforeOrAlike, ReadsAlike, Shows, ShownWhereTold}
 use Rattle.result_journal.specs.Begins.{IsShort, IsShortImage, IsHead, HeadFault, IsEmptyJournal, BeginsAs}
 use Rattle.result_journal.specs.declared.opening.OpenFault.{OpenFault}

@@ -1,14 +1,13 @@
 -- What an opening finds at a gate.
-use Rattle.std.proofs.Common.{◌≡◌, ◌≢◌, ◌⊎◌, inl, inr, ℕ, zero, suc, ◌+◌, ◌-◌, ◌^◌, ◌<◌, ◌≤◌, true, false, Option, None, Some, Result, Ok, Err, IfErr, IsErrAnd, List, [], ◌∷◌, ◌++◌, length, get_or, take, drop, take-append-drop, refl, sym, ◌∙◌, ap, subst, arith, append_assoc, length-append}
-use Rattle.std.proofs.Math.Seq.{take-add}
-use Rattle.std.proofs.lemmas.List.{drop-take, get_or-take, get_or-drop, length-drop, drop_more, take_at, drop_at, length-take-le}
+use Rattle.std.proofs.Common.{◌≡◌, ◌≢◌, inl, inr, ℕ, ◌+◌, ◌-◌, ◌^◌, ◌<◌, ◌≤◌, true, false, Option, None, Some, Result, Ok, Err, IfErr, IsErrAnd, List, [], ◌∷◌, ◌++◌, length, get_or, take, drop, take-append-drop, refl, sym, ◌∙◌, ap, subst, arith, append_assoc, length-append}
+use Rattle.std.proofs.lemmas.List.{drop-take, get_or-take, get_or-drop, length-drop, drop_more, take_at, length-take-le}
 use Rattle.std.proofs.lemmas.Bool.{cases_lt}
-use Rattle.std.specs.Int.{w32, to_le_bytes, from_le_bytes}
+use Rattle.std.specs.Int.{w32, from_le_bytes}
 use Rattle.result_journal.specs.Whole.{FillsRoom}
-use Rattle.result_journal.specs.Grammar.{head, records, framed, IsBody, AreBodies, BeginsFramed, IsDamaged, Bodies, Broken, Reads}
+use Rattle.result_journal.specs.Grammar.{head, records, framed, IsBody, AreBodies, BeginsFramed, Bodies, Broken, Reads}
 use Rattle.result_journal.specs.Journals.{before_gate, StandsBut, StandsFor}
 use Rattle.disks.specs.Parts.{Part}
-use Rattle.result_journal.specs.Openings.{IsWholeAt, IsBrokenAt, IsBehind, HasGiven, FindsLength, BrokenFault, IfFits, ShownWhereTold}
+use Rattle.result_journal.specs.Openings.{IsWholeAt, IsBrokenAt, HasGiven, FindsLength, BrokenFault, IfFits, ShownWhereTold}
 use Rattle.disks.specs.Moments.{Told}
 use Rattle.result_journal.specs.declared.opening.Opening.{Opening}
 use Rattle.result_journal.specs.declared.opening.OpenFault.{OpenFault}

@@ -1,9 +1,9 @@
 -- Each list of bytes has one reading.
-use Rattle.std.proofs.Common.{◌≡◌, ◌≢◌, ◌⊎◌, inl, inr, ⊎_elim, ℕ, zero, suc, ◌+◌, ◌-◌, ◌^◌, ◌<◌, ◌≤◌, List, [], ◌∷◌, ◌++◌, length, get_or, take, drop, take-append-drop, refl, sym, ◌∙◌, ap, subst, arith, append_assoc, length-append}
-use Rattle.std.proofs.lemmas.List.{append_cancel_left, drop_more, ext_get_or, length-take-le, length-drop, get_or-take, get_or_past}
+use Rattle.std.proofs.Common.{◌≡◌, ◌≢◌, ◌⊎◌, inl, inr, ⊎_elim, ℕ, zero, suc, ◌+◌, ◌^◌, ◌<◌, ◌≤◌, List, [], ◌∷◌, ◌++◌, length, get_or, take, drop, take-append-drop, refl, sym, ◌∙◌, ap, subst, arith, append_assoc, length-append}
+use Rattle.std.proofs.lemmas.List.{append_cancel_left, drop_more, ext_get_or, length-take-le, get_or-take}
 use Rattle.std.proofs.lemmas.Bool.{cases_eq, cases_lt}
-use Rattle.std.specs.Int.{w32, to_le_bytes, from_le_bytes}
-use Rattle.result_journal.specs.Grammar.{head, IsBody, framed, records, AreBodies, BeginsFramed, IsJournal, IsDamaged, IsOfHead, IsForeign, IsNewer, Reading, Bodies, Foreign, Newer, Broken, LongReads, Reads}
+use Rattle.std.specs.Int.{w32, from_le_bytes}
+use Rattle.result_journal.specs.Grammar.{head, IsBody, framed, records, AreBodies, BeginsFramed, IsOfHead, IsForeign, Reading, Bodies, Foreign, Newer, Broken, LongReads, Reads}
 use Rattle.result_journal.proofs.FrameLaws.{one_frame, frame_bounds, frame_made, length_said}
 
 -- Records end at a closed gate, or at an open one behind which no framed body stands.

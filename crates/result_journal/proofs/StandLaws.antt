@@ -1,11 +1,11 @@
 -- What stands on the disk through writes, syncs and crashes.
-use Rattle.std.proofs.Common.{◌≡◌, ◌≢◌, ◌⊎◌, inl, inr, ⊎_elim, ℕ, zero, suc, ◌+◌, ◌-◌, ◌^◌, ◌<◌, ◌≤◌, Bool, true, false, MatchBool, Option, Some, List, [], ◌∷◌, ◌++◌, length, get_or, take, drop, refl, sym, ◌∙◌, ap, subst, arith, append_assoc, length-append}
+use Rattle.std.proofs.Common.{◌≡◌, ◌≢◌, ◌⊎◌, inl, inr, ℕ, ◌+◌, ◌<◌, ◌≤◌, Bool, true, false, MatchBool, Option, Some, List, [], ◌∷◌, ◌++◌, length, get_or, refl, sym, ◌∙◌, ap, subst, arith, append_assoc, length-append}
 use Rattle.std.proofs.lemmas.Bool.{cases_eq, cases_lt}
 use Rattle.std.proofs.lemmas.Bool.Decides.{nat_tests}
 use Rattle.std.proofs.lemmas.List.{append-nil}
 use Rattle.disks.specs.declared.range.Range.{Range}
 use Rattle.disks.specs.Parts.{Part, IsPartImage, is_among, all_synced, written_over, write_begun}
-use Rattle.result_journal.specs.Grammar.{head, IsBody, framed, records, AreBodies, Reading, Bodies, Reads}
+use Rattle.result_journal.specs.Grammar.{head, IsBody, framed, records, AreBodies, Bodies, Reads}
 use Rattle.result_journal.specs.Steps.{BeginsBut}
 use Rattle.disks.specs.Moments.{Told}
 use Rattle.result_journal.specs.declared.journal.Journal.{Journal}

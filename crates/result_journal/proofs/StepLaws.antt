@@ -1,6 +1,6 @@
 -- A write and its sync, at each moment and after it.
-use Rattle.std.proofs.Common.{refl, ◌≡◌, ◌⊎◌, inl, inr, ⊎_elim, ℕ, ◌+◌, ◌≤◌, Option, None, Some, Result, Ok, Err, List, [], ◌∷◌, length, sym, ◌∙◌, ap, subst}
-use Rattle.disks.specs.Parts.{Part, Image, IsPartImage, MayLeave, with_part, all_synced, written_over, write_begun}
+use Rattle.std.proofs.Common.{refl, ◌≡◌, ◌⊎◌, inl, inr, ⊎_elim, ℕ, Option, None, Some, Result, Ok, Err, List, length, sym, ap, subst}
+use Rattle.disks.specs.Parts.{Part, Image, IsPartImage, all_synced, written_over, write_begun}
 use Rattle.disks.specs.Moments.{Told, after, AtEachMoment}
 use Rattle.disks.proofs.MomentLaws.{at_first, at_next}
 use Rattle.result_journal.specs.Steps.{WritesThrough}

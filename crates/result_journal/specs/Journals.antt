@@ -1,6 +1,6 @@
 -- How a journal stands on its disk.
 use Rattle.std.specs.Prelude.{◌≡◌, ◌≢◌, ◌⊎◌, ℕ, ◌+◌, ◌-◌, ◌^◌, ◌<◌, ◌≤◌, Bool, true, false, List, [], ◌∷◌, ◌++◌, length, take, drop, slice_index, Option, Some, MatchBool}
-use Rattle.disks.specs.Parts.{Part, Parts, Image, MayLeave, is_among}
+use Rattle.disks.specs.Parts.{Part, Image, MayLeave, is_among}
 use Rattle.disks.specs.Moments.{Told, moment}
 use Rattle.result_journal.specs.Grammar.{head, records, framed, IsBody, AreBodies, Bodies, Reads}
 use Rattle.result_journal.specs.declared.journal.Journal.{Journal}

@@ -1,11 +1,11 @@
 -- How an opening stands on its disk, and what it finds there.
-use Rattle.std.specs.Prelude.{◌≡◌, ◌≢◌, ◌⊎◌, ℕ, ◌+◌, ◌^◌, ◌<◌, ◌≤◌, Bool, true, List, [], ◌∷◌, ◌++◌, length, take, drop, slice_index, Option, None, Some, Result, Ok, Err}
+use Rattle.std.specs.Prelude.{◌≡◌, ◌≢◌, ◌⊎◌, ℕ, ◌+◌, ◌^◌, ◌<◌, ◌≤◌, Bool, true, List, length, take, drop, slice_index, Option, None, Some, Result, Ok, Err}
 use Rattle.std.specs.List.{slice_index_or}
-use Rattle.std.specs.Int.{w32, to_le_bytes, from_le_bytes}
+use Rattle.std.specs.Int.{w32, to_le_bytes}
 use Rattle.fault_counts.specs.Causes.{Rose}
 use Rattle.disks.specs.Parts.{Part, Image, MayLeave, all_synced}
 use Rattle.disks.specs.Moments.{Told}
-use Rattle.result_journal.specs.Grammar.{AreBodies, BeginsFramed, IsDamaged, Reading, Bodies, Foreign, Newer, Broken, Reads, IsOfHead}
+use Rattle.result_journal.specs.Grammar.{AreBodies, BeginsFramed, Reading, Foreign, Newer, Broken, Reads}
 use Rattle.result_journal.specs.Journals.{before_gate}
 use Rattle.result_journal.specs.Begins.{BeginsAs}
 use Rattle.result_journal.specs.declared.opening.Opening.{Opening}

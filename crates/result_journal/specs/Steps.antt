@@ -1,5 +1,5 @@
 -- The steps of the journal's calls.
-use Rattle.std.specs.Prelude.{◌≡◌, ℕ, ◌+◌, List, [], ◌∷◌, ◌++◌, length, Option, None, Some, Result, Ok, Err}
+use Rattle.std.specs.Prelude.{◌≡◌, ℕ, List, ◌∷◌, ◌++◌, length, Option, None, Some, Result, Ok, Err}
 use Rattle.disks.specs.Parts.{all_synced, written_over, write_begun}
 use Rattle.disks.specs.Moments.{Told, after}
 use Rattle.disks.specs.Calls.{MayHaveBegun}

@@ -130,6 +130,7 @@ impl<D: Disk> Journal<D> {
         ensures err { OnErr result ((commands : List (List ℕ)) → StandsFor D.told self.old commands →
             StandsFor D.told self.new commands) }
         ensures err_same { OnErr result (SameButDisk self.old self.new) }
+        ensures still { StandsForSome D.told self.new }
 
         ensures cause { HasCause (D.faults (disk_of self.old)) (D.faults (disk_of self.new)) result }
     {
@@ -200,6 +201,7 @@ impl<D: Disk> Journal<D> {
             Leaves (D.told (disk_of self.new)) (ReadsAs commands)) }
         ensures commands { (commands : List (List ℕ)) → StandsFor D.told self.old commands →
             StandsFor D.told self.new commands }
+        ensures still { StandsForSome D.told self.new }
         ensures ok_settled { OnOk result (is_settled self.new ≡ true) }
         ensures err_unsettled { OnErr result ((is_settled self.old ≡ false) × (is_settled self.new ≡ false)) }
         ensures same { SameButDisk self.old self.new }

@@ -151,3 +151,78 @@ fn each_image_holds_what_is_acknowledged(rt: HostRuntime) -> Result<(), Fail> {
     }
     Ok(())
 }
+
+/// The fault of a journal of these bytes, if its head or its first record has one.
+fn first_fault(alloc: Global, bytes: &[u8]) -> Result<Option<OpenFault>, AllocError> {
+    let disk = disk_of(alloc, bytes, &[], None)?;
+    let mut opening = match Opening::begin(alloc, disk) {
+        Ok(opening) => opening,
+        Err((fault, _)) => return Ok(Some(fault)),
+    };
+    let mut body = Vec::new(alloc);
+    Ok(opening.next(alloc, &mut body).err())
+}
+
+const FAULTS: [(&[u8], Option<OpenFault>); 12] = [
+    (
+        b"RDBJRNL1\x01\xff\xff\xff\xff\x00",
+        Some(OpenFault::Damaged { at: 9, byte: 255 }),
+    ),
+    (
+        b"RDBJRNL9\x00\x00",
+        Some(OpenFault::NewerVersion { found: 57 }),
+    ),
+    (b"hello world", Some(OpenFault::NotAJournal { at: 0 })),
+    (b"RDBJRNL0\x00\x00", Some(OpenFault::NotAJournal { at: 7 })),
+    (b"RDBJ", None),
+    (b"RDBJRNL1\x01", None),
+    (b"RDBJRNL1\x07", None),
+    (b"RDBJRNL1\x00\x01", None),
+    (b"RDBJRNL1\x01\x01\x00\x00\x00x\x00", None),
+    (
+        b"RDBJRNL1\x01\x01\x00\x00\x00x",
+        Some(OpenFault::Damaged { at: 9, byte: 1 }),
+    ),
+    (
+        b"RDBJRNL1\x01\x00\x00\x00\x00x\x00",
+        Some(OpenFault::Damaged { at: 9, byte: 0 }),
+    ),
+    (b"RDBJRNL1\x00\x00\x00\x00\x00", None),
+];
+
+#[test]
+fn heads_and_records_show_their_faults(rt: HostRuntime) -> Result<(), Fail> {
+    for (bytes, fault) in FAULTS {
+        assert_eq!(rt; first_fault(rt.alloc(), bytes)?, fault);
+    }
+    Ok(())
+}
+
+#[test]
+fn a_gate_that_was_not_synced_is_closed_again(rt: HostRuntime) -> Result<(), Fail> {
+    let alloc = rt.alloc();
+    // Beginning takes the calls 1 to 5, and reading the end the sixth.
+    let disk = disk_of(alloc, b"", &[10], None)?;
+    let Ok(mut opening) = Opening::begin(alloc, disk) else {
+        return Err(Fail::from("begin"));
+    };
+    let mut body = Vec::new(alloc);
+    assert!(rt; matches!(opening.next(alloc, &mut body), Ok(None)));
+    let mut journal = opening.ready();
+    assert!(rt; journal.prepare_record(alloc, b"x").is_ok());
+    assert!(rt; journal.append().is_err());
+    assert!(rt; !journal.is_settled());
+    assert_eq!(rt; journal.end(), 8);
+    assert!(rt; journal.settle().is_ok());
+    assert!(rt; journal.append().is_ok());
+    assert_eq!(rt; journal.end(), 14);
+    let disk = journal.close();
+    assert_eq!(rt; disk.faults(), 1);
+    assert_eq!(rt;
+        disk.bytes(0),
+        b"RDBJRNL1\x01\x01\x00\x00\x00x\x00".as_slice()
+    );
+    assert_eq!(rt; read_back(alloc, disk)?, [1, b'x'].to_vec(alloc)?);
+    one_reading();
+    Ok(())
+}

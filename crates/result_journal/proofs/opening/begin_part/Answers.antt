@@ -1,4 +1,4 @@
-use Rattle.std.proofs.Common.{◌≡◌, ◌≤◌, ◌<◌, ◌∙◌, true, false, ap, sym, length, arith, rules}
+use Rattle.std.proofs.Common.{◌≡◌, ◌≤◌, ◌∙◌, true, false, ap, sym, length, arith, rules}
 use Rattle.disks.specs.Parts.{Part}
 use Rattle.disks.proofs.MomentLaws.{at_both}
 use Rattle.result_journal.specs.Begins.{IsShortImage}

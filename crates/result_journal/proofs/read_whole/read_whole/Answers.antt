@@ -1,4 +1,4 @@
-use Rattle.std.proofs.Common.{◌≡◌, ◌≤◌, ◌<◌, ◌+◌, length, arith, ◌∙◌, rules}
+use Rattle.std.proofs.Common.{◌<◌, arith, ◌∙◌}
 use Rattle.result_journal.proofs.WholeLaws.{read_more}
 use Rattle.result_journal.proofs.read_whole.read_whole.Goals as goal
 

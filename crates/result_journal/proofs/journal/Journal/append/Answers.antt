@@ -58,3 +58,21 @@ returns-clause-calls g c =
     (g.D.Disk.told c.open_gate.new.self.disk) (ReadsAs c.requires.stands.0)
     (c.stage.ensures.any_moment c.requires.stands.0 c.requires.stands.1)
     c.in_ok-stage.ensures.calls c.in_ok-open_gate.ensures.calls
+
+pub returns-in_err-stage-clause-still : goal.returns-in_err-stage-clause-still
+returns-in_err-stage-clause-still g c =
+    (c.requires.stands.0, c.stage.ensures.stands c.requires.stands.0 c.requires.stands.1)
+
+pub returns-in_err-open_gate-clause-still : goal.returns-in_err-open_gate-clause-still
+returns-in_err-open_gate-clause-still g c = (
+  c.requires.stands.0,
+  c.in_err-open_gate.ensures.err c.requires.stands.0 (c.stage.ensures.stands c.requires.stands.0 c.requires.stands.1)
+      (c.in_ok-stage.ensures.staged c.requires.stands.0 c.requires.stands.1),
+)
+
+pub returns-clause-still : goal.returns-clause-still
+returns-clause-still g c = (
+  _,
+  c.in_ok-open_gate.ensures.ok c.requires.stands.0 (c.stage.ensures.stands c.requires.stands.0 c.requires.stands.1)
+      (c.in_ok-stage.ensures.staged c.requires.stands.0 c.requires.stands.1),
+)

@@ -1,6 +1,3 @@
-use Rattle.std.proofs.Common.{◌≡◌, true, false, List, ℕ, MatchBool, subst, refl}
-use Rattle.disks.specs.Parts.{MayLeave}
-use Rattle.result_journal.specs.Journals.{StandsFor}
 use Rattle.result_journal.proofs.StandLaws.{stands_leave}
 use Rattle.result_journal.proofs.journal.Journal.is_settled.Goals as goal
 

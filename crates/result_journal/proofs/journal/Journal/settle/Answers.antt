@@ -1,6 +1,4 @@
-use Rattle.std.proofs.Common.{length, ◌≡◌, rules, true, false, Some}
-use Rattle.disks.specs.Moments.{Told}
-use Rattle.disks.proofs.MomentLaws.{at_each_of}
+use Rattle.std.proofs.Common.{◌≡◌, rules, false}
 use Rattle.result_journal.proofs.StandLaws.{at_rest_reads}
 use Rattle.result_journal.proofs.JournalLaws.{rest_of, gate_of, open_long, settle_moments, gate_failed, settle_done, still_moments, settle_stands, unsettled_stands}
 use Rattle.result_journal.proofs.journal.Journal.settle.Goals as goal
@@ -59,3 +57,24 @@ returns-else-not-self-clause-settled g c = λ commands stands t is image may.
     at_rest_reads t.now.first commands c.args.self.now.end image.first
     (rest_of g.D.Disk.told c.args.self.now commands stands (g.met.D.Disk.reads_as_image c.args.self.now.disk)
     (search rules) t is) may.first
+
+pub returns-in_err-write_through-clause-still : goal.returns-in_err-write_through-clause-still
+returns-in_err-write_through-clause-still g c =
+    let image = g.met.D.Disk.reads_as_image c.args.self.now.disk in
+    let unsettled : c.args.self.now.is_settled ≡ false = search rules in (
+      c.requires.0,
+      unsettled_stands g.D.Disk.told c.args.self.now c.requires.0 c.requires.1 c.write_through.new.disk unsettled
+          (gate_failed g.D.Disk.told c.args.self.now c.requires.0 c.requires.1 image
+          (gate_of g.D.Disk.told c.args.self.now c.requires.0 c.requires.1 image unsettled) 0
+          (g.D.Disk.told c.write_through.new.disk) c.in_err-write_through.field-0.0 c.in_err-write_through.ensures.writes),
+    )
+
+pub returns-in_ok-write_through-clause-still : goal.returns-in_ok-write_through-clause-still
+returns-in_ok-write_through-clause-still g c =
+    let as_image = g.met.D.Disk.reads_as_image c.args.self.now.disk in (
+      c.requires.0,
+      settle_stands g.D.Disk.told c.args.self.now c.requires.0 c.requires.1 c.write_through.new.disk
+          (settle_done g.D.Disk.told c.args.self.now c.requires.0 c.requires.1 as_image
+          (gate_of g.D.Disk.told c.args.self.now c.requires.0 c.requires.1 as_image (search rules)) _
+          (g.D.Disk.told c.write_through.new.disk) c.in_ok-write_through.ensures.writes),
+    )

@@ -1,4 +1,3 @@
-use Rattle.std.proofs.Common.{Result, Ok, Err, OnOk, subst, sym}
 use Rattle.result_journal.proofs.JournalLaws.{stage_long, stage_moments, stage_stands, stage_staged_on}
 use Rattle.result_journal.proofs.journal.Journal.stage.Goals as goal
 

@@ -1,0 +1,33 @@
+//! A program that appends numbered records to a journal over files, and reads them back: for the end-to-end checks of
+//! crashes, and for measuring.
+//!
+//! `append PATH COUNT SIZE` appends so many records of so many bytes, and prints the number of each once it is
+//! acknowledged. `read PATH` checks the numbers of all records, and prints how many there are.
+#![tactic(auto)]
+
+mod trial;
+
+use disks::FileDisk;
+use std::process::ExitCode;
+use std::{env, io};
+use trial::{append_records, read_records};
+
+fn number(word: Option<&String>) -> u64 {
+    word.and_then(|text| text.as_str().parse::<u64>().ok())
+        .unwrap_or(0)
+}
+
+fn main(rt: HostRuntime) -> io::Result<ExitCode> {
+    let alloc = rt.alloc();
+    let words: Vec<String> = env::args(&rt)?.collect(alloc)?;
+    let (Some(command), Some(path)) = (words.get(1), words.get(2)) else {
+        return Ok(ExitCode::from(1));
+    };
+    let disk = FileDisk::new(&rt, alloc, path.as_str())?;
+    let is_done = match command.as_str() {
+        "append" => append_records(&rt, alloc, disk, number(words.get(3)), number(words.get(4))),
+        "read" => read_records(&rt, alloc, disk),
+        _ => false,
+    };
+    Ok(ExitCode::from(if is_done { 0 } else { 1 }))
+}
