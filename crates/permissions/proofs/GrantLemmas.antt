@@ -55,7 +55,7 @@ of_number : ℕ → Option Permission
 of_number n = slice_get every_permission n
 
 numbered : (p : Permission) → of_number (permission_number p) ≡ Some p
-unfolding of_number
+unfolding of_number permission_number
 numbered CreateInvocation = refl
 numbered CreateWithReservedId = refl
 numbered GetInvocation = refl

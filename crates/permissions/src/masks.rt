@@ -5,6 +5,7 @@ ghost use Rattle.permissions.specs.Masks.{permission_number, has_bit};
 use policy_checks::Permission;
 
 /// The permission's number: its place in the list of permissions.
+#[tactic(auto, unfolding(crate::specs::Masks::permission_number))]
 fn number_of(permission: Permission) -> u32
     ensures value { result ≡ permission_number permission }
     ensures within { result < 12 }

@@ -50,7 +50,7 @@ fn all_places(
 }
 
 /// The places that each realm extends.
-#[tactic(auto, unfolding(crate::specs::Reach::graph_of))]
+#[tactic(auto, unfolding(crate::specs::Graph::graph_of))]
 pub(crate) fn read_graph(alloc: Global, book: &Book) -> Result<Vec<Listed<usize>>, AllocError>
     ensures { IfOk result (λ graph. graph.items ≡ graph_of book.now) }
 {

@@ -363,10 +363,10 @@ fn chain(alloc: Global, realms: usize) -> Result<String, AllocError> {
 
 #[test]
 fn a_long_chain_is_read(rt: HostRuntime) -> Result<(), Fail> {
-    let text = chain(rt.alloc(), 3_000)?;
+    let text = chain(rt.alloc(), 30_000)?;
     let policy = read(&rt, text.as_str());
     assert_eq!(rt;
-        rights(&rt, &policy, "a", "p:02999").as_slice(),
+        rights(&rt, &policy, "a", "p:29999").as_slice(),
         b"----------x-".as_slice()
     );
     Ok(())

@@ -1,4 +1,6 @@
 //! Every text of a configuration, checked in turn.
+#![tactic(auto, using(policy_tables::proofs::PathLemmas::front_of_joined))]
+
 ghost use Rattle.std.specs.Prelude.{◌≡◌, ℕ, List, [], ◌∷◌, OnOk, IfOk};
 ghost use Rattle.std.specs.Fmt.{decimal};
 ghost use Rattle.policy_tables.specs.Findings.{joined, least_of};
@@ -30,7 +32,6 @@ fn look(checker: &Checker, notes: &mut Notes, kind: TextKind, text: &[u8]) -> Re
 }
 
 /// Checks the text at a key of the table at the path.
-#[tactic(auto, using(policy_tables::proofs::PathLemmas::front_of_joined))]
 fn look_at_key(
     checker: &Checker,
     notes: &mut Notes,
@@ -48,7 +49,6 @@ fn look_at_key(
 }
 
 /// Checks the text at a place of the list at the path.
-#[tactic(auto, using(policy_tables::proofs::PathLemmas::front_of_joined))]
 fn look_at_place(
     checker: &Checker,
     notes: &mut Notes,
@@ -84,7 +84,6 @@ fn look_at_items(
 }
 
 /// Checks the texts of the list at a key of the table at the path.
-#[tactic(auto, using(policy_tables::proofs::PathLemmas::front_of_joined))]
 fn look_at_texts(
     checker: &Checker,
     notes: &mut Notes,
@@ -128,7 +127,6 @@ fn look_at_rows<T: Texts>(
 }
 
 /// Checks the texts of each row of the list or table at a key.
-#[tactic(auto, using(policy_tables::proofs::PathLemmas::front_of_joined))]
 fn look_at_all<T: Texts>(
     checker: &Checker,
     notes: &mut Notes,
@@ -149,18 +147,12 @@ impl Texts for User {
 
     ghost spots = { user_spots };
 
-    #[tactic(auto, using(policy_tables::proofs::PathLemmas::front_of_joined))]
     fn look(&self, checker: &Checker, notes: &mut Notes, place: usize) -> Result<(), AllocError> {
         let _ = place;
         let len = notes.enter_key(self.name.as_slice())?;
         look(checker, notes, TextKind::UserName, self.name.as_slice())?;
-        look_at_key(
-            checker,
-            notes,
-            b"token",
-            TextKind::Token,
-            self.token.as_slice(),
-        )?;
+        let token = self.token.as_slice();
+        look_at_key(checker, notes, b"token", TextKind::Token, token)?;
         notes.leave(len);
         Ok(())
     }
@@ -171,18 +163,12 @@ impl Texts for Group {
 
     ghost spots = { group_spots };
 
-    #[tactic(auto, using(policy_tables::proofs::PathLemmas::front_of_joined))]
     fn look(&self, checker: &Checker, notes: &mut Notes, place: usize) -> Result<(), AllocError> {
         let _ = place;
         let len = notes.enter_key(self.name.as_slice())?;
         look(checker, notes, TextKind::GroupName, self.name.as_slice())?;
-        look_at_texts(
-            checker,
-            notes,
-            b"members",
-            TextKind::Member,
-            self.members.as_slice(),
-        )?;
+        let members = self.members.as_slice();
+        look_at_texts(checker, notes, b"members", TextKind::Member, members)?;
         notes.leave(len);
         Ok(())
     }
@@ -193,17 +179,17 @@ impl Texts for Role {
 
     ghost spots = { role_spots };
 
-    #[tactic(auto, using(policy_tables::proofs::PathLemmas::front_of_joined))]
     fn look(&self, checker: &Checker, notes: &mut Notes, place: usize) -> Result<(), AllocError> {
         let _ = place;
         let len = notes.enter_key(self.name.as_slice())?;
         look(checker, notes, TextKind::RoleName, self.name.as_slice())?;
+        let permissions = self.permissions.as_slice();
         look_at_texts(
             checker,
             notes,
             b"permissions",
             TextKind::Permission,
-            self.permissions.as_slice(),
+            permissions,
         )?;
         notes.leave(len);
         Ok(())
@@ -215,22 +201,17 @@ impl Texts for Binding {
 
     ghost spots = { binding_spots };
 
-    #[tactic(auto, using(policy_tables::proofs::PathLemmas::front_of_joined))]
     fn look(&self, checker: &Checker, notes: &mut Notes, place: usize) -> Result<(), AllocError> {
         let len = notes.enter_place(place)?;
-        look_at_key(
-            checker,
-            notes,
-            b"role",
-            TextKind::BoundRole,
-            self.role.as_slice(),
-        )?;
+        let role = self.role.as_slice();
+        look_at_key(checker, notes, b"role", TextKind::BoundRole, role)?;
+        let principals = self.principals.as_slice();
         look_at_texts(
             checker,
             notes,
             b"principals",
             TextKind::Principal,
-            self.principals.as_slice(),
+            principals,
         )?;
         notes.leave(len);
         Ok(())
@@ -242,18 +223,12 @@ impl Texts for RealmTable {
 
     ghost spots = { realm_spots };
 
-    #[tactic(auto, using(policy_tables::proofs::PathLemmas::front_of_joined))]
     fn look(&self, checker: &Checker, notes: &mut Notes, place: usize) -> Result<(), AllocError> {
         let _ = place;
         let len = notes.enter_key(self.name.as_slice())?;
         look(checker, notes, TextKind::RealmName, self.name.as_slice())?;
-        look_at_texts(
-            checker,
-            notes,
-            b"extends",
-            TextKind::Extended,
-            self.extends.as_slice(),
-        )?;
+        let extends = self.extends.as_slice();
+        look_at_texts(checker, notes, b"extends", TextKind::Extended, extends)?;
         look_at_all(checker, notes, b"bindings", self.bindings.as_slice())?;
         notes.leave(len);
         Ok(())
@@ -266,13 +241,8 @@ fn look_at_tables(checker: &Checker, notes: &mut Notes) -> Result<(), AllocError
     ensures { OnOk result (notes.new.least ≡ with_spots checker.now.book.now checker.now.check notes.old.least (all_spots checker.now.book.now)) }
 {
     let tables = checker.book.tables();
-    look_at_key(
-        checker,
-        notes,
-        b"secret",
-        TextKind::Secret,
-        tables.secret.as_slice(),
-    )?;
+    let secret = tables.secret.as_slice();
+    look_at_key(checker, notes, b"secret", TextKind::Secret, secret)?;
     look_at_all(checker, notes, b"user", tables.users.as_slice())?;
     look_at_all(checker, notes, b"group", tables.groups.as_slice())?;
     look_at_all(checker, notes, b"role", tables.roles.as_slice())?;
