@@ -115,7 +115,9 @@ class Tree:
         owner, _, called = word.rpartition("::")
         if owner and not re.search(rf"\b{owner}\b", self.source(name)):
             return False
-        if owner and re.search(rf"^(?:pub )?use (?!crate)[^;]*\b{owner}\b", self.source(name), re.M):
+        modules = set(re.findall(r"^(?:pub )?mod (\w+)", self.source(name), re.M)) | {"crate", "self", "super"}
+        brought = re.findall(rf"^(?:pub )?use (\w+)[^;]*\b{owner}\b", self.source(name), re.M) if owner else []
+        if set(brought) - modules:
             return True  # another crate's type
         said = re.escape(called)
         in_source = rf"\b(?:fn|struct|enum|trait|type|const|static) {said}\b|\bensures {said} \{{|\bghost {said}\b"
@@ -579,7 +581,7 @@ BREAKS = [
     ("a wrong body is gone", remove("crates/fault_counts/must-fail/fault_is_not_counted.edit"), "no wrong body"),
     ("a wrong body is new", add("crates/fault_counts/must-fail/new_one.edit", ""), "new_one is not named"),
     ("a clause is renamed", edit("crates/fault_counts/src/counts.rt", "ensures cause {", "ensures reason {"), "no clause cause"),
-    ("a call is renamed", edit("crates/lists/src/listed.rt", "pub fn into_vec", "pub fn to_vec"), "has no into_vec"),
+    ("a call is renamed", edit("crates/lists/src/listed.rt", "pub fn into_vec", "pub fn to_vec"), "into_vec"),
     ("a definition is new", add("crates/lists/specs/More.antt", ""), "doesn't name specs/More.antt"),
     ("the map lacks a crate", edit("README.md", "[lists](crates/lists/README.md), ", ""), "the map lacks"),
     ("the kit is another", edit("README.md", "rattle-kit-", "rattle-kit-0"), "the kit's line"),
