@@ -115,7 +115,7 @@ def long_name_wrong_texts(share):
 
 def repeated_principals(share):
     """One binding that names a user and a group again and again."""
-    count = int(175_000 * share)
+    count = int(400_000 * share)
     names = ",".join('"user:u0"' if i % 2 else '"group:g"' for i in range(count))
     return SECRET + users(1) + '[group.g]\nmembers = ["u0"]\n' + ROLE + realm(0, principals=names)
 

@@ -1,4 +1,4 @@
-// A disk of two parts.
+//! A disk of two parts.
 ghost use Rattle.std.specs.Prelude.{ℕ, ◌≡◌, ◌≤◌, length, Option, IfOk};
 ghost use Rattle.std.specs.Io.{ReadsAtMost};
 ghost use Rattle.fault_counts.specs.Causes.{HasCause};

@@ -1,4 +1,4 @@
-// Files as the parts of a disk.
+//! Files as the parts of a disk.
 ghost use Rattle.std.specs.Prelude.{◌≡◌, ◌≤◌, None, IfOk, MatchResult};
 ghost use Rattle.std.specs.Io.{ReadsAtMost};
 ghost use Rattle.fault_counts.specs.Causes.{HasCause, counted};

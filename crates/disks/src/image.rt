@@ -1,4 +1,4 @@
-// What a crash leaves of a disk in memory.
+//! What a crash leaves of a disk in memory.
 ghost use Rattle.std.specs.Prelude.{◌≡◌, ◌≤◌, ◌<◌, [], length, slice_index, false, IfOk};
 ghost use Rattle.std.specs.List.{slice_index_or};
 ghost use Rattle.fault_counts.specs.Calls.{no_call_yet};

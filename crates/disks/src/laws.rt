@@ -1,4 +1,4 @@
-// Laws of what is told.
+//! Laws of what is told.
 ghost use Rattle.std.specs.Prelude.{ℕ, ◌≤◌, ◌⊎◌};
 ghost use Rattle.disks.specs.Parts.{Image, MayLeave};
 ghost use Rattle.disks.specs.Moments.{Told, GoesOn, LeftSince, moment};

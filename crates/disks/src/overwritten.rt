@@ -1,4 +1,4 @@
-// Writes over bytes.
+//! Writes over bytes.
 ghost use Rattle.std.specs.Prelude.{◌≡◌, ◌≤◌, length, IfOk};
 ghost use Rattle.disks.specs.Parts.{written_over};
 

@@ -1,4 +1,4 @@
-// A part of a disk in memory.
+//! A part of a disk in memory.
 ghost use Rattle.disks.specs.Parts.{IsPartImage};
 ghost use Rattle.disks.specs.States.{part_with};
 

@@ -1,4 +1,4 @@
-// Places in a part.
+//! Places in a part.
 
 /// So many bytes from a place on.
 #[derive(Clone, Copy, Debug)]

@@ -1,4 +1,4 @@
-// Disks in memory and over files.
+//! Disks in memory and over files.
 ghost use Rattle.std.specs.Prelude.{◌≡◌, ◌≤◌, length};
 
 use crate::*;

@@ -1,4 +1,4 @@
-// Numbered records in a journal.
+//! Numbered records in a journal.
 ghost use Rattle.std.specs.Prelude.{◌≡◌, ◌≤◌, ◌^◌, true, length, IfOk};
 ghost use Rattle.result_journal.specs.Journals.{StandsForSome, is_settled};
 ghost use Rattle.journal_trial.specs.Opened.{IfOpened};

@@ -1,4 +1,4 @@
-// The journal, to which commands are appended.
+//! The journal, to which commands are appended.
 ghost use Rattle.std.specs.Prelude.{◌≡◌, ◌⊎◌, ℕ, ◌+◌, ◌^◌, ◌<◌, ◌≤◌, ◌↔◌, List, [], ◌∷◌, ◌++◌, length, true, false, IfOk, IfErr, OnOk, OnErr, MatchBool};
 ghost use Rattle.result_journal.specs.Grammar.{framed};
 ghost use Rattle.result_journal.specs.Full.{IsFullFor};

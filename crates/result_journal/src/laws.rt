@@ -1,4 +1,4 @@
-// The law of the grammar.
+//! The law of the grammar.
 ghost use Rattle.std.specs.Prelude.{ℕ, ◌≡◌, ◌<◌, List, All};
 ghost use Rattle.result_journal.specs.Grammar.{Reading, Reads};
 

@@ -1,4 +1,4 @@
-// The opening of a journal: its records in order, or its first fault.
+//! The opening of a journal: its records in order, or its first fault.
 ghost use Rattle.std.specs.Prelude.{◌≡◌, ℕ, ◌+◌, ◌^◌, ◌<◌, ◌≤◌, ◌↔◌, IsTrue, List, [], ◌∷◌, ◌++◌, length, true, false, None, Some, take, drop, IfOk, IfErr, OnOk, OnErr, MatchOption, MatchResult, ⊤};
 ghost use Rattle.std.specs.Int.{w32, to_le_bytes, from_le_bytes};
 ghost use Rattle.disks.specs.Moments.{Told, AtEachMoment};

@@ -1,4 +1,4 @@
-// The journal as a list of commands.
+//! The journal as a list of commands.
 ghost use Rattle.std.specs.Prelude.{◌≡◌, [], ◌∷◌, ◌++◌, map, OnOk, OnErr};
 
 use std::alloc::{AllocError, Global};

@@ -1,4 +1,4 @@
-// Reads that fill their room.
+//! Reads that fill their room.
 ghost use Rattle.std.specs.Prelude.{◌≡◌, ◌+◌, ◌^◌, ◌<◌, ◌≤◌, length, take, drop, IfOk};
 ghost use Rattle.fault_counts.specs.Causes.{HasCause};
 ghost use Rattle.disks.specs.Calls.{WhereTold, Gives};

@@ -1,4 +1,4 @@
-// A journal over disks in memory that fail, stop and crash.
+//! A journal over disks in memory that fail, stop and crash.
 ghost use Rattle.std.specs.Prelude.{◌≡◌, ◌≤◌, ◌^◌, length, true, IfOk};
 ghost use Rattle.result_journal.specs.Journals.{StandsForSome, is_settled, is_prepared};
 ghost use Rattle.result_journal.specs.Openings.{HasGivenSome};

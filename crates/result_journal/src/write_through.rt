@@ -1,4 +1,4 @@
-// A write that is on the device when it is done.
+//! A write that is on the device when it is done.
 ghost use Rattle.std.specs.Prelude.{◌≤◌, length};
 ghost use Rattle.fault_counts.specs.Causes.{HasCause};
 ghost use Rattle.disks.specs.Calls.{WhereTold};
