@@ -34,6 +34,7 @@ fn a_core_is_asked_in_turn(rt: HostRuntime) -> Result<(), Fail> {
     let first = teller.tell(&asked(alloc, body)?);
     let second = teller.tell(&asked(alloc, body)?);
     assert_eq!(rt; (status(&first), status(&second)), (200, 409));
-    assert_eq!(rt; core.invocations()[0].created.micros(), 5);
+    let row = core.invocations().first().ok_or("no row")?;
+    assert_eq!(rt; row.created.micros(), 5);
     Ok(())
 }
