@@ -424,8 +424,8 @@ def house_rules(tree):
             if re.search(r"^use .*\bTheConstants\b", tree.text(spec), re.M):
                 yield spec, 0, "a word of specs/ is a constant of the code"
         for source in sorted(folder.glob("src/**/*.rt")):
-            if not tree.text(source).startswith("//"):
-                yield source, 1, "the file doesn't begin with a comment that says what it is about"
+            if not tree.text(source).startswith("//!"):
+                yield source, 1, "the file doesn't begin with //! and what it is about"
 
 
 # The definitions that the headline reaches
