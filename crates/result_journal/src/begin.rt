@@ -19,7 +19,8 @@ pub const EMPTY_SIZE: u64 = 9;
 
 // Writes an empty journal over at most nine bytes, cuts to it, and syncs.
 pub fn write_empty_journal<D: Disk>(disk: &mut D) -> Result<(), Failed>
-    ensures moments { IsShort (D.told disk.old) → AtEachMoment (D.told disk.old) (D.told disk.new) IsShortImage }
+    ensures moments { IsShort (D.told disk.old) → AtEachMoment (D.told disk.old) (D.told disk.new)
+        IsShortImage }
     ensures ok { OnOk result (HoldsSynced (D.told disk.new) (head ++ 0 ∷ [])) }
     ensures cause { HasCause (D.faults disk.old) (D.faults disk.new) result }
 {

@@ -118,21 +118,26 @@ impl<D: Disk> Journal<D> {
             (BeforeOrAfter commands (prepared self.old)) }
 
         // At `Ok` a crash leaves the commands with the new one, and nothing else.
-        ensures acknowledged { OnOk result ((commands : List (List ℕ)) → StandsFor D.told self.old commands →
+        ensures acknowledged { OnOk result ((commands : List (List ℕ)) →
+            StandsFor D.told self.old commands →
             Leaves (D.told (disk_of self.new)) (ReadsAs (commands ++ prepared self.old ∷ []))) }
         ensures ok { OnOk result ((commands : List (List ℕ)) → StandsFor D.told self.old commands →
             StandsFor D.told self.new (commands ++ prepared self.old ∷ [])) }
         ensures ok_settled { OnOk result (is_settled self.new ≡ true) }
-        ensures end { OnOk result (end_of self.new ≡ end_of self.old + (5 + length (prepared self.old))) }
-        ensures calls { OnOk result (TakesMoments 4 (D.told (disk_of self.old)) (D.told (disk_of self.new))) }
+        ensures end { OnOk result (end_of self.new ≡ end_of self.old +
+            (5 + length (prepared self.old))) }
+        ensures calls { OnOk result (TakesMoments 4 (D.told (disk_of self.old))
+            (D.told (disk_of self.new))) }
 
         // After a failure the commands are as before, and the new one is still prepared.
-        ensures err { OnErr result ((commands : List (List ℕ)) → StandsFor D.told self.old commands →
+        ensures err { OnErr result ((commands : List (List ℕ)) →
+            StandsFor D.told self.old commands →
             StandsFor D.told self.new commands) }
         ensures err_same { OnErr result (SameButDisk self.old self.new) }
         ensures still { StandsForSome D.told self.new }
 
-        ensures cause { HasCause (D.faults (disk_of self.old)) (D.faults (disk_of self.new)) result }
+        ensures cause { HasCause (D.faults (disk_of self.old))
+            (D.faults (disk_of self.new)) result }
     {
         self.stage()?;
         self.open_gate()?;
@@ -145,14 +150,18 @@ impl<D: Disk> Journal<D> {
         requires prepared { is_prepared self.old ≡ true }
         requires settled { is_settled self.old ≡ true }
         ensures any_moment { (commands : List (List ℕ)) → StandsFor D.told self.old commands →
-            AtEachMoment (D.told (disk_of self.old)) (D.told (disk_of self.new)) (ReadsAs commands) }
+            AtEachMoment (D.told (disk_of self.old)) (D.told (disk_of self.new))
+            (ReadsAs commands) }
         ensures stands { (commands : List (List ℕ)) → StandsFor D.told self.old commands →
             StandsFor D.told self.new commands }
-        ensures staged { OnOk result ((commands : List (List ℕ)) → StandsFor D.told self.old commands →
+        ensures staged { OnOk result ((commands : List (List ℕ)) →
+            StandsFor D.told self.old commands →
             IsStaged D.told self.new commands) }
-        ensures calls { OnOk result (TakesMoments 2 (D.told (disk_of self.old)) (D.told (disk_of self.new))) }
+        ensures calls { OnOk result (TakesMoments 2 (D.told (disk_of self.old))
+            (D.told (disk_of self.new))) }
         ensures same { self.new ≡ record self.old { disk = self.new.disk } }
-        ensures cause { HasCause (D.faults (disk_of self.old)) (D.faults (disk_of self.new)) result }
+        ensures cause { HasCause (D.faults (disk_of self.old))
+            (D.faults (disk_of self.new)) result }
     {
         write_through(&mut self.disk, self.end + 1, &self.staged)
     }
@@ -171,12 +180,17 @@ impl<D: Disk> Journal<D> {
             IsStaged D.told self.old commands →
             StandsFor D.told self.new (commands ++ prepared self.old ∷ [])) }
         ensures ok_settled { OnOk result (is_settled self.new ≡ true) }
-        ensures end { OnOk result (end_of self.new ≡ end_of self.old + (5 + length (prepared self.old))) }
-        ensures calls { OnOk result (TakesMoments 2 (D.told (disk_of self.old)) (D.told (disk_of self.new))) }
-        ensures err { OnErr result ((commands : List (List ℕ)) → StandsFor D.told self.old commands →
+        ensures end { OnOk result (end_of self.new ≡ end_of self.old +
+            (5 + length (prepared self.old))) }
+        ensures calls { OnOk result (TakesMoments 2 (D.told (disk_of self.old))
+            (D.told (disk_of self.new))) }
+        ensures err { OnErr result ((commands : List (List ℕ)) →
+            StandsFor D.told self.old commands →
             IsStaged D.told self.old commands → StandsFor D.told self.new commands) }
-        ensures err_same { OnErr result (self.new ≡ record self.old { disk = self.new.disk; is_settled = false }) }
-        ensures cause { HasCause (D.faults (disk_of self.old)) (D.faults (disk_of self.new)) result }
+        ensures err_same { OnErr result (self.new ≡
+            record self.old { disk = self.new.disk; is_settled = false }) }
+        ensures cause { HasCause (D.faults (disk_of self.old))
+            (D.faults (disk_of self.new)) result }
     {
         self.is_settled = false;
         write_through(&mut self.disk, self.end, &[OPEN])?;
@@ -197,16 +211,19 @@ impl<D: Disk> Journal<D> {
             (BeforeOrAfter commands (prepared self.old)) }
 
         // At `Ok` a crash leaves the commands without that one.
-        ensures settled { OnOk result ((commands : List (List ℕ)) → StandsFor D.told self.old commands →
+        ensures settled { OnOk result ((commands : List (List ℕ)) →
+            StandsFor D.told self.old commands →
             Leaves (D.told (disk_of self.new)) (ReadsAs commands)) }
         ensures commands { (commands : List (List ℕ)) → StandsFor D.told self.old commands →
             StandsFor D.told self.new commands }
         ensures still { StandsForSome D.told self.new }
         ensures ok_settled { OnOk result (is_settled self.new ≡ true) }
-        ensures err_unsettled { OnErr result ((is_settled self.old ≡ false) × (is_settled self.new ≡ false)) }
+        ensures err_unsettled { OnErr result ((is_settled self.old ≡ false) × (is_settled self.new
+            ≡ false)) }
         ensures same { SameButDisk self.old self.new }
         ensures unmoved { is_settled self.old ≡ true → self.new ≡ self.old }
-        ensures cause { HasCause (D.faults (disk_of self.old)) (D.faults (disk_of self.new)) result }
+        ensures cause { HasCause (D.faults (disk_of self.old))
+            (D.faults (disk_of self.new)) result }
     {
         if !self.is_settled {
             write_through(&mut self.disk, self.end, &[CLOSED])?;

@@ -99,7 +99,8 @@ impl<D: Disk> Opening<D> {
     pub fn ready(self) -> Journal<D>
         requires given { HasGivenSome D.told self }
         requires ended { is_ended self ≡ true }
-        ensures stands { (given : List (List ℕ)) → HasGiven D.told self given → StandsFor D.told result given }
+        ensures stands { (given : List (List ℕ)) → HasGiven D.told self given →
+            StandsFor D.told result given }
         ensures settled { is_settled result ≡ true }
         ensures prepared { is_prepared result ≡ false }
         ensures end { end_of result ≡ next_gate self }
@@ -142,13 +143,17 @@ impl<D: Disk> Opening<D> {
         requires { HasGivenSome D.told self.old }
 
         // A body, with its place,
-        ensures gives { IfOk result (λ found. MatchOption found ⊤ (λ place. (given : List (List ℕ)) →
-            HasGiven D.told self.old given → HasGiven D.told self.new (given ++ into.new.items ∷ []))) }
-        ensures place { IfOk result (λ found. MatchOption found ⊤ (λ place. place ≡ next_gate self.old + 5)) }
+        ensures gives { IfOk result (λ found. MatchOption found ⊤
+            (λ place. (given : List (List ℕ)) →
+            HasGiven D.told self.old given →
+            HasGiven D.told self.new (given ++ into.new.items ∷ []))) }
+        ensures place { IfOk result (λ found. MatchOption found ⊤ (λ place. place
+            ≡ next_gate self.old + 5)) }
         ensures body { IfOk result (λ found. MatchOption found ⊤ (λ place. IsBody into.new.items)) }
 
         // or the end, and then these were all,
-        ensures ends { IfOk result (λ found. MatchOption found (is_ended self.new ≡ true) (λ _. ⊤)) }
+        ensures ends { IfOk result (λ found. MatchOption found (is_ended self.new ≡ true)
+            (λ _. ⊤)) }
         ensures keeps { IfOk result (λ found. MatchOption found ((given : List (List ℕ)) →
             HasGiven D.told self.old given → HasGiven D.told self.new given) (λ _. ⊤)) }
         ensures all { IfOk result (λ found. MatchOption found ((given : List (List ℕ)) →
@@ -166,7 +171,8 @@ impl<D: Disk> Opening<D> {
 
         // The disk isn't changed.
         ensures told { D.told (opened_disk self.new) ≡ D.told (opened_disk self.old) }
-        ensures cause { CountsOpening (D.faults (opened_disk self.old)) result (D.faults (opened_disk self.new)) }
+        ensures cause { CountsOpening (D.faults (opened_disk self.old)) result
+            (D.faults (opened_disk self.new)) }
     {
         *into = Vec::new(alloc);
         self.is_ended = false;
@@ -183,13 +189,15 @@ impl<D: Disk> Opening<D> {
     // The length of the next body, or `None` at a closed gate.
     fn next_length(&mut self) -> Result<Option<usize>, OpenFault>
         requires { next_gate self.old < self.old.size }
-        ensures found { WhereTold (D.told (opened_disk self.old)) 0 (λ p. self.old.size ≡ length p.bytes →
+        ensures found { WhereTold (D.told (opened_disk self.old)) 0 (λ p. self.old.size
+            ≡ length p.bytes →
             MatchResult result (FindsLength p.bytes (next_gate self.old))
             (BrokenFault p.bytes (next_gate self.old))) }
         ensures inside { IfOk result (IfFits (next_gate self.old) self.old.size) }
         ensures same { self.new ≡ record self.old { disk = self.new.disk } }
         ensures told { D.told (opened_disk self.new) ≡ D.told (opened_disk self.old) }
-        ensures cause { CountsOpening (D.faults (opened_disk self.old)) result (D.faults (opened_disk self.new)) }
+        ensures cause { CountsOpening (D.faults (opened_disk self.old)) result
+            (D.faults (opened_disk self.new)) }
     {
         let left = self.size - self.place;
         if left < 6 {
@@ -215,13 +223,15 @@ impl<D: Disk> Opening<D> {
         requires some { 0 < left }
         requires left { next_gate self.old + left ≡ self.old.size }
         requires few { left < 6 }
-        ensures found { WhereTold (D.told (opened_disk self.old)) 0 (λ p. self.old.size ≡ length p.bytes →
+        ensures found { WhereTold (D.told (opened_disk self.old)) 0 (λ p. self.old.size
+            ≡ length p.bytes →
             MatchResult result (FindsLength p.bytes (next_gate self.old))
             (BrokenFault p.bytes (next_gate self.old))) }
         ensures none { IfOk result (λ found. found ≡ None) }
         ensures same { self.new ≡ record self.old { disk = self.new.disk } }
         ensures told { D.told (opened_disk self.new) ≡ D.told (opened_disk self.old) }
-        ensures cause { CountsOpening (D.faults (opened_disk self.old)) result (D.faults (opened_disk self.new)) }
+        ensures cause { CountsOpening (D.faults (opened_disk self.old)) result
+            (D.faults (opened_disk self.new)) }
     {
         let mut gate = [0u8; 1];
         let whole = read_whole(&mut self.disk, self.place, &mut gate)?;
@@ -260,11 +270,13 @@ impl<D: Disk> Opening<D> {
         ensures body { WhereTold (D.told (opened_disk self.old)) 0 (λ p.
             IfOk result (λ body. body.items ≡ take count (drop (next_gate self.old + 5) p.bytes))) }
         ensures length { IfOk result (λ body. length body.items ≡ count) }
-        ensures fault { WhereTold (D.told (opened_disk self.old)) 0 (λ p. self.old.size ≡ length p.bytes →
+        ensures fault { WhereTold (D.told (opened_disk self.old)) 0 (λ p. self.old.size
+            ≡ length p.bytes →
             IfErr result IsNoFaultOfBytes) }
         ensures same { self.new ≡ record self.old { disk = self.new.disk } }
         ensures told { D.told (opened_disk self.new) ≡ D.told (opened_disk self.old) }
-        ensures cause { CountsOpening (D.faults (opened_disk self.old)) result (D.faults (opened_disk self.new)) }
+        ensures cause { CountsOpening (D.faults (opened_disk self.old)) result
+            (D.faults (opened_disk self.new)) }
     {
         let mut body = vec![in alloc; 0u8; count]?;
         let whole = read_whole(&mut self.disk, self.place + 5, &mut body)?;
@@ -278,10 +290,12 @@ impl<D: Disk> Opening<D> {
 // Syncs part 0 and judges its head, or begins it anew. Answers its size.
 fn begin_part<D: Disk>(disk: &mut D) -> Result<u64, OpenFault>
     ensures size { IfOk result (λ size. 9 ≤ size) }
-    ensures begun { IfOk result (λ size. (t : Told) → D.told disk.new ≡ Some t → IsBehind t.now.first [] 8 size) }
+    ensures begun { IfOk result (λ size. (t : Told) → D.told disk.new ≡ Some t →
+        IsBehind t.now.first [] 8 size) }
     ensures begins { OnOk result (OpensAs (D.told disk.old) (D.told disk.new)) }
     ensures shown { IfErr result (ShownWhereTold (D.told disk.old)) }
-    ensures any_moment { AtEachMoment (D.told disk.old) (D.told disk.new) (LeftBeforeOrAlike (D.told disk.old)) }
+    ensures any_moment { AtEachMoment (D.told disk.old) (D.told disk.new) (LeftBeforeOrAlike
+        (D.told disk.old)) }
     ensures cause { CountsOpening (D.faults disk.old) result (D.faults disk.new) }
 {
     disk.sync(0)?;

@@ -13,7 +13,8 @@ pub fn read_whole<D: Disk>(disk: &mut D, at: u64, room: &mut [u8]) -> Result<boo
     requires fits { at + length room.old < 2 ^ 64 }
     ensures cause { HasCause (D.faults disk.old) (D.faults disk.new) result }
     ensures told { D.told disk.new ≡ D.told disk.old }
-    ensures fills { WhereTold (D.told disk.old) 0 (λ p. IfOk result (FillsRoom p.bytes at room.new)) }
+    ensures fills { WhereTold (D.told disk.old) 0 (λ p. IfOk result
+        (FillsRoom p.bytes at room.new)) }
 {
     let mut done = 0usize;
     while done < room.len() {
@@ -37,7 +38,8 @@ fn read_behind<D: Disk>(
     requires fits { at + length room.old < 2 ^ 64 }
     ensures bound { IfOk result (λ count. done + count ≤ length room.new) }
     ensures front { take done room.new ≡ take done room.old }
-    ensures gives { WhereTold (D.told disk.old) 0 (λ p. IfOk result (Gives p.bytes (at + done) (drop done room.new))) }
+    ensures gives { WhereTold (D.told disk.old) 0 (λ p. IfOk result
+        (Gives p.bytes (at + done) (drop done room.new))) }
     ensures cause { HasCause (D.faults disk.old) (D.faults disk.new) result }
     ensures told { D.told disk.new ≡ D.told disk.old }
 {
