@@ -339,11 +339,15 @@ def all_named(tree):
 
 
 def has_number(text, name, digits):
-    """The text has the number, and where it defines the name, a line of this definition has it."""
+    """The text has the number, or writes it as a power of two, and where it defines the name, a line of this definition
+    does."""
     said = re.escape(name)
+    power = max(int(digits).bit_length() - 1, 0)
+    powers = rf"|1 << {power}|2 \^ {power}" if int(digits) == 1 << power else ""
+    spelled = rf"(?<!\d)(?:{digits}{powers})(?!\d)"
     text = re.sub(r"(?<=\d)_(?=\d)", "", text)
     defining = re.findall(rf"^.*\bconst {said}\b.*$|^{said}\b.*=.*$", text, re.M) if name else []
-    return any(re.search(rf"(?<!\d){digits}(?!\d)", part) for part in defining or [text])
+    return any(re.search(spelled, part) for part in defining or [text])
 
 
 def limits(tree):
