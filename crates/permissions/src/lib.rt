@@ -17,8 +17,6 @@ mod realms;
 mod rights;
 mod roles;
 mod stages;
-#[cfg(test)]
-mod tests;
 
 pub use caller::CallerId;
 pub use faults::PolicyFault;

@@ -6,8 +6,6 @@ mod check;
 mod index;
 mod owners;
 mod permission;
-#[cfg(test)]
-mod tests;
 mod texts;
 mod walk;
 

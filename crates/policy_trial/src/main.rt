@@ -1,10 +1,33 @@
-//! Reads a configuration from the input, and prints what became of it. A program for trials of sizes alone.
+//! Reads configurations from the input, and prints what becomes of each, and who may do what by it. For trials alone.
+//!
+//! A line `----` parts two configurations. A comment `# ask TOKEN REALM` of one that is read asks which permissions the
+//! token's user has in the realm: a letter each is printed, in the order of the list.
 #![tactic(auto)]
 
-use permissions::{Policy, PolicyFault};
+#[cfg(test)]
+mod tests;
+
+use names_realms::Realm;
+use permissions::{Permission, Policy, PolicyFault};
 use std::alloc::{AllocError, Global};
 use std::io::{self, Read, Write};
 use std::process::ExitCode;
+
+/// The permissions in the order of the letters.
+const PERMISSIONS: [Permission; 12] = [
+    Permission::CreateInvocation,
+    Permission::CreateWithReservedId,
+    Permission::GetInvocation,
+    Permission::IncludeInvocation,
+    Permission::GetTestResult,
+    Permission::ListTestResults,
+    Permission::ListLimitedTestResults,
+    Permission::GetTestExoneration,
+    Permission::ListTestExonerations,
+    Permission::ListLimitedTestExonerations,
+    Permission::GetArtifact,
+    Permission::ListArtifacts,
+];
 
 /// All that an input holds, up to a little more than a configuration may have.
 fn read_all<R: Read>(alloc: Global, input: &mut R) -> io::Result<Vec<u8>> {
@@ -20,16 +43,109 @@ fn read_all<R: Read>(alloc: Global, input: &mut R) -> io::Result<Vec<u8>> {
     Ok(text)
 }
 
+/// What a fault names.
+fn subject_of(fault: &PolicyFault) -> &[u8] {
+    match fault {
+        PolicyFault::BadName { at } | PolicyFault::BadShape { at } => at.as_slice(),
+        PolicyFault::UnknownRole { name }
+        | PolicyFault::UnknownRealm { name }
+        | PolicyFault::UnknownPrincipal { name }
+        | PolicyFault::RealmCycle { name } => name.as_slice(),
+        PolicyFault::TwoOwners { token } => token.as_slice(),
+        PolicyFault::NotToml | PolicyFault::TooMany { .. } | PolicyFault::Memory => b"",
+    }
+}
+
+/// The fault's number and name, and what it names.
+fn tell_fault(alloc: Global, fault: &PolicyFault, out: &mut Vec<u8>) -> Result<(), AllocError> {
+    let number = fault.number();
+    let name = fault.name();
+    let line = format!(in alloc; "{number} {name}")?;
+    out.extend_from_slice(line.as_bytes())?;
+    let subject = subject_of(fault);
+    if !subject.is_empty() {
+        out.extend_from_slice(b" ")?;
+        out.extend_from_slice(subject)?;
+    }
+    out.extend_from_slice(b"\n")
+}
+
+/// The letters of what the owner of a token may do in a realm.
+fn tell_rights(
+    alloc: Global,
+    policy: &Policy,
+    token: &str,
+    realm: &str,
+    out: &mut Vec<u8>,
+) -> Result<(), AllocError> {
+    let Ok(realm) = Realm::parse(alloc, realm.as_bytes()) else {
+        return out.extend_from_slice(b"no realm\n");
+    };
+    let Some(caller) = policy.caller_of(token.as_bytes()) else {
+        return out.extend_from_slice(b"no caller\n");
+    };
+    for permission in PERMISSIONS {
+        let letter = if policy.allows(caller, permission, &realm) {
+            b"x"
+        } else {
+            b"-"
+        };
+        out.extend_from_slice(letter)?;
+    }
+    out.extend_from_slice(b"\n")
+}
+
+/// The answers to the asks that stand in a configuration.
+fn tell_asks(
+    alloc: Global,
+    policy: &Policy,
+    text: &str,
+    out: &mut Vec<u8>,
+) -> Result<(), AllocError> {
+    for line in text.lines() {
+        if let Some(ask) = line.strip_prefix("# ask ") {
+            if let Some((token, realm)) = ask.split_once(' ') {
+                tell_rights(alloc, policy, token, realm, out)?;
+            }
+        }
+    }
+    Ok(())
+}
+
+/// What becomes of a configuration.
+fn tell(alloc: Global, text: &str, out: &mut Vec<u8>) -> Result<(), AllocError> {
+    match Policy::from_toml(alloc, text.as_bytes()) {
+        Ok(policy) => {
+            out.extend_from_slice(b"read\n")?;
+            tell_asks(alloc, &policy, text, out)
+        }
+        Err(fault) => tell_fault(alloc, &fault, out),
+    }
+}
+
+/// What becomes of each configuration of an input. Bytes that are no text are one, which isn't TOML.
+fn report(alloc: Global, input: &[u8]) -> Result<Vec<u8>, AllocError> {
+    let mut out = Vec::new(alloc);
+    match std::str::from_utf8(input) {
+        Ok(text) => {
+            for part in text.split("----\n") {
+                tell(alloc, part, &mut out)?;
+            }
+        }
+        Err(_) => tell_fault(alloc, &PolicyFault::NotToml, &mut out)?,
+    }
+    Ok(out)
+}
+
 fn main(rt: HostRuntime) -> ExitCode {
     let mut input = rt.stdin();
     let Ok(text) = read_all(rt.alloc(), &mut input) else {
         return ExitCode::from(2);
     };
-    let answer = match Policy::from_toml(rt.alloc(), text.as_slice()) {
-        Ok(_) => println!(rt; "read"),
-        Err(fault) => println!(rt; "{}", fault.name()),
+    let Ok(answer) = report(rt.alloc(), text.as_slice()) else {
+        return ExitCode::from(1);
     };
-    match answer {
+    match rt.stdout().write_all(answer.as_slice()) {
         Ok(()) => ExitCode::from(0),
         Err(_) => ExitCode::from(1),
     }
