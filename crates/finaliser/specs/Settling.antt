@@ -1,0 +1,33 @@
+-- When what is finalizing becomes final.
+use Rattle.std.specs.Prelude.{◌≡◌, ℕ, ◌↔◌, List, Some, Contains, length, slice_get}
+use Rattle.std.specs.List.Sorted.{IsStrictlyIncreasing}
+use Rattle.names_realms.specs.declared.states.State.{State}
+use Rattle.names_realms.specs.declared.states.State.TheVariants.{Active, Finalizing, Finalized}
+use Rattle.inclusion_graph.specs.declared.edge.Edge.{Edge}
+use Rattle.inclusion_graph.specs.Edges.{GraphState}
+use Rattle.inclusion_graph.specs.Walks.{Reaches}
+
+-- A finaliser: its graph, the state of each node, the nodes that are newly final, and for how many more nodes there is
+-- room.
+pub record FinaliserState : Type 0 where
+  pub graph : GraphState
+  pub states : List State
+  pub finals : List ℕ
+  pub spare : ℕ
+
+-- The node is in this state.
+abbrev pub IsIn : State → List State → ℕ → Type 0
+IsIn state states node = slice_get states node ≡ Some state
+
+-- The node reaches an active one.
+abbrev pub ReachesActive : List Edge → List State → ℕ → Type 0
+ReachesActive edges states node = (other : ℕ) × Reaches edges node other × IsIn Active states other
+
+-- Every node that is finalizing and reaches no active one becomes final, all at once, and all else stays. Those that
+-- become final are listed, ascending.
+pub record Settles (edges : List Edge) (old new : List State) (finals : List ℕ) : Type 0 where
+  pub rising : IsStrictlyIncreasing finals
+  pub all : (node : ℕ) → Contains finals node ↔ (IsIn Finalizing old node × (¬ ReachesActive edges old node))
+  pub final : (node : ℕ) → Contains finals node → IsIn Finalized new node
+  pub others : (node : ℕ) → (¬ Contains finals node) → slice_get new node ≡ slice_get old node
+  pub count : length new ≡ length old

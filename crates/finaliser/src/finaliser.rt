@@ -1,0 +1,190 @@
+//! The finaliser.
+ghost use Rattle.std.specs.Prelude.{◌≡◌, ◌≤◌, ◌<◌, ◌+◌, ◌++◌, ◌∷◌, ◌↔◌, [], ℕ, List, All, IsTrue, IfOk, IfErr, OnOk, length, slice_set};
+ghost use Rattle.inclusion_graph.specs.Edges.{edges_from};
+ghost use Rattle.inclusion_graph.specs.Plans.{Fits, IsEdgeFault, IsElsewhere, new_targets};
+ghost use Rattle.finaliser.specs.Settling.{IsIn, Settles};
+
+use crate::settling::{mark_active, mark_all, settle_unmarked};
+use inclusion_graph::{EdgeFault, EdgePlan, Graph};
+use names_realms::State;
+use std::alloc::{AllocError, Global};
+use std::marker::Model;
+
+/// The graph of inclusions with a state for each node.
+#[derive(Drop)]
+pub struct Finaliser {
+    graph: Graph,
+    states: Vec<State>,
+    marks: Vec<bool>,
+    finals: Vec<u32>,
+}
+
+impl Model for Finaliser {
+    ghost use Rattle.std.specs.Prelude.{◌-◌, min, vec_len, vec_capacity};
+    ghost use Rattle.finaliser.specs.Settling.{FinaliserState};
+    ghost use Rattle.finaliser.specs.Marks.{IsKept};
+
+    ghost Value = { FinaliserState };
+
+    ghost view = { λ f. record {
+      graph = f.graph;
+      states = f.states.items;
+      finals = f.finals.items;
+      spare = min (min f.graph.spare_nodes (vec_capacity f.states - vec_len f.states))
+          (min (vec_capacity f.marks - vec_len f.marks) (vec_capacity f.finals - vec_len f.states));
+    } };
+
+    ghost invariant = { λ f.
+        IsKept f.graph f.states.items (vec_len f.marks) f.finals.items (vec_capacity f.finals) };
+}
+
+impl Finaliser {
+    /// No nodes. `Err` where there is no memory.
+    pub fn new(alloc: Global) -> Result<Finaliser, AllocError>
+        ensures states { IfOk result (λ finaliser. finaliser.states ≡ []) }
+        ensures edges { IfOk result (λ finaliser. finaliser.graph.edges ≡ []) }
+        ensures finals { IfOk result (λ finaliser. finaliser.finals ≡ []) }
+    {
+        let graph = Graph::new(alloc)?;
+        Ok(Finaliser {
+            graph,
+            states: Vec::new(alloc),
+            marks: Vec::new(alloc),
+            finals: Vec::new(alloc),
+        })
+    }
+
+    /// The graph, which has a node for each state.
+    pub fn graph(&self) -> &Graph
+        ensures graph { result.now ≡ self.now.graph }
+        ensures nodes { self.now.graph.nodes ≡ length self.now.states }
+    {
+        &self.graph
+    }
+
+    /// The nodes that are newly final.
+    pub fn finals(&self) -> &[u32]
+        ensures { result.now ≡ self.now.finals }
+    {
+        self.finals.as_slice()
+    }
+
+    /// Whether a node is active.
+    pub fn is_active(&self, node: u32) -> bool
+        requires { node < length self.now.states }
+        ensures { IsTrue result ↔ IsIn State.Active self.now.states node }
+    {
+        self.states[node as usize] == State::Active
+    }
+
+    /// Whether a node is final.
+    pub fn is_final(&self, node: u32) -> bool
+        requires { node < length self.now.states }
+        ensures { IsTrue result ↔ IsIn State.Finalized self.now.states node }
+    {
+        self.states[node as usize] == State::Finalized
+    }
+
+    /// Forgets which nodes are newly final.
+    pub fn clear_finals(&mut self)
+        ensures finals { self.new.finals ≡ [] }
+        ensures states { self.new.states ≡ self.old.states }
+        ensures graph { self.new.graph ≡ self.old.graph }
+        ensures spare { self.old.spare ≤ self.new.spare }
+    {
+        self.finals.clear();
+    }
+
+    /// Makes room for one more node, and for any number of retirements. `Err` where there is no
+    /// memory.
+    pub fn reserve(&mut self, alloc: Global) -> Result<(), AllocError>
+        ensures states { self.new.states ≡ self.old.states }
+        ensures finals { self.new.finals ≡ self.old.finals }
+        ensures edges { self.new.graph.edges ≡ self.old.graph.edges }
+        ensures nodes { self.new.graph.nodes ≡ self.old.graph.nodes }
+        ensures spare { self.old.spare ≤ self.new.spare }
+        ensures spare_edges { self.old.graph.spare_edges ≤ self.new.graph.spare_edges }
+        ensures room { OnOk result (0 < self.new.spare) }
+    {
+        self.graph.reserve(alloc, 1, 0)?;
+        self.states.reserve(1)?;
+        self.marks.reserve(1)?;
+        self.finals.reserve(self.states.len() + 1)?;
+        Ok(())
+    }
+
+    /// Adds an active node, and gives its number. It takes no memory.
+    pub fn add_active(&mut self) -> u32
+        requires { 0 < self.old.spare }
+        ensures number { result ≡ length self.old.states }
+        ensures states { self.new.states ≡ self.old.states ++ State.Active ∷ [] }
+        ensures finals { self.new.finals ≡ self.old.finals }
+        ensures edges { self.new.graph.edges ≡ self.old.graph.edges }
+        ensures nodes { self.new.graph.nodes ≡ self.old.graph.nodes + 1 }
+        ensures spare { self.old.spare ≤ self.new.spare + 1 }
+        ensures spare_edges { self.old.graph.spare_edges ≤ self.new.graph.spare_edges }
+    {
+        self.states.push_reserved(State::Active);
+        self.marks.push_reserved(false);
+        self.graph.add_node()
+    }
+
+    /// The edges from an active node to those of the targets to which it has none yet, as
+    /// `Graph::prepare_edges` answers.
+    pub fn prepare_edges(
+        &mut self,
+        alloc: Global,
+        from: u32,
+        targets: &[u32],
+    ) -> Result<EdgePlan, EdgeFault>
+        requires from { IsIn State.Active self.old.states from }
+        requires targets { All (λ target. target < length self.old.states) targets.now }
+        ensures states { self.new.states ≡ self.old.states }
+        ensures finals { self.new.finals ≡ self.old.finals }
+        ensures nodes { self.new.graph.nodes ≡ self.old.graph.nodes }
+        ensures edges { self.new.graph.edges ≡ self.old.graph.edges }
+        ensures spare { self.old.spare ≤ self.new.spare }
+        ensures spare_edges { self.old.graph.spare_edges ≤ self.new.graph.spare_edges }
+        ensures fits { IfOk result (Fits self.new.graph) }
+        ensures from { IfOk result (λ plan. plan.from ≡ from) }
+        ensures targets { IfOk result
+            (λ plan. plan.targets ≡ new_targets self.old.graph from targets.now) }
+        ensures elsewhere { OnOk result (IsElsewhere from targets.now) }
+        ensures fault { IfErr result (IsEdgeFault self.old.graph from targets.now) }
+    {
+        let plan = self.graph.prepare_edges(alloc, from, targets)?;
+        Ok(plan)
+    }
+
+    /// Adds edges that were prepared, from a node that is active. It takes no memory.
+    pub fn add_edges(&mut self, plan: EdgePlan)
+        requires fits { Fits self.old.graph plan }
+        requires from { IsIn State.Active self.old.states plan.from }
+        ensures states { self.new.states ≡ self.old.states }
+        ensures finals { self.new.finals ≡ self.old.finals }
+        ensures nodes { self.new.graph.nodes ≡ self.old.graph.nodes }
+        ensures edges { self.new.graph.edges ≡
+            self.old.graph.edges ++ edges_from plan.from plan.targets }
+        ensures spare { self.old.spare ≤ self.new.spare }
+        ensures spare_edges { self.old.graph.spare_edges ≤
+            self.new.graph.spare_edges + length plan.targets }
+    {
+        self.graph.add_edges(plan);
+    }
+
+    /// Makes an active node finalizing. Then every finalizing node that reaches no active one becomes
+    /// final, all at once, and is listed with the newly final ones, ascending. It takes no memory.
+    pub fn retire(&mut self, node: u32)
+        requires { IsIn State.Active self.old.states node }
+        ensures settled { (more : List ℕ) × (self.new.finals ≡ self.old.finals ++ more)
+            × Settles self.old.graph.edges (slice_set self.old.states node State.Finalizing)
+            self.new.states more }
+        ensures graph { self.new.graph ≡ self.old.graph }
+        ensures spare { self.old.spare ≤ self.new.spare }
+    {
+        self.states[node as usize] = State::Finalizing;
+        mark_active(self.graph.edges(), self.states.as_slice(), &mut self.marks);
+        mark_all(self.graph.edges(), &mut self.marks);
+        settle_unmarked(self.marks.as_slice(), &mut self.states, &mut self.finals);
+    }
+}

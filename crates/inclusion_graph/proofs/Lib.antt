@@ -1,0 +1,4 @@
+pub mod EdgeLemmas
+pub mod ListLemmas
+pub mod SearchLemmas
+pub mod WalkLemmas

@@ -1,0 +1,36 @@
+-- Edges between numbered nodes.
+use Rattle.std.specs.Prelude.{ℕ, Bool, List, [], ◌∷◌, ◌++◌, Option, Some, None, map, ◌==◌, Contains, if◌then◌else◌}
+use Rattle.std.specs.List.{filter_map, list_any}
+use Rattle.inclusion_graph.specs.declared.edge.Edge.{Edge}
+
+-- A graph: how many nodes it has, its edges in order of arrival, and for how many more nodes and edges there is room.
+pub record GraphState : Type 0 where
+  pub nodes : ℕ
+  pub edges : List Edge
+  pub spare_nodes : ℕ
+  pub spare_edges : ℕ
+
+-- There is an edge from a to b.
+abbrev pub HasEdge : List Edge → ℕ → ℕ → Type 0
+HasEdge edges a b = Contains edges (record { from = a; to = b })
+
+-- where an edge leads, if it begins at this node
+abbrev pub target_from : ℕ → Edge → Option ℕ
+target_from node edge = if edge.from == node then Some edge.to else None
+
+-- The targets of a node, in order of arrival.
+abbrev pub targets_of : List Edge → ℕ → List ℕ
+targets_of edges node = filter_map (target_from node) edges
+
+-- whether the list has the number
+abbrev pub has : List ℕ → ℕ → Bool
+has seen n = list_any (λ m. n == m) seen
+
+-- The numbers that aren't seen yet, each once, in order.
+abbrev pub fresh : List ℕ → List ℕ → List ℕ
+fresh seen [] = []
+fresh seen (n ∷ ns) = if has seen n then fresh seen ns else n ∷ fresh (seen ++ n ∷ []) ns
+
+-- edges from a node to each of these
+abbrev pub edges_from : ℕ → List ℕ → List Edge
+edges_from node targets = map (λ target. record { from = node; to = target }) targets

@@ -1,0 +1,4 @@
+pub mod Edges
+pub mod Plans
+pub mod Searches
+pub mod Walks

@@ -1,0 +1,258 @@
+//! The graph of inclusions.
+ghost use Rattle.std.specs.Prelude.{◌≡◌, ◌+◌, ◌-◌, ◌<◌, ◌≤◌, ◌^◌, ◌++◌, ◌↔◌, ℕ, ◌∷◌, [], Some, List, IfOk, IfErr, OnOk, MatchOption, All, Contains, length, slice_get, vec_len, vec_capacity};
+ghost use Rattle.std.specs.List.Sorted.{IsStrictlyIncreasing};
+ghost use Rattle.inclusion_graph.specs.Edges.{edges_from, targets_of};
+ghost use Rattle.inclusion_graph.specs.Plans.{Fits, IsEdgeFault, IsElsewhere, new_targets};
+ghost use Rattle.inclusion_graph.specs.Searches.{IsListed, IsRooted, IsSearched, nodes_of};
+ghost use Rattle.inclusion_graph.specs.Walks.{IsReached, Leads, Reaches};
+
+use crate::edge::Edge;
+use crate::plan::{EdgeFault, EdgePlan, joined, place_of};
+use crate::search::Search;
+use std::alloc::{AllocError, Global};
+use std::marker::Model;
+
+/// How many edges there may be.
+const MOST_EDGES: usize = 262_144;
+
+/// How many nodes there may be: as many as there are numbers for them.
+const MOST_NODES: usize = 4_294_967_295;
+
+/// Nodes, which are numbered from 0, and the edges between them, at most 262,144.
+#[derive(Drop)]
+pub struct Graph {
+    edges: Vec<Edge>,
+    targets: Vec<Vec<u32>>,
+}
+
+impl Model for Graph {
+    ghost use Rattle.std.specs.Prelude.{◌-◌, min, length, vec_len, vec_capacity};
+    ghost use Rattle.inclusion_graph.specs.Edges.{GraphState};
+    ghost use Rattle.inclusion_graph.specs.Searches.{IsListed};
+
+    ghost Value = { GraphState };
+
+    ghost view = { λ g. record {
+      nodes = length g.targets.items;
+      edges = g.edges.items;
+      spare_nodes = min (vec_capacity g.targets) 4_294_967_295 - vec_len g.targets;
+      spare_edges = vec_capacity g.edges - vec_len g.edges;
+    } };
+
+    ghost invariant = { λ g. IsListed g.edges.items g.targets.items };
+}
+
+impl Graph {
+    /// A graph without nodes. `Err` where there is no memory for it.
+    pub fn new(alloc: Global) -> Result<Graph, AllocError>
+        ensures nodes { IfOk result (λ graph. graph.nodes ≡ 0) }
+        ensures edges { IfOk result (λ graph. graph.edges ≡ []) }
+    {
+        Ok(Graph {
+            edges: Vec::new(alloc),
+            targets: Vec::new(alloc),
+        })
+    }
+
+    /// How many nodes there are.
+    pub fn nodes(&self) -> u32
+        ensures { result ≡ self.now.nodes }
+    {
+        self.targets.len() as u32
+    }
+
+    /// The edges, in order of arrival.
+    pub fn edges(&self) -> &[Edge]
+        ensures edges { result.now ≡ self.now.edges }
+        ensures few { length self.now.edges ≤ 262_144 }
+        ensures from { All (λ edge. edge.from < self.now.nodes) result.now }
+        ensures to { All (λ edge. edge.to < self.now.nodes) result.now }
+    {
+        self.edges.as_slice()
+    }
+
+    /// The targets of a node, in order of arrival.
+    pub fn targets(&self, node: u32) -> &[u32]
+        requires { node < self.now.nodes }
+        ensures targets { result.now ≡ targets_of self.now.edges node }
+        ensures within { All (λ target. target < self.now.nodes) result.now }
+    {
+        self.targets[node as usize].as_slice()
+    }
+
+    /// The k-th target of a node, counted from 0, or none where it has no more than k.
+    pub fn edge(&self, node: u32, k: u32) -> Option<u32>
+        requires { node < self.now.nodes }
+        ensures { result ≡ slice_get (targets_of self.now.edges node) k }
+    {
+        self.targets(node).get(k as usize).copied()
+    }
+
+    /// Makes room for this many nodes and edges more. `Err` where there is no memory for them.
+    pub fn reserve(&mut self, alloc: Global, nodes: u32, edges: u32) -> Result<(), AllocError>
+        ensures nodes { self.new.nodes ≡ self.old.nodes }
+        ensures edges { self.new.edges ≡ self.old.edges }
+        ensures spare_nodes { self.old.spare_nodes ≤ self.new.spare_nodes }
+        ensures spare_edges { self.old.spare_edges ≤ self.new.spare_edges }
+        ensures room_for_nodes { OnOk result (nodes ≤ self.new.spare_nodes) }
+        ensures room_for_edges { OnOk result (edges ≤ self.new.spare_edges) }
+    {
+        let _ = alloc;
+        if nodes as usize > MOST_NODES - self.targets.len() {
+            return Err(AllocError);
+        }
+        self.targets.reserve(nodes as usize)?;
+        self.edges.reserve(edges as usize)?;
+        Ok(())
+    }
+
+    /// Adds a node, and gives its number. It takes no memory.
+    pub fn add_node(&mut self) -> u32
+        requires { 0 < self.old.spare_nodes }
+        ensures number { result ≡ self.old.nodes }
+        ensures nodes { self.new.nodes ≡ self.old.nodes + 1 }
+        ensures edges { self.new.edges ≡ self.old.edges }
+        ensures spare_nodes { self.old.spare_nodes ≤ self.new.spare_nodes + 1 }
+        ensures spare_edges { self.old.spare_edges ≤ self.new.spare_edges }
+    {
+        let number = self.targets.len() as u32;
+        let none = Vec::new(*self.edges.allocator());
+        self.targets.push_reserved(none);
+        number
+    }
+
+    /// The edges from a node to those of the targets to which it has none yet, each once, in order,
+    /// with room for them. `Itself` where a target is the node, else `Full` where the edges would
+    /// be more than 262,144; `Memory` where there is no memory for them.
+    pub fn prepare_edges(
+        &mut self,
+        alloc: Global,
+        from: u32,
+        targets: &[u32],
+    ) -> Result<EdgePlan, EdgeFault>
+        requires from { from < self.old.nodes }
+        requires targets { All (λ target. target < self.old.nodes) targets.now }
+        ensures nodes { self.new.nodes ≡ self.old.nodes }
+        ensures edges { self.new.edges ≡ self.old.edges }
+        ensures spare_nodes { self.old.spare_nodes ≤ self.new.spare_nodes }
+        ensures spare_edges { self.old.spare_edges ≤ self.new.spare_edges }
+        ensures fits { IfOk result (Fits self.new) }
+        ensures from { IfOk result (λ plan. plan.from ≡ from) }
+        ensures targets { IfOk result
+            (λ plan. plan.targets ≡ new_targets self.old from targets.now) }
+        ensures elsewhere { OnOk result (IsElsewhere from targets.now) }
+        ensures fault { IfErr result (IsEdgeFault self.old from targets.now) }
+    {
+        if let Some(at) = place_of(targets, from) {
+            return Err(EdgeFault::Itself { at });
+        }
+        let held = self.targets(from);
+        let count = held.len();
+        let all = joined(alloc, self.targets.len(), held, targets)?;
+        if all.len() - count > MOST_EDGES - self.edges.len() {
+            return Err(EdgeFault::Full {
+                count: self.edges.len() as u32,
+            });
+        }
+        self.edges.reserve(all.len() - count)?;
+        Ok(EdgePlan {
+            from,
+            held: count,
+            all,
+        })
+    }
+
+    /// Adds edges that were prepared. It takes no memory.
+    pub fn add_edges(&mut self, plan: EdgePlan)
+        requires { Fits self.old plan }
+        ensures nodes { self.new.nodes ≡ self.old.nodes }
+        ensures edges { self.new.edges ≡ self.old.edges ++ edges_from plan.from plan.targets }
+        ensures spare_nodes { self.old.spare_nodes ≤ self.new.spare_nodes }
+        ensures spare_edges { self.old.spare_edges ≤ self.new.spare_edges + length plan.targets }
+    {
+        let EdgePlan { from, held, all } = plan;
+        add_from(&mut self.edges, from, &all[held..]);
+        self.targets[from as usize] = all;
+    }
+
+    /// The nodes that are found from these, with the steps by which each was found.
+    fn search(&self, alloc: Global, roots: &[u32]) -> Result<Search, AllocError>
+        requires { All (λ root. root < self.now.nodes) roots.now }
+        ensures nodes { IfOk result (λ search. length search.marks.items ≡ self.now.nodes) }
+        ensures few { self.now.nodes ≤ 4_294_967_295 }
+        ensures all { IfOk result (λ search. IsSearched self.now.edges roots.now
+            search.marks.items search.steps.items (length search.steps.items)) }
+    {
+        let mut search = Search::new(alloc, self.targets.len())?;
+        search.add_all(roots, None)?;
+        let mut at = 0;
+        'steps: while at < search.steps.len() {
+            let node = search.steps[at].node;
+            search.add_all(self.targets(node), Some(at))?;
+            at += 1;
+        }
+        Ok(search)
+    }
+
+    /// The walk to the node of a step.
+    fn walk_back(
+        &self,
+        alloc: Global,
+        search: &Search,
+        from: u32,
+        place: usize,
+    ) -> Result<Vec<u32>, AllocError>
+        requires rooted { IsRooted self.now.edges (from ∷ []) search.now.steps.items }
+        requires place { place < length search.now.steps.items }
+        ensures { IfOk result (λ walk. (to : ℕ) →
+            slice_get (nodes_of search.now.steps.items) place ≡ Some to →
+            Leads self.now.edges walk.items from to) }
+    {
+        let mut at = place;
+        let mut walk = Vec::new(alloc);
+        walk.push(search.steps[at].node)?;
+        'back: while let Some(back) = search.steps[at].back {
+            at = back;
+            walk.push(search.steps[at].node)?;
+        }
+        walk.reverse();
+        Ok(walk)
+    }
+
+    /// A walk from a node to another, or none where there is none.
+    pub fn walk_to(&self, alloc: Global, a: u32, b: u32) -> Result<Option<Vec<u32>>, AllocError>
+        requires { a < self.now.nodes }
+        ensures { IfOk result (λ found. MatchOption found (¬ Reaches self.now.edges a b)
+            (λ walk. Leads self.now.edges walk.items a b)) }
+    {
+        let search = self.search(alloc, &[a])?;
+        let Some(place) = search.place_of(b) else {
+            return Ok(None);
+        };
+        Ok(Some(self.walk_back(alloc, &search, a, place)?))
+    }
+
+    /// All nodes that are reached from these, ascending, each once.
+    pub fn reach(&self, alloc: Global, roots: &[u32]) -> Result<Vec<u32>, AllocError>
+        requires { All (λ root. root < self.now.nodes) roots.now }
+        ensures rising { IfOk result (λ nodes. IsStrictlyIncreasing nodes.items) }
+        ensures all { IfOk result (λ nodes. (node : ℕ) →
+            Contains nodes.items node ↔ IsReached self.now.edges roots.now node) }
+    {
+        let search = self.search(alloc, roots)?;
+        let nodes = search.found(alloc)?;
+        Ok(nodes)
+    }
+}
+
+/// Appends edges from a node to each of these, for which there is room.
+fn add_from(edges: &mut Vec<Edge>, from: u32, targets: &[u32])
+    requires { vec_len edges.old + length targets.now ≤ vec_capacity edges.old }
+    ensures edges { edges.new.items ≡ edges.old.items ++ edges_from from targets.now }
+    ensures len { vec_len edges.new ≡ vec_len edges.old + length targets.now }
+    ensures capacity { vec_capacity edges.new ≡ vec_capacity edges.old }
+{
+    for to in targets {
+        edges.push_reserved(Edge { from, to: *to });
+    }
+}

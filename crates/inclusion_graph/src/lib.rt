@@ -1,0 +1,13 @@
+//! Inclusions as edges between numbered nodes, and what is reached along them.
+#![tactic(auto)]
+
+mod edge;
+mod graph;
+mod plan;
+mod search;
+#[cfg(test)]
+mod tests;
+
+pub use edge::Edge;
+pub use graph::Graph;
+pub use plan::{EdgeFault, EdgePlan};

@@ -1,0 +1,345 @@
+-- The orders of the two indexes, and the indexes after a change of the rows.
+use Rattle.std.proofs.Common.{◌≡◌, ◌≢◌, ◌⊎◌, ◌<◌, ◌≤◌, ◌<ℤ◌, ◌≤ℤ◌, ◌+◌, ℕ, zero, suc, ℤ, List, [], ◌∷◌, ◌++◌, length, get_or, set, Contains, Option, Some, None, Ordering, Less, Equal, Greater, refl, sym, ap, ◌∙◌, subst, inl, inr, arith}
+use Rattle.std.specs.Cmp.{IsTotalOrder}
+use Rattle.std.specs.Cmp.Lexicographic.{slice_cmp, bytes_decides, nat_list_cmp_total}
+use Rattle.std.specs.List.{All, AllByRecursion, slice_get, insert}
+use Rattle.std.specs.List.Sorted.{IsPartitionPoint}
+use Rattle.std.specs.Ordering.{nat_cmp, int_cmp, ordering_then, is_eq, MatchOrdering}
+use Rattle.std.proofs.lemmas.Bool.{cases_lt, cases_eq}
+use Rattle.std.proofs.lemmas.Cmp.{then_total, on_total, nat_cmp_total, int_cmp_total, int_ranked, ranked, tied_itself}
+use Rattle.std.proofs.lemmas.Int.{ints}
+use Rattle.std.proofs.lemmas.List.{get_or_append_left, get_or_push, get_or_default, get_or-take, length-take, length_push, length-set}
+use Rattle.std.proofs.lemmas.List.Edits.{length-insert}
+use Rattle.std.proofs.lemmas.List.Elements.{Contains-get_or}
+use Rattle.std.proofs.lemmas.Map.Text.{is_eq-slice_cmp}
+use Rattle.std.proofs.lemmas.Option.{same_Some, slice_get-get_or, slice_get_within}
+use Rattle.names_realms.specs.declared.states.State.{State}
+use Rattle.names_realms.specs.declared.states.State.TheVariants.{Active, Finalizing, Finalized}
+use Rattle.invocations.specs.declared.due.Due.{Due}
+use Rattle.invocations.specs.declared.invocation.Invocation.{Invocation}
+use Rattle.invocations.specs.Due.{IsDue, IsNextDue}
+use Rattle.invocations.specs.Orders.{IsRising, HasOneMore, HasOneFewer, IsIdIndex, IsDueIndex, id_order, places_order, due_order, deadline_in, deadlines_of}
+use Rattle.invocations.proofs.OrderLemmas.{rising_insert, one_more_insert, none_equal, first_least}
+use Rattle.invocations.proofs.RowLemmas.{at_place, at_front, at_end}
+
+pub due_order_total : IsTotalOrder due_order
+due_order_total = then_total (on_total (λ (d : Due). d.deadline) int_cmp_total) (on_total (λ (d : Due). d.place) nat_cmp_total)
+
+places_order_total : (ids : List (List ℕ)) → IsTotalOrder (places_order ids)
+places_order_total ids = on_total (λ (p : ℕ). get_or ids p []) nat_list_cmp_total
+
+then_equal : (o p : Ordering) → ordering_then o p ≡ Equal → (o ≡ Equal) × (p ≡ Equal)
+then_equal Less p e = let no : Less ≡ Equal = e in cc
+then_equal Equal p e = (refl, e)
+then_equal Greater p e = let no : Greater ≡ Equal = e in cc
+
+then_less : (o p : Ordering) → ordering_then o p ≡ Less → (o ≡ Less) ⊎ ((o ≡ Equal) × (p ≡ Less))
+then_less Less p e = inl refl
+then_less Equal p e = inr (refl, e)
+then_less Greater p e = let no : Greater ≡ Less = e in cc
+
+int_equal : (x y : ℤ) → int_cmp x y ≡ Equal → x ≡ y
+int_equal x y e = subst (λ r. MatchOrdering r (x <ℤ y) (x ≡ y) (y <ℤ x)) e (int_ranked x y (int_cmp x y) refl)
+
+int_less : (x y : ℤ) → int_cmp x y ≡ Less → x <ℤ y
+int_less x y e = subst (λ r. MatchOrdering r (x <ℤ y) (x ≡ y) (y <ℤ x)) e (int_ranked x y (int_cmp x y) refl)
+
+nat_equal : (x y : ℕ) → nat_cmp x y ≡ Equal → x ≡ y
+nat_equal x y e = subst (λ r. MatchOrdering r (x < y) (x ≡ y) (y < x)) e (ranked x y (nat_cmp x y) refl)
+
+nat_less : (x y : ℕ) → nat_cmp x y ≡ Less → x < y
+nat_less x y e = subst (λ r. MatchOrdering r (x < y) (x ≡ y) (y < x)) e (ranked x y (nat_cmp x y) refl)
+
+pub due_same : (a b : Due) → a.deadline ≡ b.deadline → a.place ≡ b.place → a ≡ b
+due_same a b e f =
+    let at : ℤ → Due = λ z. record { deadline = z; place = a.place } in
+    let to : ℕ → Due = λ p. record { deadline = b.deadline; place = p } in
+    ap at e ∙ ap to f
+
+pub same_due : (a b : Due) → due_order a b ≡ Equal → a ≡ b
+same_due a b e =
+    let parts = then_equal (int_cmp a.deadline b.deadline) (nat_cmp a.place b.place) e in
+    let deadlines : a.deadline ≡ b.deadline = int_equal a.deadline b.deadline parts.0 in
+    let places : a.place ≡ b.place = nat_equal a.place b.place parts.1 in due_same a b deadlines places
+
+due_less : (a b : Due) → due_order a b ≡ Less → (a.deadline <ℤ b.deadline) ⊎ ((a.deadline ≡ b.deadline) × (a.place < b.place))
+due_less a b e =
+    elim (then_less (int_cmp a.deadline b.deadline) (nat_cmp a.place b.place) e) [
+      | inl lt ↦ inl (int_less a.deadline b.deadline lt)
+      | inr h ↦ inr (int_equal a.deadline b.deadline h.0, nat_less a.place b.place h.1)
+    ]
+
+same_text : (xs ys : List ℕ) → slice_cmp nat_cmp xs ys ≡ Equal → xs ≡ ys
+same_text xs ys e = (bytes_decides xs ys).0 (sym (is_eq-slice_cmp xs ys) ∙ ap is_eq e)
+
+-- The index of ids.
+
+pub found_at : (ids : List (List ℕ)) (places : List ℕ) (id : List ℕ) (i place : ℕ) → IsIdIndex ids places → i < length places
+    → ((d : ℕ) → id_order ids id (get_or places i d) ≡ Equal) → place ≡ get_or places i place → slice_get ids place ≡ Some id
+found_at ids places id i place index within equal is =
+    let held : Contains places place = (i, within, sym is) in
+    let below = (index.all place).0 held in
+    slice_get-get_or ids place [] below
+    ∙ ap Some (same_text (get_or ids place []) id (subst (λ p. id_order ids id p ≡ Equal) (sym is) (equal place)))
+
+pub not_found : (ids : List (List ℕ)) (places : List ℕ) (id : List ℕ) (i : ℕ) → IsIdIndex ids places → i ≤ length places
+    → IsPartitionPoint (λ y. id_order ids id y ≡ Less) (λ y. id_order ids id y ≡ Greater) places i → ¬ Contains ids id
+not_found ids places id i index within parts held =
+    let is : get_or ids held.0 [] ≡ id = get_or_default ids held.0 [] id held.1 ∙ held.2 in
+    none_equal (id_order ids id) places i within parts held.0 ((index.all held.0).1 held.1)
+    (subst (λ text. slice_cmp nat_cmp text id ≡ Equal) (sym is) (tied_itself nat_list_cmp_total id))
+
+every_agree : {X : Type 0} (P Q : X → Type 0) (xs : List X) → ((y : X) → Contains xs y → P y → Q y) → AllByRecursion P xs → AllByRecursion Q xs
+every_agree P Q [] f h = h
+every_agree P Q (x ∷ xs) f h =
+    (f x (zero, omega arith, refl) h.0, every_agree P Q xs (λ y held. f y (suc held.0, omega (arith, held.1), held.2)) h.1)
+
+rising_agree : {X : Type 0} (R S : X → X → Ordering) (xs : List X)
+    → ((a b : X) → Contains xs a → Contains xs b → R a b ≡ Less → S a b ≡ Less) → IsRising R xs → IsRising S xs
+rising_agree R S [] f h = h
+rising_agree R S (x ∷ xs) f h = (
+  every_agree (λ y. R x y ≡ Less) (λ y. S x y ≡ Less) xs (λ y held. f x y (zero, omega arith, refl) (suc held.0, omega (arith, held.1), held.2)) h.0,
+  rising_agree R S xs (λ a b p q. f a b (suc p.0, omega (arith, p.1), p.2) (suc q.0, omega (arith, q.1), q.2)) h.1,
+)
+
+old_id : (ids : List (List ℕ)) (id : List ℕ) (p : ℕ) → p < length ids → get_or (ids ++ id ∷ []) p [] ≡ get_or ids p []
+old_id ids id p within = get_or_append_left ids (id ∷ []) [] p within
+
+new_id : (ids : List (List ℕ)) (id : List ℕ) → get_or (ids ++ id ∷ []) (length ids) [] ≡ id
+new_id ids id = get_or_push ids id [] (length ids) refl
+
+order_with_new : (ids : List (List ℕ)) (id : List ℕ) (p : ℕ) → p < length ids
+    → places_order (ids ++ id ∷ []) p (length ids) ≡ id_order ids id p
+order_with_new ids id p within =
+    ap (λ x. slice_cmp nat_cmp x (get_or (ids ++ id ∷ []) (length ids) [])) (old_id ids id p within)
+    ∙ ap (λ y. slice_cmp nat_cmp (get_or ids p []) y) (new_id ids id)
+
+pub id_added : (ids : List (List ℕ)) (places : List ℕ) (id : List ℕ) (i : ℕ) → IsIdIndex ids places → i ≤ length places
+    → IsPartitionPoint (λ y. id_order ids id y ≡ Less) (λ y. id_order ids id y ≡ Greater) places i
+    → IsIdIndex (ids ++ id ∷ []) (insert places i (length ids))
+id_added ids places id i index within parts =
+    let new = ids ++ id ∷ [] in
+    let n = length ids in
+    let below : (p : ℕ) → Contains places p → p < length ids = λ p held. (index.all p).0 held in
+    let old_order : (a b : ℕ) → Contains places a → Contains places b → places_order ids a b ≡ Less → places_order new a b ≡ Less =
+    λ a b p q e. ap (λ x. slice_cmp nat_cmp x (get_or new b [])) (old_id ids id a (below a p))
+    ∙ ap (λ y. slice_cmp nat_cmp (get_or ids a []) y) (old_id ids id b (below b q)) ∙ e in
+    let at : (k d : ℕ) → k < length places → get_or places k d < length ids = λ k d lt. below (get_or places k d) (Contains-get_or places k d lt) in
+    record {
+      rising = rising_insert (places_order_total new) places i n (rising_agree (places_order ids) (places_order new) places old_order index.rising) within (
+        λ k d low high. order_with_new ids id (get_or places k d) (at k d (omega arith)) ∙ parts.0 k d low high,
+        λ k d low high. order_with_new ids id (get_or places k d) (at k d high) ∙ parts.1 k d low high,
+      );
+      all = λ p. (
+        λ held. elim ((one_more_insert places i n p).0 held) [
+          | inl old ↦ let lt = below p old in omega (arith, length_push ids id)
+          | inr e ↦ omega (arith, length_push ids id)
+        ],
+        λ lt. (one_more_insert places i n p).1 (elim (cases_lt p n) [
+          | inl old ↦ inl ((index.all p).1 old)
+          | inr ge ↦ inr (omega (arith, length_push ids id))
+        ]),
+      );
+      count = length-insert places i n within ∙ ap (λ m. m + 1) index.count ∙ sym (length_push ids id);
+    }
+
+-- The index of deadlines.
+
+active_from : (s : State) (z d : ℤ) → deadline_in s z ≡ Some d → (s ≡ Active) × (z ≡ d)
+active_from Active z d e = (refl, same_Some z d e)
+active_from Finalizing z d e = let no : None ≡ Some d = e in cc
+active_from Finalized z d e = let no : None ≡ Some d = e in cc
+
+row_of : (rows : List Invocation) (p : ℕ) (d : ℤ) → slice_get (deadlines_of rows) p ≡ Some (Some d)
+    → (row : Invocation) × (slice_get rows p ≡ Some row) × (row.state ≡ Active) × (row.deadline ≡ d)
+row_of [] p d e = let no : None ≡ Some (Some d) = e in cc
+row_of (x ∷ xs) zero d e =
+    let parts = active_from x.state x.deadline d (same_Some (deadline_in x.state x.deadline) (Some d) e) in (x, refl, parts.0, parts.1)
+row_of (x ∷ xs) (suc p) d e = row_of xs p d e
+
+pub deadline_at : (rows : List Invocation) (p : ℕ) (d : Invocation) → p < length rows → (get_or rows p d).state ≡ Active
+    → slice_get (deadlines_of rows) p ≡ Some (Some (get_or rows p d).deadline)
+deadline_at [] p d within e = absurd (omega arith)
+deadline_at (x ∷ xs) zero d within e = ap (λ s. Some (deadline_in s x.deadline)) e
+deadline_at (x ∷ xs) (suc p) d within e = deadline_at xs p d (omega arith) e
+
+-- each due row stands in the index, no earlier than the first
+not_before : (rows : List Invocation) (first : Due) (entries : List Due) → IsDueIndex (deadlines_of rows) (first ∷ entries)
+    → (k : ℕ) (d : Invocation) → k < length rows → (get_or rows k d).state ≡ Active
+    → (first.deadline <ℤ (get_or rows k d).deadline) ⊎ ((first.deadline ≡ (get_or rows k d).deadline) × (first.place ≤ k))
+not_before rows first entries index k d within active =
+    let due : Due = record { deadline = (get_or rows k d).deadline; place = k } in
+    elim (first_least due_order first entries due index.rising ((index.all due).1 (deadline_at rows k d within active))) [
+      | inl same ↦ inr (ap (λ (e : Due). e.deadline) same, let at = ap (λ (e : Due). e.place) same in omega arith)
+      | inr less ↦ elim (due_less first due less) [ inl lt ↦ inl lt | inr h ↦ inr (h.0, omega (arith, h.1)) ]
+    ]
+
+next_of : (rows : List Invocation) (moment : ℤ) (first : Due) (entries : List Due) → IsDueIndex (deadlines_of rows) (first ∷ entries)
+    → first.deadline ≤ℤ moment → (row : Invocation) × IsNextDue rows moment first.place row
+next_of rows moment first entries index come =
+    let found = row_of rows first.place first.deadline ((index.all first).0 (zero, omega arith, refl)) in
+    let row = found.0 in
+    let same : row.deadline ≡ first.deadline = found.3 in (
+      row,
+      record {
+        stands = found.1;
+        due = (found.2, subst (λ z. z ≤ℤ moment) (sym same) come);
+        least = λ k d within other. elim (not_before rows first entries index k d within other.0) [
+          | inl lt ↦ omega (arith, ints, lt, same)
+          | inr h ↦ omega (arith, ints, h.0, same)
+        ];
+        first = λ k d within.
+            let low : k < first.place = omega (arith, length-take first.place rows) in
+            let held : k < length rows = omega (arith, length-take first.place rows) in
+            rw (get_or-take first.place rows k d low) (λ other. elim (not_before rows first entries index k d held other.0) [
+              | inl lt ↦ omega (arith, ints, lt, same)
+              | inr h ↦ absurd (omega (arith, h.1, low))
+            ]);
+      },
+    )
+
+pub next_due : (rows : List Invocation) (moment : ℤ) (entries : List Due) (first : Due) → IsDueIndex (deadlines_of rows) entries
+    → slice_get entries 0 ≡ Some first → first.deadline ≤ℤ moment → (row : Invocation) × IsNextDue rows moment first.place row
+next_due rows moment [] first index e come = let no : None ≡ Some first = e in cc
+next_due rows moment (x ∷ xs) first index e come =
+    let same : x ≡ first = same_Some x first e in
+    next_of rows moment first xs (subst (λ (y : Due). IsDueIndex (deadlines_of rows) (y ∷ xs)) same index) come
+
+pub none_due : (rows : List Invocation) (moment : ℤ) (entries : List Due) (first : Due) → IsDueIndex (deadlines_of rows) entries
+    → slice_get entries 0 ≡ Some first → moment <ℤ first.deadline → All (λ row. ¬ IsDue moment row) rows
+none_due rows moment [] first index e later = let no : None ≡ Some first = e in cc
+none_due rows moment (x ∷ xs) first index e later =
+    let same : x ≡ first = same_Some x first e in
+    let here = subst (λ (y : Due). IsDueIndex (deadlines_of rows) (y ∷ xs)) same index in
+    λ k d within due. elim (not_before rows first xs here k d within due.0) [
+      | inl lt ↦ omega (arith, ints, lt, later, due.1)
+      | inr h ↦ omega (arith, ints, h.0, later, due.1)
+    ]
+
+pub none_active : (rows : List Invocation) (moment : ℤ) (entries : List Due) → IsDueIndex (deadlines_of rows) entries
+    → slice_get entries 0 ≡ None → All (λ row. ¬ IsDue moment row) rows
+none_active rows moment [] index e k d within due =
+    let held = (index.all (record { deadline = (get_or rows k d).deadline; place = k })).1 (deadline_at rows k d within due.0) in
+    omega (arith, held.1)
+none_active rows moment (x ∷ xs) index e k d within due = let no : Some x ≡ None = e in cc
+
+pub due_none : IsDueIndex [] []
+due_none = record {
+  rising = tt;
+  all = λ due. (λ held. absurd (omega (arith, held.1)), λ e. let no : None ≡ Some (Some due.deadline) = e in cc);
+  few = omega arith;
+}
+
+-- a row more, which isn't active
+pub due_without : (deadlines : List (Option ℤ)) (entries : List Due) → IsDueIndex deadlines entries
+    → IsDueIndex (deadlines ++ None ∷ []) entries
+due_without deadlines entries index = record {
+  rising = index.rising;
+  all = λ due. (
+    λ held. at_front deadlines None (Some due.deadline) due.place ((index.all due).0 held),
+    λ e. elim (at_place deadlines None (Some due.deadline) due.place e) [
+      | inl old ↦ (index.all due).1 old
+      | inr h ↦ let no : None ≡ Some due.deadline = h.1 in cc
+    ],
+  );
+  few = let le = index.few in omega (arith, length_push {X = Option ℤ} deadlines None);
+}
+
+-- a row more, which is active
+pub due_added : (deadlines : List (Option ℤ)) (entries new : List Due) (due : Due) → IsDueIndex deadlines entries
+    → due.place ≡ length deadlines → IsRising due_order new → HasOneMore entries due new → length new ≡ length entries + 1
+    → IsDueIndex (deadlines ++ Some due.deadline ∷ []) new
+due_added deadlines entries new due index at rising more count = record {
+  rising = rising;
+  all = λ d. (
+    λ held. elim ((more d).0 held) [
+      | inl old ↦ at_front deadlines (Some due.deadline) (Some d.deadline) d.place ((index.all d).0 old)
+      | inr e ↦ subst (λ (x : Due). slice_get (deadlines ++ Some due.deadline ∷ []) x.place ≡ Some (Some x.deadline)) (sym e)
+          (subst (λ p. slice_get (deadlines ++ Some due.deadline ∷ []) p ≡ Some (Some due.deadline)) (sym at) (at_end deadlines (Some due.deadline)))
+    ],
+    λ e. (more d).1 (elim (at_place deadlines (Some due.deadline) (Some d.deadline) d.place e) [
+      | inl old ↦ inl ((index.all d).1 old)
+      | inr h ↦ inr (let deadline : d.deadline ≡ due.deadline = sym (same_Some due.deadline d.deadline h.1) in
+          let place : d.place ≡ due.place = h.0 ∙ sym at in due_same d due deadline place)
+    ]),
+  );
+  few = let le = index.few in omega (arith, length_push {X = Option ℤ} deadlines (Some due.deadline));
+}
+
+pub absent_next : (deadlines : List (Option ℤ)) (entries : List Due) (due : Due) → IsDueIndex deadlines entries
+    → due.place ≡ length deadlines → ¬ Contains entries due
+absent_next deadlines entries due index at held =
+    let within = slice_get_within deadlines due.place (Some due.deadline) ((index.all due).0 held) in omega (arith, within, at)
+
+get_set_same : {X : Type 0} (xs : List X) (p : ℕ) (v : X) → p < length xs → slice_get (set xs p v) p ≡ Some v
+get_set_same [] p v within = absurd (omega arith)
+get_set_same (x ∷ xs) zero v within = refl
+get_set_same (x ∷ xs) (suc p) v within = get_set_same xs p v (omega arith)
+
+get_set_other : {X : Type 0} (xs : List X) (p q : ℕ) (v : X) → q ≢ p → slice_get (set xs p v) q ≡ slice_get xs q
+get_set_other [] p q v other = refl
+get_set_other (x ∷ xs) zero zero v other = absurd (other refl)
+get_set_other (x ∷ xs) zero (suc q) v other = refl
+get_set_other (x ∷ xs) (suc p) zero v other = refl
+get_set_other (x ∷ xs) (suc p) (suc q) v other = get_set_other xs p q v (λ e. other (ap suc e))
+
+-- a row that is active no longer
+pub due_removed : (deadlines : List (Option ℤ)) (entries new : List Due) (due : Due) → IsDueIndex deadlines entries
+    → slice_get deadlines due.place ≡ Some (Some due.deadline) → IsRising due_order new → HasOneFewer entries due new
+    → length new + 1 ≡ length entries → IsDueIndex (set deadlines due.place None) new
+due_removed deadlines entries new due index at rising fewer count =
+    let within = slice_get_within deadlines due.place (Some due.deadline) at in
+    record {
+      rising = rising;
+      all = λ d. (
+        λ held. let old = (fewer d).0 held in
+            let there = (index.all d).0 old.0 in
+            let other : d.place ≢ due.place = λ e.
+            let both : Some (Some d.deadline) ≡ Some (Some due.deadline) = sym there ∙ ap (slice_get deadlines) e ∙ at in
+            let same : d.deadline ≡ due.deadline = same_Some d.deadline due.deadline (same_Some (Some d.deadline) (Some due.deadline) both) in
+            old.1 (due_same d due same e) in
+            get_set_other deadlines due.place d.place None other ∙ there,
+        λ e. elim (cases_eq d.place due.place) [
+          | inl same ↦
+              let here : Some None ≡ Some (Some d.deadline) = sym (get_set_same deadlines due.place None within) ∙ ap (slice_get (set deadlines due.place None)) (sym same) ∙ e in
+              let no : None ≡ Some d.deadline = same_Some None (Some d.deadline) here in cc
+          | inr other ↦ (fewer d).1 ((index.all d).1 (sym (get_set_other deadlines due.place d.place None other) ∙ e), λ one. other (ap (λ (x : Due). x.place) one))
+        ],
+      );
+      few = let le = index.few in omega (arith, length-set {A = Option ℤ} deadlines due.place None);
+    }
+
+-- a row that is active with another deadline
+pub due_moved : (deadlines : List (Option ℤ)) (entries between new : List Due) (due to : Due) → IsDueIndex deadlines entries
+    → slice_get deadlines due.place ≡ Some (Some due.deadline) → to.place ≡ due.place → HasOneFewer entries due between
+    → IsRising due_order new → HasOneMore between to new → length new ≡ length entries
+    → IsDueIndex (set deadlines due.place (Some to.deadline)) new
+due_moved deadlines entries between new due to index at place fewer rising more count =
+    let within = slice_get_within deadlines due.place (Some due.deadline) at in
+    record {
+      rising = rising;
+      all = λ d. (
+        λ held. elim ((more d).0 held) [
+          | inl mid ↦
+              let old = (fewer d).0 mid in
+              let there = (index.all d).0 old.0 in
+              let other : d.place ≢ due.place = λ e.
+              let both : Some (Some d.deadline) ≡ Some (Some due.deadline) = sym there ∙ ap (slice_get deadlines) e ∙ at in
+              let same : d.deadline ≡ due.deadline = same_Some d.deadline due.deadline (same_Some (Some d.deadline) (Some due.deadline) both) in
+              old.1 (due_same d due same e) in
+              get_set_other deadlines due.place d.place (Some to.deadline) other ∙ there
+          | inr e ↦ subst (λ (x : Due). slice_get (set deadlines due.place (Some to.deadline)) x.place ≡ Some (Some x.deadline)) (sym e)
+              (subst (λ p. slice_get (set deadlines due.place (Some to.deadline)) p ≡ Some (Some to.deadline)) (sym place)
+              (get_set_same deadlines due.place (Some to.deadline) within))
+        ],
+        λ e. (more d).1 (elim (cases_eq d.place due.place) [
+          | inl same ↦
+              let here : Some (Some to.deadline) ≡ Some (Some d.deadline) = sym (get_set_same deadlines due.place (Some to.deadline) within) ∙ ap (slice_get (set deadlines due.place (Some to.deadline))) (sym same) ∙ e in
+              let deadline : d.deadline ≡ to.deadline = sym (same_Some to.deadline d.deadline (same_Some (Some to.deadline) (Some d.deadline) here)) in
+              let where_ : d.place ≡ to.place = same ∙ sym place in
+              inr (due_same d to deadline where_)
+          | inr other ↦ inl ((fewer d).1 ((index.all d).1 (sym (get_set_other deadlines due.place d.place (Some to.deadline) other) ∙ e), λ one. other (ap (λ (x : Due). x.place) one)))
+        ]),
+      );
+      few = let le = index.few in omega (arith, length-set {A = Option ℤ} deadlines due.place (Some to.deadline));
+    }

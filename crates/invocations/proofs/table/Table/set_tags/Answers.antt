@@ -1,0 +1,16 @@
+use Rattle.std.proofs.Common.{refl, ap, ◌∙◌}
+use Rattle.invocations.specs.Rows.{TableState, with_changed, with_tags}
+use Rattle.invocations.proofs.RowLemmas.{changed_is}
+use Rattle.invocations.proofs.IndexedRows.{indexed_beside}
+use Rattle.invocations.proofs.table.Table.set_tags.Goals as goal
+
+pub invariant_of-self : goal.invariant_of-self
+invariant_of-self c =
+    indexed_beside (with_tags c.args.tags) (λ _. refl) c.self.inside.rows.items c.self.inside.by_id.places.items
+    c.self.inside.by_deadline.entries.items c.args.place c.index_mut-row.result.now c.index_mut-row.ensures.value refl c.self.invariant
+
+pub returns-clause-rows : goal.returns-clause-rows
+returns-clause-rows c =
+    changed_is (with_tags c.args.tags) c.self.inside.rows.items c.args.place c.index_mut-row.result.now
+    c.index_mut-row.ensures.value
+    ∙ ap (λ (t : TableState). with_changed (with_tags c.args.tags) t.rows c.args.place) c.self.view_is

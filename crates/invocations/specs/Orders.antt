@@ -1,0 +1,77 @@
+-- The code's own words for lists that are kept in order.
+use Rattle.std.specs.Prelude.{◌≡◌, ◌≢◌, ◌⊎◌, ◌↔◌, ◌<◌, ◌≤◌, ℕ, ℤ, List, [], ◌∷◌, Option, Some, None, Result, MatchResult, length, map, slice_get, slice_index_or, Contains}
+use Rattle.std.specs.List.{AllByRecursion, HoldsAt}
+use Rattle.std.specs.List.Sorted.{IsPartitionPoint}
+use Rattle.std.specs.Ordering.{nat_cmp, int_cmp, ordering_then}
+use Rattle.std.specs.Cmp.Lexicographic.{slice_cmp}
+use Rattle.std.specs.declared.cmp.Ordering.{Ordering}
+use Rattle.std.specs.declared.cmp.Ordering.TheVariants.{Less, Equal, Greater}
+use Rattle.names_realms.specs.declared.states.State.{State}
+use Rattle.names_realms.specs.declared.states.State.TheVariants.{Active, Finalizing, Finalized}
+use Rattle.invocations.specs.declared.due.Due.{Due}
+use Rattle.invocations.specs.declared.invocation.Invocation.{Invocation}
+use Rattle.invocations.specs.Rows.{IsTable, ids_of}
+
+-- each value is below all that stand behind it
+abbrev pub IsRising : {X : Type 0} → (X → X → Ordering) → List X → Type 0
+IsRising order [] = Unit {0}
+IsRising order (x ∷ xs) = AllByRecursion (λ y. order x y ≡ Less) xs × IsRising order xs
+
+-- the place of a value that is sought, or the place where it would go
+abbrev pub IsSlot : {X : Type 0} → (X → Ordering) → List X → Result ℕ ℕ → Type 0
+IsSlot order xs found =
+    MatchResult found (λ i. (i < length xs) × HoldsAt (λ y. order y ≡ Equal) xs i)
+    (λ i. (i ≤ length xs) × IsPartitionPoint (λ y. order y ≡ Less) (λ y. order y ≡ Greater) xs i)
+
+-- the new list has what the old one has, and this value
+abbrev pub HasOneMore : {X : Type 0} → List X → X → List X → Type 0
+HasOneMore {X} old x new = (y : X) → Contains new y ↔ (Contains old y ⊎ (y ≡ x))
+
+-- the new list has what the old one has, but this value
+abbrev pub HasOneFewer : {X : Type 0} → List X → X → List X → Type 0
+HasOneFewer {X} old x new = (y : X) → Contains new y ↔ (Contains old y × (y ≢ x))
+
+abbrev pub due_order : Due → Due → Ordering
+due_order a b = ordering_then (int_cmp a.deadline b.deadline) (nat_cmp a.place b.place)
+
+-- the new list has this value in place of that one
+pub record HasReplaced (old : List Due) (due to : Due) (new : List Due) : Type 0 where
+  pub rising : IsRising due_order new
+  pub between : List Due
+  pub fewer : HasOneFewer old due between
+  pub more : HasOneMore between to new
+
+-- the id at a place, compared with an id
+abbrev pub id_order : List (List ℕ) → List ℕ → ℕ → Ordering
+id_order ids id place = slice_cmp nat_cmp (slice_index_or ids place []) id
+
+-- the ids at two places, compared
+abbrev pub places_order : List (List ℕ) → ℕ → ℕ → Ordering
+places_order ids p q = id_order ids (slice_index_or ids q []) p
+
+-- all places of these ids, in the order of the ids
+pub record IsIdIndex (ids : List (List ℕ)) (places : List ℕ) : Type 0 where
+  pub rising : IsRising (places_order ids) places
+  pub all : (place : ℕ) → Contains places place ↔ (place < length ids)
+  pub count : length places ≡ length ids
+
+abbrev pub deadline_in : State → ℤ → Option ℤ
+deadline_in Active deadline = Some deadline
+deadline_in Finalizing deadline = None
+deadline_in Finalized deadline = None
+
+-- the deadlines of the rows that are active
+abbrev pub deadlines_of : List Invocation → List (Option ℤ)
+deadlines_of rows = map (λ row. deadline_in row.state row.deadline) rows
+
+-- all deadlines with their places, in order
+pub record IsDueIndex (deadlines : List (Option ℤ)) (entries : List Due) : Type 0 where
+  pub rising : IsRising due_order entries
+  pub all : (due : Due) → Contains entries due ↔ (slice_get deadlines due.place ≡ Some (Some due.deadline))
+  pub few : length entries ≤ length deadlines
+
+-- rows with both indexes
+pub record IsIndexed (rows : List Invocation) (places : List ℕ) (entries : List Due) : Type 0 where
+  pub table : IsTable rows
+  pub ids : IsIdIndex (ids_of rows) places
+  pub due : IsDueIndex (deadlines_of rows) entries

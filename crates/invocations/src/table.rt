@@ -1,0 +1,199 @@
+//! The table of invocations.
+ghost use Rattle.std.specs.Prelude.{◌≡◌, ◌≤◌, ◌<◌, ◌+◌, ◌++◌, ◌∷◌, [], Some, IfOk, IfErr, OnOk, MatchOption, length, slice_get};
+ghost use Rattle.invocations.specs.Due.{IsNextPlace};
+ghost use Rattle.invocations.specs.Faults.{CanAdd, IsAddFault};
+ghost use Rattle.invocations.specs.Rows.{HasId, IsInState, IsPlaceOf, IsTable, begun, ended, states_of, with_changed, with_deadline, with_tags};
+
+use crate::due::{Due, DueIndex};
+use crate::faults::AddFault;
+use crate::ids::IdIndex;
+use crate::invocation::Invocation;
+use lists::Listed;
+use names_realms::{InvocationId, Moment, Pair, State};
+use std::alloc::{AllocError, Global};
+use std::marker::Model;
+
+/// How many rows there may be.
+const MOST_ROWS: usize = 65_536;
+
+/// The invocations, in order of creation. No two have the same id, and there are at most 65,536.
+#[derive(Drop)]
+pub struct Table {
+    rows: Vec<Invocation>,
+    by_id: IdIndex,
+    by_deadline: DueIndex,
+}
+
+impl Model for Table {
+    ghost use Rattle.std.specs.Prelude.{◌-◌, min, vec_len, vec_capacity};
+    ghost use Rattle.invocations.specs.Rows.{TableState};
+    ghost use Rattle.invocations.specs.Orders.{IsIndexed};
+
+    ghost Value = { TableState };
+
+    ghost view = { λ t. record {
+      rows = t.rows.items;
+      spare = min (min (vec_capacity t.rows) 65_536 - vec_len t.rows)
+          (min (vec_capacity t.by_id.places - vec_len t.by_id.places)
+          (vec_capacity t.by_deadline.entries - vec_len t.by_deadline.entries));
+    } };
+
+    ghost invariant = { λ t.
+        IsIndexed t.rows.items t.by_id.places.items t.by_deadline.entries.items };
+}
+
+impl Table {
+    /// A table without rows. `Err` where there is no memory for it.
+    pub fn new(alloc: Global) -> Result<Table, AllocError>
+        ensures { IfOk result (λ table. table.rows ≡ []) }
+    {
+        Ok(Table {
+            rows: Vec::new(alloc),
+            by_id: IdIndex::new(alloc),
+            by_deadline: DueIndex::new(alloc),
+        })
+    }
+
+    /// The rows, in order of creation.
+    pub fn rows(&self) -> &[Invocation]
+        ensures rows { result.now ≡ self.now.rows }
+        ensures table { IsTable self.now.rows }
+    {
+        self.rows.as_slice()
+    }
+
+    /// How many rows there are.
+    pub fn count(&self) -> u32
+        ensures count { result ≡ length self.now.rows }
+        ensures table { IsTable self.now.rows }
+    {
+        self.rows.len() as u32
+    }
+
+    /// The row at a place, counted from 0.
+    pub fn row(&self, place: u32) -> &Invocation
+        requires { place < length self.now.rows }
+        ensures { slice_get self.now.rows place ≡ Some result.now }
+    {
+        &self.rows[place as usize]
+    }
+
+    /// The state of the row at a place, or none where there is no row.
+    pub fn state_at(&self, place: u32) -> Option<State>
+        ensures { result ≡ slice_get (states_of self.now.rows) place }
+    {
+        match self.rows.get(place as usize) {
+            Some(row) => Some(row.state),
+            None => None,
+        }
+    }
+
+    /// The place of the row with this id, or none where no row has it.
+    pub fn find(&self, id: &InvocationId) -> Option<u32>
+        ensures place { MatchOption result (¬ HasId self.now.rows id.now)
+            (IsPlaceOf self.now.rows id.now) }
+        ensures table { IsTable self.now.rows }
+    {
+        self.by_id.find(self.rows.as_slice(), id)
+    }
+
+    /// The place of the active row with the least deadline at or before a moment, the first of
+    /// several. None where there is no such row.
+    pub fn next_due(&self, moment: Moment) -> Option<u32>
+        ensures { IsNextPlace self.now.rows moment result }
+    {
+        self.by_deadline.next(moment)
+    }
+
+    /// Makes room for a row with this id. `Taken` where a row has the id, else `Full` where there
+    /// are 65,536 rows, else `Memory` where there is no memory for a row more.
+    pub fn prepare_add(&mut self, alloc: Global, id: &InvocationId) -> Result<(), AddFault>
+        ensures rows { self.new.rows ≡ self.old.rows }
+        ensures spare { self.old.spare ≤ self.new.spare }
+        ensures room { OnOk result (0 < self.new.spare) }
+        ensures can { OnOk result (CanAdd self.old.rows id.now) }
+        ensures fault { IfErr result (IsAddFault self.old.rows id.now) }
+    {
+        let _ = alloc;
+        if let Some(place) = self.find(id) {
+            return Err(AddFault::Taken { place });
+        }
+        let count = self.rows.len();
+        if count == MOST_ROWS {
+            return Err(AddFault::Full {
+                count: count as u32,
+            });
+        }
+        self.rows.reserve(1)?;
+        self.by_id.reserve(1)?;
+        self.by_deadline.reserve(1)?;
+        Ok(())
+    }
+
+    /// Appends a row, and gives its place. It takes no memory.
+    pub fn add_prepared(&mut self, row: Invocation) -> u32
+        requires room { 0 < self.old.spare }
+        requires untaken { ¬ HasId self.old.rows row.id }
+        ensures rows { self.new.rows ≡ self.old.rows ++ row ∷ [] }
+        ensures spare { self.old.spare ≤ self.new.spare + 1 }
+        ensures place { result ≡ length self.old.rows }
+    {
+        let place = self.rows.len() as u32;
+        self.by_id.add(self.rows.as_slice(), &row.id);
+        self.by_deadline.add_row(self.rows.as_slice(), &row);
+        self.rows.push_reserved(row);
+        place
+    }
+
+    /// Begins the finalization of an active row. It takes no memory.
+    pub fn begin_final(&mut self, place: u32, moment: Moment)
+        requires { IsInState State.Active self.old.rows place }
+        ensures rows { self.new.rows ≡ with_changed (begun moment) self.old.rows place }
+        ensures spare { self.old.spare ≤ self.new.spare }
+    {
+        let row = &mut self.rows[place as usize];
+        let due = Due {
+            deadline: row.deadline,
+            place,
+        };
+        row.state = State::Finalizing;
+        row.started = Some(moment);
+        self.by_deadline.remove(due);
+    }
+
+    /// Ends the finalization of a row. It takes no memory.
+    pub fn set_final(&mut self, place: u32, moment: Moment)
+        requires { IsInState State.Finalizing self.old.rows place }
+        ensures rows { self.new.rows ≡ with_changed (ended moment) self.old.rows place }
+        ensures spare { self.old.spare ≤ self.new.spare }
+    {
+        let row = &mut self.rows[place as usize];
+        row.state = State::Finalized;
+        row.finished = Some(moment);
+    }
+
+    /// Sets the deadline of an active row. It takes no memory.
+    pub fn set_deadline(&mut self, place: u32, deadline: Moment)
+        requires { IsInState State.Active self.old.rows place }
+        ensures rows { self.new.rows ≡ with_changed (with_deadline deadline) self.old.rows place }
+        ensures spare { self.old.spare ≤ self.new.spare }
+    {
+        let row = &mut self.rows[place as usize];
+        let due = Due {
+            deadline: row.deadline,
+            place,
+        };
+        row.deadline = deadline;
+        self.by_deadline.replace(due, Due { deadline, place });
+    }
+
+    /// Sets the tags of an active row. It takes no memory.
+    pub fn set_tags(&mut self, place: u32, tags: Listed<Pair>)
+        requires { IsInState State.Active self.old.rows place }
+        ensures rows { self.new.rows ≡ with_changed (with_tags tags) self.old.rows place }
+        ensures spare { self.old.spare ≤ self.new.spare }
+    {
+        let row = &mut self.rows[place as usize];
+        row.tags = tags;
+    }
+}
