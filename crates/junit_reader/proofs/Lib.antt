@@ -1,0 +1,9 @@
+mod ByteLemmas
+mod DocumentLemmas
+mod MessageLemmas
+mod RunLaws
+mod ShrinkLaws
+mod StandingLemmas
+mod TagLemmas
+mod TimeLemmas
+mod ValueLemmas

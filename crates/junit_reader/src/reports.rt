@@ -1,0 +1,153 @@
+//! Reports, read to their cases or to their first fault.
+ghost use Rattle.std.specs.Prelude.{◌≡◌, ◌≢◌, ◌-◌, ◌&&◌, nat_le, nat_lt, IfErr, IfOk, option_map};
+ghost use Rattle.junit_reader.specs.Reports.{HasCases, HasFault, HasFlaw, IsDocument, IsFlawed, behind_mark, declaration_from, document_of, ends_target, text_place, told};
+
+use crate::bytes::{is_white, parted_at};
+use crate::constructs::read_construct;
+use crate::faults::{Cause, Flaw, JunitFault, Stop};
+use crate::reading::Reading;
+use crate::unread::Unread;
+use name_parts::utf8_len;
+use names_realms::Case;
+use std::alloc::Global;
+
+/// The cases of a document, or its first flaw.
+fn read_document(alloc: Global, document: &[u8]) -> Result<Vec<Case>, Stop>
+    ensures ok { IfOk result (λ v. IsDocument document.now v.items) }
+    ensures flawed { IfErr result (IsFlawed document.now) }
+{
+    let mut reading = Reading::new(alloc);
+    let mut rest = document;
+    while !rest.is_empty() {
+        let left = rest.len();
+        match read_construct(alloc, rest) {
+            Ok((construct, behind)) => {
+                reading.take(alloc, left, construct)?;
+                rest = behind;
+            }
+            Err(Unread::Memory) => return Err(Stop::Memory),
+            Err(Unread::Broken) => {
+                return Err(Stop::Flawed(Flaw {
+                    left,
+                    cause: Cause::NotWellFormed,
+                }));
+            }
+        }
+    }
+    reading.end()
+}
+
+/// What stands behind a byte order mark.
+fn behind_mark(bytes: &[u8]) -> &[u8]
+    ensures { result.now ≡ behind_mark bytes.now }
+{
+    if bytes.starts_with(&[0xEF, 0xBB, 0xBF]) {
+        return &bytes[3..];
+    }
+    bytes
+}
+
+/// Whether the name of an instruction ends here.
+fn ends_target(bytes: &[u8]) -> bool
+    ensures { result ≡ ends_target bytes.now }
+{
+    match bytes {
+        [first, ..] => is_white(*first) || *first == b'?',
+        [] => false,
+    }
+}
+
+/// What stands behind the declaration, where there is one.
+fn declaration(bytes: &[u8]) -> Option<&[u8]>
+    ensures { option_map (λ r. r.now) result ≡ declaration_from bytes.now }
+{
+    if !bytes.starts_with(b"<?xml") {
+        return None;
+    }
+    let rest = &bytes[5..];
+    if !ends_target(rest) {
+        return None;
+    }
+    match parted_at(rest, b"?>") {
+        Ok((_, behind)) => Some(behind),
+        Err(_) => None,
+    }
+}
+
+/// What stands behind a byte order mark and a declaration.
+fn document_of(bytes: &[u8]) -> &[u8]
+    ensures { result.now ≡ document_of bytes.now }
+{
+    let bytes = behind_mark(bytes);
+    match declaration(bytes) {
+        Some(rest) => rest,
+        None => bytes,
+    }
+}
+
+/// The first byte that is no UTF-8, or the one behind 64 MiB.
+fn text_place(bytes: &[u8]) -> usize
+    ensures { result ≡ text_place bytes.now }
+{
+    utf8_len(bytes).min(67_108_864)
+}
+
+/// A flaw as it is told of a report of so many bytes.
+fn told(len: usize, flaw: Flaw) -> JunitFault
+    ensures { result ≡ told len flaw }
+{
+    let at = len.saturating_sub(flaw.left);
+    match flaw.cause {
+        Cause::NotWellFormed => JunitFault::NotWellFormed { at },
+        Cause::Unsupported(what) => JunitFault::Unsupported { at, what },
+        Cause::NoRoot => JunitFault::NoRoot,
+        Cause::MissingName => JunitFault::MissingName { at },
+        Cause::BadTime => JunitFault::BadTime { at },
+        Cause::TooDeep => JunitFault::TooDeep { at },
+    }
+}
+
+/// Whether the text of a report of so many bytes ends before or at a place.
+fn ends_before(text: usize, len: usize, left: usize) -> bool
+    ensures { result ≡ (nat_lt text len && nat_le text (len - left)) }
+{
+    text < len && text <= len.saturating_sub(left)
+}
+
+/// The fault of a report with a flaw, whose text ends at a place.
+fn fault_of(bytes: &[u8], flaw: Flaw) -> JunitFault
+    requires { HasFlaw (document_of bytes.now) flaw }
+    ensures { HasFault bytes.now result }
+{
+    let text = text_place(bytes);
+    if ends_before(text, bytes.len(), flaw.left) {
+        JunitFault::NotText { at: text }
+    } else {
+        told(bytes.len(), flaw)
+    }
+}
+
+/// The cases of a JUnit XML report, or its first fault.
+///
+/// The bytes are UTF-8 of at most 64 MiB, in the profile of XML 1.0 that `docs/formats.md` says. Of several faults the one with the
+/// least place is told; of one place `NotText`, `NotWellFormed`, `Unsupported`, `NoRoot`, `MissingName`, `BadTime` and `TooDeep`, in
+/// this order. Takes time linear in the bytes, and n log n in the attributes of one element; room for the cases, for what is open, and
+/// for the attributes of one tag.
+pub fn read_report(alloc: Global, bytes: &[u8]) -> Result<Vec<Case>, JunitFault>
+    // What is read are the cases of the one tree that the report is a print of.
+    ensures ok { IfOk result (λ v. HasCases bytes.now v.items) }
+    // Every other report is refused by its first fault.
+    ensures err { IfErr result (λ f. f ≢ JunitFault.Memory → HasFault bytes.now f) }
+{
+    match read_document(alloc, document_of(bytes)) {
+        Ok(cases) => {
+            let text = text_place(bytes);
+            if text < bytes.len() {
+                return Err(JunitFault::NotText { at: text });
+            }
+            Ok(cases)
+        }
+        Err(Stop::Memory) => Err(JunitFault::Memory),
+        Err(Stop::Flawed(flaw)) => Err(fault_of(bytes, flaw)),
+    }
+}

@@ -1,0 +1,11 @@
+pub mod LineLemmas
+pub mod ReadingLemmas
+pub mod StreamLemmas
+pub mod RunLemmas
+pub mod MessageLemmas
+pub mod NamingLemmas
+pub mod TreeLemmas
+pub mod CaseLemmas
+pub mod OutcomeLemmas
+pub mod LawLemmas
+pub mod BoundLemmas
