@@ -5,6 +5,7 @@
 
 mod clock;
 mod either_end;
+mod file;
 mod link;
 mod memory;
 mod pair;
@@ -17,6 +18,7 @@ mod whole;
 pub use clock::{Clock, ListClock, WallClock};
 pub use either::Either;
 pub use fault_counts::{Failed, counts_add_up};
+pub use file::FileSource;
 pub use link::Link;
 pub use memory::{MemoryLink, MemorySink, MemorySource};
 pub use pair::PairLink;

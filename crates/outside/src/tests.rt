@@ -258,3 +258,22 @@ fn standard_streams_take_and_give_nothing(rt: HostRuntime) {
     assert!(rt; output.write(b"").is_ok());
     assert_eq!(rt; (output.faults(), output.stalls()), (0, 0));
 }
+
+#[test]
+fn a_file_is_opened_at_the_first_read(rt: HostRuntime) -> Result<(), Fail> {
+    let alloc = rt.alloc();
+    let mut room = [0u8; 4];
+    let mut missing = FileSource::new(&rt, String::from_str(alloc, "no/such/file")?);
+    assert_eq!(rt; missing.faults(), 0);
+    assert!(rt; missing.read(&mut room).is_err());
+    assert_eq!(rt; missing.faults(), 1);
+    std::fs::write(&rt, "source_of_a_test", b"abcde")?;
+    let mut file = FileSource::new(&rt, String::from_str(alloc, "source_of_a_test")?);
+    assert_eq!(rt; file.read(&mut room).ok(), Some(4));
+    assert_eq!(rt; room.as_slice(), b"abcd".as_slice());
+    assert_eq!(rt; file.read(&mut room).ok(), Some(1));
+    assert_eq!(rt; file.read(&mut room).ok(), Some(0));
+    assert_eq!(rt; file.faults(), 0);
+    std::fs::remove_file(&rt, "source_of_a_test")?;
+    Ok(())
+}

@@ -1,0 +1,19 @@
+use Rattle.std.proofs.Common.{codes, sym, ◌∙◌, arith}
+use Rattle.program_words.proofs.ClapRows.{text_is}
+use Rattle.program_words.proofs.WordLists.{one_word, first_word}
+use Rattle.program_words.proofs.reading.read_words.Goals as goal
+
+pub read_answer-requires : goal.read_answer-requires
+read_answer-requires c =
+    first_word c.args.words.now c.command-item.result (codes "answer") (omega arith) c.command-item.is
+    (sym c.as_str.ensures.value ∙ text_is _ _ (sym c.eq.ensures ∙ c.if-eq.true))
+
+pub returns-in-len1-clause-said : goal.returns-in-len1-clause-said
+returns-in-len1-clause-said c =
+    one_word c.args.words.now c.word-item.result (codes "--help") (omega arith) c.word-item.is
+    (sym c.as_str-then-words-lt2.ensures.value ∙ text_is _ _ (sym c.eq-then-words-lt2.ensures ∙ c.if-eq-2.true))
+
+pub returns-in-len1-2-clause-said : goal.returns-in-len1-2-clause-said
+returns-in-len1-2-clause-said c =
+    one_word c.args.words.now c.word-item-then-words-lt2.result (codes "--version") (omega arith) c.word-item-then-words-lt2.is
+    (sym c.as_str-then-words-lt2-2.ensures.value ∙ text_is _ _ (sym c.eq-then-words-lt2-2.ensures ∙ c.if-eq-3.true))

@@ -1,0 +1,34 @@
+-- The code's own words, which private contracts alone cite: what it asks of clap, and what it refuses before.
+use Rattle.std.specs.Prelude.{ℕ, ◌==◌, ◌&&◌, Bool, true, false, not, List, [], ◌∷◌, Some, map}
+use Rattle.clap.specs.Simple.{App, new_rule, new_shape}
+use Rattle.clap.specs.Walk.{Rule}
+use Rattle.clap.specs.declared.builder.action.ArgAction.TheVariants.{Set}
+use Rattle.clap.specs.declared.builder.value_parser.ValueParser.TheVariants as vp
+use Rattle.program_words.specs.Options.{OptionRow}
+
+-- an option with one value that isn't empty
+abbrev pub made_rule : List ℕ → Bool → Rule
+made_rule name is_required = record (new_rule name) {
+  long = Some name;
+  required = is_required;
+  action = Some Set;
+  parser = Some vp.NonEmptyString;
+}
+
+-- a command with such options, and no help of clap's own
+abbrev pub made_app : List ℕ → List OptionRow → App
+made_app name options = record {
+  top = record (new_shape name) { rules = map (λ o. made_rule o.name o.is_required) options; disable_help_flag = true };
+  subs = [];
+}
+
+-- two bytes or more, of which the first is a dash
+abbrev pub is_named : List ℕ → Bool
+is_named [] = false
+is_named (b ∷ []) = false
+is_named (b ∷ c ∷ bs) = b == 45
+
+-- a word that begins with a dash, and isn't two dashes with something behind them
+abbrev pub is_stray : List ℕ → Bool
+is_stray [] = false
+is_stray (b ∷ bs) = (b == 45) && not (is_named bs)

@@ -1,0 +1,28 @@
+-- The grammar of the words behind the program's name.
+use Rattle.std.specs.Prelude.{◌≡◌, ℕ, true, List, [], ◌∷◌, Some, codes}
+use Rattle.program_words.specs.Options.{OptionRow, Given, AreOptions, value_of}
+use Rattle.program_words.specs.declared.command.Command.{Command}
+use Rattle.program_words.specs.declared.command.Command.TheVariants.{Answer, Help, Version}
+
+-- a required path
+abbrev pub path_option : List ℕ → OptionRow
+path_option name = record { name = name; shown = codes "PATH"; is_required = true }
+
+-- the options of `answer`
+abbrev pub answer_options : List OptionRow
+answer_options = path_option (codes "config") ∷ path_option (codes "journal") ∷ []
+
+-- `answer` with these paths
+pub record IsAnswer (words : List (List ℕ)) (config journal : List ℕ) : Type 0 where
+  pub rest : List (List ℕ)
+  pub givens : List Given
+  pub command : words ≡ codes "answer" ∷ rest
+  pub options : AreOptions answer_options givens rest
+  pub config_is : value_of (codes "config") givens ≡ Some config
+  pub journal_is : value_of (codes "journal") givens ≡ Some journal
+
+-- What the words say. Every other list of words is outside the grammar.
+abbrev pub Says : List (List ℕ) → Command → Type 0
+Says words (Answer config journal) = IsAnswer words config journal
+Says words Help = words ≡ codes "--help" ∷ []
+Says words Version = words ≡ codes "--version" ∷ []

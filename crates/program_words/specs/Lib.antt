@@ -1,0 +1,5 @@
+pub mod Options
+pub mod Grammar
+pub mod Places
+pub mod Texts
+pub mod Clap

@@ -1,0 +1,41 @@
+//! The places that the words name.
+ghost use Rattle.std.specs.Prelude.{◌≡◌, [], IfOk, map, string_bytes};
+ghost use Rattle.program_words.specs.Grammar.{Says};
+ghost use Rattle.program_words.specs.Places.{places_of};
+
+use crate::command::{Command, Places, WordFault};
+use crate::reading::read_words;
+use lists::Bytes;
+use std::alloc::Global;
+
+fn nothing(alloc: Global) -> Bytes
+    ensures { result ≡ [] }
+{
+    Bytes::new(Vec::new(alloc))
+}
+
+fn of_paths(alloc: Global, config: Bytes, journal: Bytes) -> Places
+    ensures { result ≡ places_of (Command.Answer config journal) }
+{
+    Places {
+        config,
+        journal,
+        listen: nothing(alloc),
+        server: nothing(alloc),
+        workers: 0,
+        connections: None,
+    }
+}
+
+/// The values of the words, which `read_words` reads: empty, 0 and `None` where the words don't have them.
+pub fn places(alloc: Global, words: &[String]) -> Result<Places, WordFault>
+    ensures said { IfOk result (λ p. (command : Command)
+        × Says (map string_bytes words.now) command × (p ≡ places_of command)) }
+    ensures refused { result ≡ Err WordFault.Refused
+        → (command : Command) → ¬ Says (map string_bytes words.now) command }
+{
+    match read_words(alloc, words)? {
+        Command::Answer { config, journal } => Ok(of_paths(alloc, config, journal)),
+        Command::Help | Command::Version => Ok(of_paths(alloc, nothing(alloc), nothing(alloc))),
+    }
+}

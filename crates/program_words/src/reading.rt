@@ -1,0 +1,134 @@
+//! The words of the command line, as clap reads them.
+ghost use Rattle.std.specs.Prelude.{◌≡◌, ◌≢◌, ℕ, List, ◌∷◌, codes, IfOk, IfErr};
+ghost use Rattle.std.specs.Prelude.{map, string_bytes, true, false};
+ghost use Rattle.std.specs.List.{list_any};
+ghost use Rattle.clap.specs.Words.{app_of, rule_of, kind_of};
+ghost use Rattle.program_words.specs.Grammar.{Says, IsAnswer, answer_options};
+ghost use Rattle.program_words.specs.Clap.{made_app, made_rule, is_named, is_stray};
+
+use crate::command::{Command, WordFault};
+use clap::builder::ValueParser;
+use clap::error::ErrorKind;
+use clap::{Arg, ArgAction, Error};
+use lists::Bytes;
+use std::alloc::{AllocError, Global};
+
+/// A required option with one value that isn't empty.
+fn required_option<'a>(alloc: Global, name: &'a str) -> Arg<'a>
+    ensures rule { rule_of result ≡ made_rule name.entry.now true }
+    ensures own { result.global ≡ false }
+{
+    Arg::new(alloc, name)
+        .long(name)
+        .required(true)
+        .action(ArgAction::Set)
+        .value_parser(ValueParser::NonEmptyString)
+}
+
+/// The command `answer`.
+fn answer_command<'a>(alloc: Global) -> Result<clap::Command<'a>, Error>
+    ensures app { IfOk result (λ c. app_of c ≡ made_app (codes "answer") answer_options) }
+    ensures err { IfErr result (λ e. kind_of e ≡ ErrorKind.OutOfMemory) }
+{
+    let config = required_option(alloc, "config");
+    let journal = required_option(alloc, "journal");
+    let command = clap::Command::new(alloc, "answer")
+        .arg(config)?
+        .arg(journal)?;
+    Ok(command.disable_help_flag(true))
+}
+
+/// Whether a dash is the first of two before a name.
+fn is_named(rest: &[u8]) -> bool
+    ensures { result ≡ is_named rest.now }
+{
+    match rest {
+        [first, _, ..] => *first == b'-',
+        _ => false,
+    }
+}
+
+/// Whether a word begins with a dash and isn't an option: clap takes some of these words, and the grammar none.
+fn is_stray(word: &str) -> bool
+    ensures { result ≡ is_stray word.now }
+{
+    match word.as_bytes().split_first() {
+        Some((first, rest)) => *first == b'-' && !is_named(rest),
+        None => false,
+    }
+}
+
+fn has_stray(words: &[String]) -> bool
+    ensures { result ≡ list_any (λ w. is_stray (string_bytes w)) words.now }
+{
+    words.iter().any(|word| is_stray(word.as_str()))
+}
+
+fn copied(alloc: Global, text: &str) -> Result<Bytes, AllocError>
+    ensures { IfOk result (λ b. b ≡ text.now) }
+{
+    Ok(Bytes::new(Vec::from_slice(alloc, text.as_bytes())?))
+}
+
+/// The values of `answer`.
+fn answer_of(alloc: Global, config: &str, journal: &str) -> Result<Command, WordFault>
+    ensures value { IfOk result (λ c. c ≡ Command.Answer config.now journal.now) }
+    ensures memory { result ≢ Err WordFault.Refused }
+{
+    match (copied(alloc, config), copied(alloc, journal)) {
+        (Ok(config), Ok(journal)) => Ok(Command::Answer { config, journal }),
+        _ => Err(WordFault::Memory),
+    }
+}
+
+/// The words of `answer`, of which the first is the command's.
+fn read_answer(alloc: Global, words: &[String]) -> Result<Command, WordFault>
+    requires { (rest : List (List ℕ)) × (map string_bytes words.now ≡ codes "answer" ∷ rest) }
+    ensures ok { IfOk result (Says (map string_bytes words.now)) }
+    ensures refused { result ≡ Err WordFault.Refused
+        → (config journal : List ℕ) → ¬ IsAnswer (map string_bytes words.now) config journal }
+{
+    if has_stray(words) {
+        return Err(WordFault::Refused);
+    }
+    let Ok(command) = answer_command(alloc) else {
+        return Err(WordFault::Memory);
+    };
+    let matches = match command.try_get_matches_from(words) {
+        Ok(matches) => matches,
+        Err(error) => {
+            if error.kind() == ErrorKind::OutOfMemory {
+                return Err(WordFault::Memory);
+            }
+            return Err(WordFault::Refused);
+        }
+    };
+    match (matches.get_str("config"), matches.get_str("journal")) {
+        (Some(config), Some(journal)) => answer_of(alloc, config, journal),
+        _ => Err(WordFault::Memory),
+    }
+}
+
+/// What the words say, which are those behind the program's name.
+///
+/// The first word is the command. Behind it each option stands exactly once, in any order, as `--x v` or `--x=v`. A
+/// value isn't empty, and one that begins with `-` stands behind `=`. All else is `Refused`, and `Memory` comes for
+/// want of memory alone.
+pub fn read_words(alloc: Global, words: &[String]) -> Result<Command, WordFault>
+    ensures said { IfOk result (Says (map string_bytes words.now)) }
+    ensures refused { result ≡ Err WordFault.Refused
+        → (command : Command) → ¬ Says (map string_bytes words.now) command }
+{
+    match words {
+        [command, ..] if command.as_str() == "answer" => read_answer(alloc, words),
+        [word] if word.as_str() == "--help" => Ok(Command::Help),
+        [word] if word.as_str() == "--version" => Ok(Command::Version),
+        _ => Err(WordFault::Refused),
+    }
+}
+
+/// The law that words say one command at most, with one value of each option. It does nothing.
+pub fn words_say_one_command()
+    ensures { (words : List (List ℕ)) (one other : Command) → Says words one → Says words other
+        → one ≡ other }
+{}
