@@ -21,10 +21,11 @@ REQUESTS, BODY, ROUNDS = 400, 144_000, 5
 
 def request(number):
     tags = ",".join(f'{{"key":"k{place}","value":"v{place}"}}' for place in range(10_000))
-    front = f'{{"invocationId":"u-{number}","invocation":{{"realm":"proj:ci","tags":['
+    front = f'{{"requestId":"q","invocationId":"u-{number}","invocation":{{"realm":"proj:ci","tags":['
     body = front + tags[: BODY - len(front) - 3].rpartition(",{")[0] + "]}}"
     body = body.ljust(BODY).encode()
     head = "POST /prpc/luci.resultdb.v1.Recorder/CreateInvocation HTTP/1.1\r\nHost: farm\r\n"
+    head += "Authorization: Bearer tok-a\r\n"
     return head.encode() + b"Content-Length: %d\r\n\r\n" % len(body) + body
 
 

@@ -2,8 +2,9 @@
 """End-to-end checks: the built program, run on examples/*.http, against the replies that stand beside them.
 
 Only moments are masked, since the program reads the system's clock: each createTime and deadline is replaced by the one
-of the stored reply, after it was seen that the deadline lies 48 hours after the create time and that the create time is
-no earlier than the run's start. Each run has ended by itself before its output is looked at.
+of the stored reply, after it was seen that the create time is no earlier than the run's start and that the deadline lies
+48 hours after it. A deadline that a request gives is put in place of the stored one, an hour from now, and has to come
+back as it was sent. Each run has ended by itself before its output is looked at.
 """
 
 import datetime
@@ -20,7 +21,8 @@ EXAMPLES = TOP / "examples"
 RDB = TOP / "rdb"
 SECONDS = 60
 
-MOMENTS = re.compile(rb'"createTime":"([^"]*)","deadline":"([^"]*)"')
+MOMENTS = re.compile(rb'"createTime":"([^"]*)",("createdBy":"[^"]*"),"deadline":"([^"]*)"')
+CREATED, DEADLINE, GIVEN = b"2023-11-14T22:13:20Z", b"2023-11-16T22:13:20Z", b"2023-11-14T23:13:20Z"
 PRINTED = re.compile(r"(\d{4}-\d\d-\d\dT\d\d:\d\d:\d\d)(?:\.(\d{3}|\d{6}))?Z")
 LENGTH = re.compile(rb"Content-Length: (\d+)\r\n")
 
@@ -52,30 +54,31 @@ def replies(stream):
         stream = rest[int(length[1]) :]
 
 
-def masked(stream, begun):
+def masked(stream, begun, given):
     """The stream with each moment, and the length that it brings with it, as in the stored replies."""
     for head, body in replies(stream):
         found = MOMENTS.search(body)
         if found:
-            created, deadline = micros(found[1]), micros(found[2])
-            if deadline - created != 48 * 3600 * 1_000_000:
+            created, deadline = micros(found[1]), micros(found[3])
+            if found[3] != given and deadline - created != 48 * 3600 * 1_000_000:
                 raise Wrong(f"the deadline is not 48 hours away: {body!r}")
             if created < begun:
                 raise Wrong(f"created before the run began: {body!r}")
-            body = MOMENTS.sub(b'"createTime":"2023-11-14T22:13:20Z","deadline":"2023-11-16T22:13:20Z"', body)
+            stored = GIVEN if found[3] == given else DEADLINE
+            body = MOMENTS.sub(b'"createTime":"%s",%s,"deadline":"%s"' % (CREATED, found[2], stored), body)
             head = LENGTH.sub(b"Content-Length: %d\r\n" % len(body), head + b"\r\n")[:-2]
         yield head + b"\r\n\r\n" + body
 
 
-def words(folder):
-    return [RDB, "answer", "--config", EXAMPLES / "farm.toml", "--journal", pathlib.Path(folder) / "farm.journal"]
+def words(folder, config=EXAMPLES / "farm.toml"):
+    return [RDB, "answer", "--config", config, "--journal", pathlib.Path(folder) / "farm.journal"]
 
 
-def run(feed, folder, **streams):
+def run(feed, folder, stdout=subprocess.PIPE, config=EXAMPLES / "farm.toml", given=None):
     """Runs the program. `feed` is its whole input, or a function that writes it to a pipe."""
     begun = time.time_ns() // 1000
     program = subprocess.Popen(
-        words(folder), stdin=subprocess.PIPE, stderr=subprocess.PIPE, stdout=streams.get("stdout", subprocess.PIPE)
+        words(folder, config), stdin=subprocess.PIPE, stderr=subprocess.PIPE, stdout=stdout
     )
     if callable(feed):
         feed(program.stdin)
@@ -85,7 +88,7 @@ def run(feed, folder, **streams):
     except subprocess.TimeoutExpired:
         program.kill()
         raise Wrong(f"not ended after {SECONDS} seconds")
-    return b"".join(masked(out, begun)) if out else out, errors, program.returncode
+    return b"".join(masked(out, begun, given)) if out else out, errors, program.returncode
 
 
 def expect(got, output, errors, status):
@@ -104,6 +107,38 @@ def answers(name, errors=b"", status=0):
         expect(run(example(name, "http"), folder), example(name, "reply"), errors, status)
 
     return check
+
+
+def a_deadline_that_is_given(folder):
+    """A request whose deadline is an hour away."""
+    moment = datetime.datetime.now(datetime.timezone.utc) + datetime.timedelta(hours=1)
+    given = moment.strftime("%Y-%m-%dT%H:%M:%SZ").encode()
+    request = example("deadline-and-tags", "http").replace(GIVEN, given)
+    expect(run(request, folder, given=given), example("deadline-and-tags", "reply"), b"", 0)
+
+
+def configurations(folder):
+    """A configuration that is refused, and one that isn't there: nothing is read or answered."""
+    wrong = pathlib.Path(folder) / "wrong.toml"
+    for text, line, status in (
+        (b"secret", b"rdb: configuration refused: 1 NotToml\n", 2),
+        (b'secret = "0b"\nusers = 1\n', b"rdb: configuration refused: 8 BadShape\n", 2),
+        (b'secret = "0"\n', b"rdb: configuration refused: 2 BadName\n", 2),
+        (b"#" * (4 * 1024 * 1024 + 1), b"rdb: configuration refused: 7 TooMany\n", 2),
+        (None, b"rdb: fault of config\n", 4),
+    ):
+        wrong.unlink(missing_ok=True)
+        if text is not None:
+            wrong.write_bytes(text)
+        expect(run(example("create-invocation", "http"), folder, config=wrong), b"", line, status)
+
+
+def constant_texts(folder):
+    """--help and --version, each as the only word."""
+    for word, start in (("--help", b"answer --config PATH --journal PATH"), ("--version", b"rdb ")):
+        done = subprocess.run([RDB, word], input=b"POST", capture_output=True, timeout=SECONDS)
+        if start not in done.stdout or done.stderr or done.returncode:
+            raise Wrong(f"{word}: {done!r}")
 
 
 def a_byte_at_a_time(folder):
@@ -140,15 +175,42 @@ def full_output(folder):
 
 def refused_words(folder):
     """Words outside the grammar: nothing is read or answered."""
-    for wrong in ([], ["answer"], ["serve"] + words(folder)[2:], words(folder)[1:] + ["more"], words(folder)[1:4] + ["--journal", ""]):
+    taken = [str(word) for word in words(folder)[1:]]
+    for wrong in (
+        [],
+        ["answer"],
+        ["serve"] + taken[1:],
+        taken + ["more"],
+        taken + taken[1:3],
+        taken[:3] + ["--journal", ""],
+        taken[:3] + ["--journal", "-j"],
+        ["--help", "--version"],
+    ):
         done = subprocess.run([RDB, *wrong], input=b"POST", capture_output=True, timeout=SECONDS)
         expect((done.stdout, done.stderr, done.returncode), b"", b"rdb: words refused\n", 1)
+
+
+def words_in_another_spelling(folder):
+    """The options in the other order, with `=`."""
+    done = subprocess.run(
+        [RDB, "answer", f"--journal={folder}/farm.journal", "--config", EXAMPLES / "farm.toml"],
+        input=example("no-caller", "http"),
+        capture_output=True,
+        timeout=SECONDS,
+    )
+    expect((done.stdout, done.stderr, done.returncode), example("no-caller", "reply"), b"", 0)
 
 
 CHECKS = {
     "one request": answers("create-invocation"),
     "three requests in one piece": answers("three-requests"),
-    "bodies of other forms": answers("other-forms"),
+    "wrong fields": answers("wrong-fields"),
+    "no caller": answers("no-caller"),
+    "no permission": answers("no-permission"),
+    "a reserved id": answers("reserved-id"),
+    "an unknown method": answers("unknown-method"),
+    "a deadline and tags": a_deadline_that_is_given,
+    "configurations that aren't accepted": configurations,
     "the same bytes one at a time": a_byte_at_a_time,
     "an empty input": empty_input,
     "a request cut short": answers("cut-short", b"rdb: wire 8 CutShort\n", 8),
@@ -156,6 +218,8 @@ CHECKS = {
     "a closed output": closed_output,
     "a full output": full_output,
     "refused words": refused_words,
+    "words in another spelling": words_in_another_spelling,
+    "help and version": constant_texts,
 }
 
 

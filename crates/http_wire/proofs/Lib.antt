@@ -1,6 +1,8 @@
 pub mod ReplyLaws
 pub mod ScanLaws
 pub mod RequestLaws
+pub mod FieldLaws
+pub mod SaysLaws
 pub mod StreamLaws
 pub mod DigitLaws
 pub mod AnnouncedLaws

@@ -10,7 +10,8 @@ use Rattle.httparse.specs.Grammar.{print_request}
 use Rattle.http_wire.specs.Head.{IsHeadText, head_limit}
 use Rattle.http_wire.specs.Scan.{head_end}
 use Rattle.http_wire.specs.Announced.{Announced, NotAnnounced}
-use Rattle.http_wire.specs.Stream.{message_of, Announces, LacksBody, IsCutShort, IsUnread, IsUndecided}
+use Rattle.http_wire.specs.Stream.{Announces, LacksBody, IsCutShort, IsUnread, IsUndecided}
+use Rattle.http_wire.specs.Says.{IsMessageOf}
 use Rattle.http_wire.specs.Held.{IsAnswer, CountsRead, Reading, message_limit}
 use Rattle.http_wire.specs.Reads.{FindsHead, IsHeadAnswer, IsBodyAnswer, TakesBody}
 use Rattle.http_wire.specs.declared.head_scan.HeadEnd.{HeadEnd}
@@ -222,22 +223,20 @@ reading_at_body_fault held bytes now had between left end len e r x m t is =
     (counted (Vec ℕ) (Option Message) had.faults left.faults e
     (subst (λ z. CountsRead {T = Vec ℕ} z (Err e) left.faults) x.faults t.faults)))
 
--- There was no memory for the message.
-pub reading_at_no_memory : (held bytes now : List ℕ) (had between left : Incoming) (end : HeadEnd) (len : ℕ) (v : Vec ℕ)
-    (r : Result (Option Message) WireFault) → FindsHead held had (Ok (Some end)) bytes between
-    → Framing bytes end.len end.lines len → TakesBody bytes between end.len len (Ok v) now left → r ≡ Err Memory
-    → Reading (record { held = held; is_open = true }) had r left (record { held = now; is_open = is_ok r })
-reading_at_no_memory held bytes now had between left end len v r x m t is =
-    subst (λ z. Reading (record { held = held; is_open = true }) had z left (record { held = now; is_open = is_ok z })) (sym is)
-    (reading_at_body held bytes now had between left end len (Ok v) (Err Memory) x m t tt (t.faults ∙ x.faults))
+-- There was no memory for the message, before its body was taken.
+pub reading_at_no_memory : (held bytes : List ℕ) (had left : Incoming) (end : HeadEnd) (r : Result (Option Message) WireFault)
+    → FindsHead held had (Ok (Some end)) bytes left → r ≡ Err Memory
+    → Reading (record { held = held; is_open = true }) had r left (record { held = bytes; is_open = is_ok r })
+reading_at_no_memory held bytes had left end r x is =
+    subst (λ z. Reading (record { held = held; is_open = true }) had z left (record { held = bytes; is_open = is_ok z })) (sym is)
+    (reading_at_head held bytes bytes had left (Ok (Some end)) (Err Memory) x tt x.faults)
 
 -- The message is there.
 pub reading_of_message : (held bytes now : List ℕ) (had between left : Incoming) (end : HeadEnd) (len : ℕ) (v : Vec ℕ) (means : Message)
-    → FindsHead held had (Ok (Some end)) bytes between → Framing bytes end.len end.lines len
-    → TakesBody bytes between end.len len (Ok v) now left → means ≡ message_of v.items
+    → FindsHead held had (Ok (Some end)) bytes between → Framing bytes end.len end.lines len → (a : Announced (take end.len bytes) len)
+    → TakesBody bytes between end.len len (Ok v) now left → IsMessageOf a.h v.items means
     → Reading (record { held = held; is_open = true }) had (Ok (Some means)) left (record { held = now; is_open = true })
-reading_of_message held bytes now had between left end len v means x m t is =
-    let a = m.announced in
+reading_of_message held bytes now had between left end len v means x m a t says =
     let stream = bytes ++ t.got in
     let head : take end.len stream ≡ print_request a.h = take-append-le end.len bytes t.got m.front.fits ∙ a.printed in
     let parts : stream ≡ (print_request a.h ++ v.items) ++ now =
@@ -249,7 +248,7 @@ reading_of_message held bytes now had between left end len v means x m t is =
         body = v.items;
         announced = subst (λ z. Announces a.h z) (sym t.answer.0) (announces bytes end.len end.lines len m.front m.small a);
         parts = refl;
-        means = is;
+        says = says;
       },
       parts,
     )

@@ -5,11 +5,15 @@ use Rattle.std.proofs.lemmas.List.{take_at, drop_at, take-append-drop, take_all,
 use Rattle.httparse.specs.Grammar.{print_request}
 use Rattle.http_wire.specs.Head.{head_limit}
 use Rattle.http_wire.specs.Scan.{head_end, Passed}
-use Rattle.http_wire.specs.Announced.{Announced}
-use Rattle.http_wire.specs.Stream.{message_of, Announces, IsMessage, IsCutShort, IsUnread, Framed, Spells, HasEnd}
+use Rattle.http_wire.specs.Says.{IsMessageOf}
+use Rattle.http_wire.specs.Announced.{Announced, IsRequest}
+use Rattle.http_wire.specs.Stream.{Announces, IsMessage, IsCutShort, IsUnread, Framed, Spells, HasEnd}
 use Rattle.http_wire.specs.declared.head_scan.Progress.{Progress}
 use Rattle.http_wire.specs.declared.message.Message.{Message}
 use Rattle.http_wire.specs.declared.message.End.{End}
+use Rattle.http_wire.specs.First.{IsFirstMessage}
+use Rattle.http_wire.specs.declared.request.Request.{Request}
+use Rattle.http_wire.proofs.SaysLaws.{message_for}
 use Rattle.http_wire.proofs.ScanLaws.{head_at_end, end_of_head}
 use Rattle.http_wire.proofs.HeadSearchLaws.{no_head_passed}
 use Rattle.http_wire.proofs.NextLaws.{Front, front_at, announces}
@@ -51,8 +55,8 @@ unread_where_long stream m p passed is long = inr (record {
         (take-take (length text) (length text + n) (text ++ rest) (omega arith) ∙ take_at text rest (length text) refl)
         ∙ ap (λ z. text ++ z) (drop-take (length text) n (text ++ rest) ∙ ap (λ z. take n z) (drop_at text rest (length text) refl))
 
-pub first_message : (stream body : List ℕ) (n k len : ℕ) (m : Message) → head_end stream ≡ Some (n, k) → n ≤ head_limit → Announced (take n stream) len → n + len ≤ length stream
-    → body ≡ take len (drop n stream) → m ≡ message_of body → IsMessage (take (n + len) stream) m
+pub first_message : (stream body : List ℕ) (n k len : ℕ) (m : Message) → head_end stream ≡ Some (n, k) → n ≤ head_limit → (a : Announced (take n stream) len) → n + len ≤ length stream
+    → body ≡ take len (drop n stream) → IsMessageOf a.h body m → IsMessage (take (n + len) stream) m
 first_message stream body n k len m e small a fits is means =
     let f = front_at stream n k e in
     let count : length body ≡ len = ap length is ∙ simp (length-take, length-drop) (omega arith) in
@@ -64,8 +68,25 @@ first_message stream body n k len m e small a fits is means =
           sym (take-append-drop n (take (n + len) stream))
           ∙ ap (λ z. z ++ drop n (take (n + len) stream)) (take-take n (n + len) stream (omega arith) ∙ a.printed)
           ∙ ap (λ z. print_request a.h ++ z) (drop-take n len stream ∙ sym is);
-      means = means;
+      says = means;
     }
+
+pub some_head : (stream : List ℕ) (n k : ℕ) → head_end stream ≡ Some (n, k) → 0 < n
+some_head stream n k e = above n (front_at stream n k e)
+  where
+    above : (n : ℕ) → Front stream n k → 0 < n
+    above zero f = absurd (no_empty_head k f.head)
+    above (suc n) f = omega arith
+
+pub first_request : (stream : List ℕ) (n k : ℕ) (r : Request) → head_end stream ≡ Some (n, k) → n ≤ head_limit → IsRequest (take n stream) r
+    → n + r.len ≤ length stream → IsFirstMessage stream n r
+first_request stream n k r e small q fits = record {
+  some = some_head stream n k e;
+  fits = fits;
+  h = q.announced.h;
+  said = q.said;
+  message = λ m says. first_message stream (take r.len (drop n stream)) n k r.len m e small q.announced fits refl says;
+}
 
 -- the messages so far stand in front of the rest
 pub record SoFar (stream : List ℕ) (ms : List Message) (rest : List ℕ) : Type 0 where
@@ -85,18 +106,13 @@ pub so_far_all : (stream : List ℕ) (ms : List Message) (rest : List ℕ) (e : 
 so_far_all stream ms rest e s x =
     subst (λ z. Framed z ms e) (sym s.parts) (subst (λ z. Framed (s.text ++ rest) z e) (append-nil ms) (spells_then_framed ms [] s.text rest e s.spells x))
 
-pub some_head : (stream : List ℕ) (n k : ℕ) → head_end stream ≡ Some (n, k) → 0 < n
-some_head stream n k e = above n (front_at stream n k e)
-  where
-    above : (n : ℕ) → Front stream n k → 0 < n
-    above zero f = absurd (no_empty_head k f.head)
-    above (suc n) f = omega arith
-
 pub not_empty : (xs : List ℕ) (b : Bool) → b ≡ nat_eq (length xs) 0 → b ≡ false → xs ≢ []
 not_empty xs b is no_byte = λ e. eqb-false (length xs) 0 (sym is ∙ no_byte) (ap length e)
 
 -- one message more of those that there are
-pub some_more : (stream rest now : List ℕ) (m : Message) (len : ℕ) → (x : (ms : List Message) × SoFar stream ms rest)
-    → IsMessage (take len rest) m → now ≡ drop len rest → (ms : List Message) × SoFar stream ms now
-some_more stream rest now m len x y is =
-    (x.0 ++ m ∷ [], subst (λ z. SoFar stream (x.0 ++ m ∷ []) z) (sym is) (so_far_more stream x.0 rest m len x.1 y))
+pub some_more : (stream rest now : List ℕ) (head : ℕ) (r : Request) → (x : (ms : List Message) × SoFar stream ms rest)
+    → IsFirstMessage rest head r → now ≡ drop (head + r.len) rest → (ms : List Message) × SoFar stream ms now
+some_more stream rest now head r x first is =
+    let there = message_for first.h (take r.len (drop head rest)) in
+    let m = there.0 in
+    (x.0 ++ m ∷ [], subst (λ z. SoFar stream (x.0 ++ m ∷ []) z) (sym is) (so_far_more stream x.0 rest m (head + r.len) x.1 (first.message m there.1)))

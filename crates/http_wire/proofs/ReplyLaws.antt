@@ -10,7 +10,7 @@ use Rattle.outside.specs.declared.whole.WriteEnd.{WriteEnd}
 use Rattle.outside.proofs.Taken.{took_both, front_of_first, front_of_second}
 use Rattle.std.proofs.lemmas.Bool.Decides.{Decides-below_and}
 use Rattle.http.specs.StatusCode.{reason_phrase, IsStatusCode}
-use Rattle.service_core.specs.ReplyBytes.{head_text, line, line_end, content_type, token_line, close_line}
+use Rattle.call_forms.specs.ReplyBytes.{head_text, line, line_end, content_type, token_line, close_line}
 
 abbrev is_short : List ℕ → Bool
 is_short text = nat_le (length text) 31

@@ -1,27 +1,22 @@
 -- A stream is read in one way.
-use Rattle.std.proofs.Common.{append-nil, ◌≡◌, ◌⊎◌, inl, inr, ℕ, ◌+◌, ◌<◌, List, [], ◌∷◌, ◌++◌, length, take, drop, Option, Some, None, refl, sym, ap, ◌∙◌, subst, arith, append_assoc, length-append}
-use Rattle.std.proofs.lemmas.List.{take_at, drop_at, nil_from_length}
+use Rattle.std.proofs.Common.{append-nil, ◌≡◌, ◌⊎◌, inl, inr, ℕ, ◌+◌, ◌<◌, List, [], ◌∷◌, ◌++◌, length, Option, Some, None, refl, sym, ap, ◌∙◌, subst, arith, append_assoc, length-append}
+use Rattle.std.proofs.lemmas.List.{nil_from_length}
 use Rattle.std.specs.Str.Parse.{digits_value}
 use Rattle.httparse.specs.Grammar.{RequestHead, print_request, IsRequestHead}
 use Rattle.httparse.proofs.GrammarLemmas.{request_unique}
 use Rattle.http_wire.specs.Head.{IsHeadText, HasNoHead, head_limit}
 use Rattle.http_wire.specs.Form.{IsForm}
 use Rattle.http_wire.specs.Scan.{head_end, scan}
-use Rattle.http_wire.specs.Stream.{message_of, Announces, IsMessage, LacksBody, IsOtherHead, IsEndless, IsUnread, HasFault, HasEnd, IsUndecided, Framed, Spells}
+use Rattle.http_wire.specs.Stream.{Announces, IsMessage, LacksBody, IsOtherHead, IsEndless, IsUnread, HasFault, HasEnd, IsUndecided, Framed, Spells}
 use Rattle.http_wire.specs.declared.message.Message.{Message}
 use Rattle.http_wire.specs.declared.message.End.{End}
 use Rattle.http_wire.specs.declared.message.End.TheVariants.{Finished, Fault}
 use Rattle.http_wire.specs.declared.message.WireFault.{WireFault}
 use Rattle.http_wire.specs.declared.message.WireFault.TheVariants.{CutShort, Unread, ReadFault, Memory}
+use Rattle.http_wire.specs.Says.{IsMessageOf}
 use Rattle.http_wire.proofs.ScanLaws.{end_of_head}
+use Rattle.http_wire.proofs.SaysLaws.{same_fronts, one_message}
 use Rattle.http_wire.proofs.RequestLaws.{request_is_head}
-
--- fronts of one length of the same bytes
-pub same_fronts : (a r b q : List ℕ) → a ++ r ≡ b ++ q → length a ≡ length b → (a ≡ b) × (r ≡ q)
-same_fronts a r b q e len = (
-  sym (take_at a r (length a) refl) ∙ ap (λ x. take (length a) x) e ∙ ap (λ n. take n (b ++ q)) len ∙ take_at b q (length b) refl,
-  sym (drop_at a r (length a) refl) ∙ ap (λ x. drop (length a) x) e ∙ ap (λ n. drop n (b ++ q)) len ∙ drop_at b q (length b) refl,
-)
 
 -- two heads at the front of the same bytes are one
 pub same_heads : (a r b q : List ℕ) (k c : ℕ) → a ++ r ≡ b ++ q → IsHeadText a k → IsHeadText b c → (a ≡ b) × (r ≡ q)
@@ -60,8 +55,11 @@ same_messages a r b q m n e x y =
     sym (append_assoc (print_request x.h) x.body r) ∙ ap (λ z. z ++ r) (sym x.parts) ∙ e ∙ ap (λ z. z ++ q) y.parts ∙ append_assoc (print_request y.h) y.body q in
     let same = same_announced x.h y.h (length x.body) (length y.body) (x.body ++ r) (y.body ++ q) bytes x.announced y.announced in
     let bodies = same_fronts x.body r y.body q same.2 same.1 in
-    let whole : a ≡ b = x.parts ∙ ap (λ z. print_request z ++ x.body) same.0 ∙ ap (λ z. print_request y.h ++ z) bodies.0 ∙ sym y.parts in
-    (x.means ∙ ap message_of bodies.0 ∙ sym y.means, whole, bodies.1)
+    let whole : a ≡ b = x.parts ∙ ap (λ z. print_request z ++ x.body) same.0 ∙ ap (λ z. print_request y.h ++ z) bodies.0 ∙ sym y.parts in (
+      one_message y.h y.body m n (subst (λ z. IsMessageOf y.h z m) bodies.0 (subst (λ z. IsMessageOf z x.body m) same.0 x.says)) y.says,
+      whole,
+      bodies.1,
+    )
 
 pub announced_head : (h : RequestHead) (len : ℕ) → Announces h len → IsHeadText (print_request h) (length h.fields)
 announced_head h len x = request_is_head h x.head

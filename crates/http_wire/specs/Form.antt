@@ -21,9 +21,6 @@ pub record IsLength (text : List ℕ) (len : ℕ) : Type 0 where
   pub digits : AllDigits 10 text
   pub number : len ≡ digits_value 10 text
 
-abbrev pub route_text : List ℕ
-route_text = codes "/prpc/luci.resultdb.v1.Recorder/CreateInvocation"
-
 -- the most bytes that a body has
 abbrev pub body_limit : ℕ
 body_limit = 4194304
@@ -37,10 +34,9 @@ pub record AnnounceLength (fields : List (List ℕ × List ℕ)) (len : ℕ) : T
   pub no_coding : values_of (codes "transfer-encoding") fields ≡ []
   pub no_connection : values_of (codes "connection") fields ≡ []
 
--- a POST of HTTP/1.1 to the one route, with at most 64 header lines, which announce a body of this length
+-- a POST of HTTP/1.1, with at most 64 header lines, which announce a body of this length
 pub record IsForm (h : RequestHead) (len : ℕ) : Type 0 where
   pub method : h.method ≡ codes "POST"
-  pub target : h.target ≡ route_text
   pub version : h.minor ≡ 1
   pub lines : length h.fields ≤ 64
   pub fields : AnnounceLength (map name_and_value h.fields) len

@@ -1,7 +1,7 @@
 -- What a connection's peer gets.
 use Rattle.std.specs.Prelude.{ℕ, List, [], ◌∷◌, ◌++◌, true, codes, decimal}
-use Rattle.service_core.specs.ReplyBytes.{plain_reply, told_bytes}
-use Rattle.service_core.specs.declared.forms.Told.{Told}
+use Rattle.call_forms.specs.ReplyBytes.{plain_reply, told_bytes}
+use Rattle.call_forms.specs.declared.forms.Told.{Told}
 use Rattle.http_wire.specs.declared.message.Message.{Message}
 use Rattle.http_wire.specs.declared.message.WireFault.{WireFault}
 use Rattle.http_wire.specs.declared.message.WireFault.TheVariants.{CutShort, Unread, ReadFault, Memory}

@@ -1,27 +1,14 @@
 -- A stream as messages one after the other, and what follows them.
-use Rattle.std.specs.Prelude.{◌≡◌, ◌≢◌, ℕ, ◌<◌, ◌≤◌, ◌⊎◌, false, List, [], ◌∷◌, ◌++◌, length, codes, None}
+use Rattle.std.specs.Prelude.{◌≡◌, ◌≢◌, ℕ, ◌<◌, ◌≤◌, ◌⊎◌, List, [], ◌∷◌, ◌++◌, length}
 use Rattle.httparse.specs.Grammar.{RequestHead, IsRequestHead, print_request}
 use Rattle.http_wire.specs.Head.{IsHeadText, HasNoHead, head_limit}
-use Rattle.http_wire.specs.Form.{IsForm, route_text}
+use Rattle.http_wire.specs.Form.{IsForm}
+use Rattle.http_wire.specs.Says.{IsMessageOf}
 use Rattle.http_wire.specs.declared.message.Message.{Message}
 use Rattle.http_wire.specs.declared.message.End.{End}
 use Rattle.http_wire.specs.declared.message.End.TheVariants.{Finished, Fault}
 use Rattle.http_wire.specs.declared.message.WireFault.{WireFault}
 use Rattle.http_wire.specs.declared.message.WireFault.TheVariants.{CutShort, Unread, ReadFault, Memory}
-
--- the message with this body
-abbrev pub message_of : List ℕ → Message
-message_of body = record {
-  asked = record {
-    bearer = None;
-    update_token = None;
-    service = codes "luci.resultdb.v1.Recorder";
-    method = codes "CreateInvocation";
-    body = body;
-  };
-  target = route_text;
-  close = false;
-}
 
 -- a head within the limit that announces a body of this length
 pub record Announces (h : RequestHead) (len : ℕ) : Type 0 where
@@ -35,7 +22,7 @@ pub record IsMessage (bytes : List ℕ) (m : Message) : Type 0 where
   pub body : List ℕ
   pub announced : Announces h (length body)
   pub parts : bytes ≡ print_request h ++ body
-  pub means : m ≡ message_of body
+  pub says : IsMessageOf h body m
 
 -- a whole head of the form, and less of a body than it announces
 pub record LacksBody (bytes : List ℕ) : Type 0 where

@@ -1,10 +1,12 @@
-//! A head's fields, and the length of body that they announce.
+//! A head's fields: what stands under the names that are read, and the length of body that they announce.
 ghost use Rattle.std.specs.Prelude.{◌≡◌, ◌≤◌, ◌↔◌, ◌+◌, ◌*◌, ◌<◌, ◌^◌, ℕ, length, List, [], ◌∷◌, ◌++◌, All, map, IsTrue, MatchOption};
+ghost use Rattle.std.specs.Option.{option_map};
 ghost use Rattle.std.specs.Str.{str_eq_ignore_ascii_case};
 ghost use Rattle.std.specs.Str.Parse.{AllDigits, digits_value};
 ghost use Rattle.httparse.specs.Spans.{IsHeaderWithin, header_bytes};
 ghost use Rattle.http_wire.specs.Form.{values_of, IsLength, AnnounceLength, body_limit};
-ghost use Rattle.http_wire.specs.Found.{IsFound};
+ghost use Rattle.http_wire.specs.Says.{IsTheText, IsAlone};
+ghost use Rattle.http_wire.specs.Found.{IsFound, AreFound};
 
 use httparse::spans::HeaderSpan;
 
@@ -19,44 +21,80 @@ pub enum Found<'b> {
     Again,
 }
 
-fn has_name(head: &[u8], header: HeaderSpan, name: &[u8]) -> bool
-    requires { IsHeaderWithin (length head.now) header }
-    ensures { result ≡ str_eq_ignore_ascii_case (header_bytes head.now header).0 name.now }
-{
-    header.name.of(head).eq_ignore_ascii_case(name)
+/// What a head has under each name that is read.
+#[derive(Clone, Copy)]
+pub struct Fields<'b> {
+    pub content_length: Found<'b>,
+    pub transfer_encoding: Found<'b>,
+    pub connection: Found<'b>,
+    pub authorization: Found<'b>,
+    pub update_token: Found<'b>,
 }
 
-fn with_one<'b>(found: Found<'b>, value: &'b [u8]) -> Found<'b>
-    ensures { (values : List (List ℕ)) → IsFound found.entry values
-        → IsFound result (values ++ value.now ∷ []) }
+/// What stands under each name, without regard to ASCII case.
+pub fn read_fields<'b>(head: &'b [u8], headers: &[HeaderSpan]) -> Fields<'b>
+    requires { All (IsHeaderWithin (length head.now)) headers.now }
+    ensures { AreFound result (map (header_bytes head.now) headers.now) }
 {
+    let mut fields = Fields {
+        content_length: Found::Absent,
+        transfer_encoding: Found::Absent,
+        connection: Found::Absent,
+        authorization: Found::Absent,
+        update_token: Found::Absent,
+    };
+    for header in headers {
+        fields = with_header(fields, head, *header);
+    }
+    fields
+}
+
+/// One header more.
+fn with_header<'b>(fields: Fields<'b>, head: &'b [u8], header: HeaderSpan) -> Fields<'b>
+    requires { IsHeaderWithin (length head.now) header }
+    ensures { (list : List (List ℕ × List ℕ)) → AreFound fields.entry list
+        → AreFound result (list ++ header_bytes head.now header ∷ []) }
+{
+    let name = header.name.of(head);
+    let value = header.value.of(head);
+    Fields {
+        content_length: with_field(fields.content_length, b"content-length", name, value),
+        transfer_encoding: with_field(fields.transfer_encoding, b"transfer-encoding", name, value),
+        connection: with_field(fields.connection, b"connection", name, value),
+        authorization: with_field(fields.authorization, b"authorization", name, value),
+        update_token: with_field(fields.update_token, b"update-token", name, value),
+    }
+}
+
+/// What stands under a name, with one field more.
+fn with_field<'b>(found: Found<'b>, wanted: &[u8], name: &[u8], value: &'b [u8]) -> Found<'b>
+    ensures { (list : List (List ℕ × List ℕ)) → IsFound found.entry (values_of wanted.now list)
+        → IsFound result (values_of wanted.now (list ++ (name.now, value.now) ∷ [])) }
+{
+    if !is_same_but_case(name, wanted) {
+        return found;
+    }
     match found {
         Found::Absent => Found::Once(value),
         _ => Found::Again,
     }
 }
 
-/// Looks for the fields with a name, without regard to ASCII case.
-fn find_value<'b>(head: &'b [u8], headers: &[HeaderSpan], name: &[u8]) -> Found<'b>
-    requires { All (IsHeaderWithin (length head.now)) headers.now }
-    ensures { IsFound result (values_of name.now (map (header_bytes head.now) headers.now)) }
+/// Whether two texts are the same, without regard to ASCII case.
+pub fn is_same_but_case(text: &[u8], other: &[u8]) -> bool
+    ensures { result ≡ str_eq_ignore_ascii_case text.now other.now }
 {
-    let mut found = Found::Absent;
-    for header in headers {
-        if has_name(head, *header, name) {
-            found = with_one(found, header.value.of(head));
-        }
-    }
-    found
+    text.eq_ignore_ascii_case(other)
 }
 
-fn is_absent(head: &[u8], headers: &[HeaderSpan], name: &[u8]) -> bool
-    requires { All (IsHeaderWithin (length head.now)) headers.now }
-    ensures { IsTrue result ↔ (values_of name.now (map (header_bytes head.now) headers.now) ≡ []) }
+/// The value that stands alone under a name.
+pub fn alone<'b>(found: Found<'b>) -> Option<&'b [u8]>
+    ensures { (values : List (List ℕ)) → IsFound found.entry values
+        → IsTheText (IsAlone values) (option_map (λ t. t.now) result) }
 {
-    match find_value(head, headers, name) {
-        Found::Absent => true,
-        _ => false,
+    match found {
+        Found::Once(value) => Some(value),
+        _ => None,
     }
 }
 
@@ -101,17 +139,16 @@ fn length_in(text: &[u8]) -> Option<usize>
 }
 
 /// The length of body that a head's fields announce, or `None` where they aren't of the form that is read.
-pub fn announced_length(head: &[u8], headers: &[HeaderSpan]) -> Option<usize>
-    requires { All (IsHeaderWithin (length head.now)) headers.now }
-    ensures { MatchOption result ((len : ℕ)
-        → ¬ (AnnounceLength (map (header_bytes head.now) headers.now) len))
-        (AnnounceLength (map (header_bytes head.now) headers.now)) }
+pub fn announced_length(fields: Fields) -> Option<usize>
+    ensures { (list : List (List ℕ × List ℕ)) → AreFound fields.entry list
+        → MatchOption result ((len : ℕ) → ¬ (AnnounceLength list len)) (AnnounceLength list) }
 {
-    if !is_absent(head, headers, b"transfer-encoding") || !is_absent(head, headers, b"connection") {
+    let Found::Absent = fields.transfer_encoding else {
         return None;
-    }
-    match find_value(head, headers, b"content-length") {
-        Found::Once(text) => length_in(text),
-        _ => None,
-    }
+    };
+    let Found::Absent = fields.connection else {
+        return None;
+    };
+    let text = alone(fields.content_length)?;
+    length_in(text)
 }

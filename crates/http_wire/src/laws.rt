@@ -22,7 +22,7 @@ pub fn there_is_a_reading(stream: &[u8]) -> End
     let mut rest = stream;
     'messages: loop {
         match first_of(rest) {
-            First::Message { head, len } => rest = rest.split_at(head + len).1,
+            First::Message { head, request } => rest = rest.split_at(head + request.len).1,
             First::End(end) => return end,
         }
     }

@@ -1,9 +1,10 @@
 //! HTTP/1.1 on a connection: requests in, replies out.
 //!
 //! `Wire` reads one message after the other from a link, in whatever pieces the bytes come. Messages of one form are
-//! read: a POST to one route with a Content-Length.
+//! read: a POST with a Content-Length.
 #![tactic(auto)]
 
+mod bearer;
 mod body;
 mod buffer;
 mod fields;
@@ -15,6 +16,7 @@ mod out;
 mod plain;
 mod reply_head;
 mod request;
+mod said;
 mod wire;
 
 pub use laws::{front_of_reading, one_reading, there_is_a_reading};

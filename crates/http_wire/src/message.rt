@@ -2,8 +2,8 @@
 ghost use Rattle.std.specs.Prelude.{◌≡◌};
 ghost use Rattle.http_wire.specs.Out.{fault_number, fault_name};
 
+use call_forms::Asked;
 use lists::Bytes;
-use service_core::Asked;
 use std::alloc::{AllocError, AllocFailed};
 
 /// A request as it was framed.

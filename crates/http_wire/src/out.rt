@@ -2,13 +2,13 @@
 ghost use Rattle.std.specs.Prelude.{◌≡◌, ◌≤◌, ◌++◌, length};
 ghost use Rattle.outside.specs.Ends.{OnlyWrites};
 ghost use Rattle.outside.specs.Whole.{WritesWhole};
-ghost use Rattle.service_core.specs.ReplyBytes.{answer_bytes, standin_bytes};
+ghost use Rattle.call_forms.specs.ReplyBytes.{answer_bytes, standin_bytes};
 ghost use Rattle.http_wire.specs.Out.{farewell_bytes, farewell_text};
 
 use crate::message::WireFault;
 use crate::reply_head::{Reply, put, reply_head};
+use call_forms::{Answer, Standin};
 use outside::{Link, WriteEnd, write_whole};
-use service_core::forms::{Answer, Standin};
 
 /// Writes a reply: its head in one write, and its body in a second one, where the link takes them whole.
 pub fn write_response<L: Link>(link: &mut L, answer: &Answer, close: bool) -> Result<(), WriteEnd>

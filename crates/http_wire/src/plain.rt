@@ -8,15 +8,16 @@ ghost use Rattle.http_wire.specs.First.{IsFirst};
 use crate::buffer::HEAD_LIMIT;
 use crate::head_scan::{HeadEnd, Search, begin, search_on};
 use crate::message::{End, Message, WireFault};
-use crate::request::announced;
-use crate::wire::message;
+use crate::request::{Request, read_request};
+use crate::said::{message_without_body, with_body};
+use http_routes::Routes;
 use std::alloc::{AllocError, Global};
 
 /// What stands first in a stream.
 #[derive(Clone, Copy)]
-pub enum First {
-    /// A message: a head of so many bytes, and a body of so many.
-    Message { head: usize, len: usize },
+pub enum First<'b> {
+    /// A message: a head of so many bytes, what it says, and the body that it announces.
+    Message { head: usize, request: Request<'b> },
     /// The end.
     End(End),
 }
@@ -25,14 +26,16 @@ pub enum First {
 pub fn read_stream(alloc: Global, stream: &[u8]) -> Result<(Vec<Message>, End), AllocError>
     ensures { IfOk result (λ r. Framed stream.now r.0.items r.1) }
 {
+    let routes = Routes::new(alloc)?;
     let mut messages = Vec::new(alloc);
     let mut rest = stream;
     'messages: loop {
         match first_of(rest) {
-            First::Message { head, len } => {
-                let (front, others) = rest.split_at(head + len);
+            First::Message { head, request } => {
+                let (front, others) = rest.split_at(head + request.len);
                 let body = Vec::from_slice(alloc, front.split_at(head).1)?;
-                messages.push(message(alloc, body)?)?;
+                let message = message_without_body(alloc, &routes, request)?;
+                messages.push(with_body(message, body))?;
                 rest = others;
             }
             First::End(end) => return Ok((messages, end)),
@@ -41,7 +44,7 @@ pub fn read_stream(alloc: Global, stream: &[u8]) -> Result<(Vec<Message>, End), 
 }
 
 /// What stands first in a stream. It takes no memory.
-pub fn first_of(stream: &[u8]) -> First
+pub fn first_of<'b>(stream: &'b [u8]) -> First<'b>
     ensures { IsFirst stream.now result }
 {
     if stream.is_empty() {
@@ -55,22 +58,25 @@ pub fn first_of(stream: &[u8]) -> First
     }
 }
 
-fn behind_head(stream: &[u8], end: HeadEnd) -> First
+fn behind_head<'b>(stream: &'b [u8], end: HeadEnd) -> First<'b>
     requires short { end.len ≤ head_limit }
     requires ends { head_end stream.now ≡ Some (end.len, end.lines) }
     ensures { IsFirst stream.now result }
 {
     let (head, rest) = stream.split_at(end.len);
-    let Some(len) = announced(head, end.lines) else {
+    let Some(request) = read_request(head, end.lines) else {
         return First::End(End::Fault(WireFault::Unread));
     };
-    if rest.len() < len {
+    if rest.len() < request.len {
         return cut_short(stream);
     }
-    First::Message { head: end.len, len }
+    First::Message {
+        head: end.len,
+        request,
+    }
 }
 
-fn cut_short(stream: &[u8]) -> First
+fn cut_short<'b>(stream: &'b [u8]) -> First<'b>
     ensures { result ≡ First.End (End.Fault (WireFault.CutShort (length stream.now))) }
 {
     First::End(End::Fault(WireFault::CutShort { have: stream.len() }))

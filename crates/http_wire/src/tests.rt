@@ -1,8 +1,8 @@
 //! Streams in pieces, and what is written.
 use crate::*;
+use call_forms::{Answer, Standin};
 use lists::Bytes;
 use outside::{Link, MemoryLink, WriteEnd};
-use service_core::forms::{Answer, Standin};
 use std::alloc::{AllocError, Global};
 use std::process::Abort;
 use std::test::Fail;
@@ -175,17 +175,13 @@ fn other_forms_are_unread(rt: HostRuntime) -> Result<(), Fail> {
         )?;
     }
     for stream in [
-        "GET / HTTP/1.1\r\n\r\n",
-        "POST /prpc/luci.resultdb.v1.Recorder/CreateInvocation HTTP/1.0\r\nContent-Length: 0\r\n\r\n",
-        "POST /prpc/luci.resultdb.v1.Recorder/GetInvocation HTTP/1.1\r\nContent-Length: 0\r\n\r\n",
+        b"GET / HTTP/1.1\r\n\r\n".as_slice(),
+        b"GET / HTTP/1.1\r\nContent-Length: 0\r\n\r\n".as_slice(),
+        b"POST / HTTP/1.0\r\nContent-Length: 0\r\n\r\n".as_slice(),
+        b"POST /\xff HTTP/1.1\r\nContent-Length: 0\r\n\r\n".as_slice(),
+        b"POST  HTTP/1.1\r\nContent-Length: 0\r\n\r\n".as_slice(),
     ] {
-        check_stream(
-            &rt,
-            alloc,
-            stream.as_bytes(),
-            &[],
-            End::Fault(WireFault::Unread),
-        )?;
+        check_stream(&rt, alloc, stream, &[], End::Fault(WireFault::Unread))?;
     }
     let many = with_lines(alloc, 65)?;
     check_stream(
@@ -286,5 +282,117 @@ fn each_fault_has_its_number_its_name_and_its_farewell(rt: HostRuntime) -> Resul
     }
     one_reading();
     front_of_reading();
+    Ok(())
+}
+
+/// What is read of a message with this target and these header lines, in pieces of seven bytes.
+fn one_message(
+    rt: &impl Abort,
+    alloc: Global,
+    target: &str,
+    headers: &str,
+) -> Result<Message, Fail> {
+    let text = format!(in alloc;
+        "POST {target} HTTP/1.1\r\n{headers}Content-Length: 2\r\n\r\n{{}}"
+    )?;
+    let mut link = MemoryLink::new(alloc, cut(alloc, text.as_bytes(), 7)?, Vec::new(alloc))?;
+    let mut wire = Wire::new(alloc)?;
+    match wire.next(alloc, &mut link) {
+        Ok(Some(message)) => Ok(message),
+        _ => panic!(rt; "no message of {target} {headers}"),
+    }
+}
+
+fn check_text(rt: &impl Abort, found: &Option<Bytes>, text: Option<&str>, row: &str) {
+    let found = found.as_ref().map(|found| found.as_slice());
+    assert_eq!(rt; found, text.map(|text| text.as_bytes()), "at {row}");
+}
+
+#[test]
+fn messages_say_what_their_heads_say(rt: HostRuntime) -> Result<(), Fail> {
+    let alloc = rt.alloc();
+    for (target, service, method) in [
+        ("/prpc/a/b", "a", "b"),
+        (
+            "/prpc/luci.resultdb.v1.ResultDB/GetInvocation",
+            "luci.resultdb.v1.ResultDB",
+            "GetInvocation",
+        ),
+        ("/prpc/a/b?c", "a", "b?c"),
+        ("/prpc/%2F/é", "%2F", "é"),
+        ("/prpc/{service}/{method}", "{service}", "{method}"),
+        ("/prpc/a/b/", "", "/prpc/a/b/"),
+        ("/prpc/a/b/c", "", "/prpc/a/b/c"),
+        ("/prpc//b", "", "/prpc//b"),
+        ("/prpc/a/", "", "/prpc/a/"),
+        ("/prpc/a", "", "/prpc/a"),
+        ("//prpc/a/b", "", "//prpc/a/b"),
+        ("/Prpc/a/b", "", "/Prpc/a/b"),
+        ("http://h/prpc/a/b", "", "http://h/prpc/a/b"),
+        ("*", "", "*"),
+    ] {
+        let message = one_message(&rt, alloc, target, "")?;
+        assert_eq!(rt;
+            message.asked.service.as_slice(),
+            service.as_bytes(),
+            "at {target}"
+        );
+        assert_eq!(rt;
+            message.asked.method.as_slice(),
+            method.as_bytes(),
+            "at {target}"
+        );
+        assert_eq!(rt; message.target.as_slice(), target.as_bytes(), "at {target}");
+        assert_eq!(rt;
+            message.asked.body.as_slice(),
+            b"{}".as_slice(),
+            "at {target}"
+        );
+    }
+    for (headers, bearer, update_token) in [
+        ("", None, None),
+        ("Authorization: Bearer t\r\n", Some("t"), None),
+        ("AUTHORIZATION:bEARER t-1.~+/= \r\n", Some("t-1.~+/="), None),
+        ("Authorization: Bearer  t\r\n", Some(" t"), None),
+        ("Authorization: Bearer t, u\r\n", Some("t, u"), None),
+        ("Authorization: Bearer\tt\r\n", None, None),
+        ("Authorization: Bearer \r\n", None, None),
+        ("Authorization: Bearert\r\n", None, None),
+        ("Authorization: Basic t\r\n", None, None),
+        ("Authorization:\r\n", None, None),
+        (
+            "Authorization: Bearer t\r\nauthorization: Bearer t\r\n",
+            None,
+            None,
+        ),
+        (
+            "Authorization: Bearer t\r\nAuthorization: Basic u\r\n",
+            None,
+            None,
+        ),
+        (
+            "Authorization: Basic u\r\nAuthorization: Bearer t\r\n",
+            None,
+            None,
+        ),
+        ("Authorization:\r\nAuthorization: Bearer t\r\n", None, None),
+        ("Proxy-Authorization: Bearer t\r\n", None, None),
+        ("Update-Token: 0a\r\n", None, Some("0a")),
+        ("update-TOKEN: \r\n", None, Some("")),
+        (
+            "Update-Token: 0a\r\nX: y\r\nUpdate-Token: 0a\r\n",
+            None,
+            None,
+        ),
+        (
+            "Update-Token: 0a\r\nAuthorization: Bearer t\r\n",
+            Some("t"),
+            Some("0a"),
+        ),
+    ] {
+        let message = one_message(&rt, alloc, "/prpc/a/b", headers)?;
+        check_text(&rt, &message.asked.bearer, bearer, headers);
+        check_text(&rt, &message.asked.update_token, update_token, headers);
+    }
     Ok(())
 }

@@ -3,16 +3,15 @@ ghost use Rattle.std.specs.Prelude.{◌≡◌, ◌≤◌, [], true, false, lengt
 ghost use Rattle.outside.specs.Ends.{OnlyReads};
 ghost use Rattle.http_wire.specs.Head.{head_limit};
 ghost use Rattle.http_wire.specs.Held.{Reading};
-ghost use Rattle.http_wire.specs.Stream.{message_of};
 
 use crate::body::take_body;
 use crate::buffer::Buffer;
 use crate::head_search::find_head;
 use crate::message::{Message, WireFault};
-use crate::request::announced;
-use lists::Bytes;
+use crate::request::read_request;
+use crate::said::{message_without_body, with_body};
+use http_routes::Routes;
 use outside::Link;
-use service_core::Asked;
 use std::alloc::{AllocError, Global};
 use std::marker::Model;
 
@@ -22,6 +21,7 @@ use std::marker::Model;
 #[derive(Drop)]
 pub struct Wire {
     buffer: Buffer,
+    routes: Routes,
     is_open: bool,
 }
 
@@ -38,14 +38,16 @@ impl Model for Wire {
 }
 
 impl Wire {
-    /// A wire that holds nothing. Room for a head is made here, once.
+    /// A wire that holds nothing. Room for a head, and the routes, are made here, once.
     pub fn new(alloc: Global) -> Result<Wire, AllocError>
         ensures held { IfOk result (λ w. w.held ≡ []) }
         ensures is_open { IfOk result (λ w. w.is_open ≡ true) }
     {
         let buffer = Buffer::new(alloc)?;
+        let routes = Routes::new(alloc)?;
         Ok(Wire {
             buffer,
+            routes,
             is_open: true,
         })
     }
@@ -53,8 +55,8 @@ impl Wire {
     /// The next message, or `None` where the input ended behind the last one.
     ///
     /// It reads where what it holds decides nothing yet, and never more than a message has; it holds a head at most.
-    /// `CutShort` comes where the input ended inside a message, `Unread` where the next message isn't of the form that is
-    /// read, `ReadFault` where a read failed, and `Memory` where memory was wanting. Each of them closes the wire.
+    /// `CutShort` comes where the input ended inside a message, `Unread` where the next message isn't of the form that
+    /// is read, `ReadFault` where a read failed, and `Memory` where memory was wanting. Each of them closes the wire.
     pub fn next<L: Link>(
         &mut self,
         alloc: Global,
@@ -73,7 +75,7 @@ impl Wire {
         if !self.is_open {
             return Ok(None);
         }
-        let answer = next_message(alloc, &mut self.buffer, link);
+        let answer = next_message(alloc, &mut self.buffer, &self.routes, link);
         self.is_open = answer.is_ok();
         answer
     }
@@ -83,6 +85,7 @@ impl Wire {
 fn next_message<L: Link>(
     alloc: Global,
     buffer: &mut Buffer,
+    routes: &Routes,
     link: &mut L,
 ) -> Result<Option<Message>, WireFault>
     ensures reading { Reading record { held = buffer.old; is_open = true }
@@ -96,29 +99,11 @@ fn next_message<L: Link>(
         return Ok(None);
     };
     let head = &buffer.as_slice()[..end.len];
-    let Some(len) = announced(head, end.lines) else {
+    let Some(request) = read_request(head, end.lines) else {
         return Err(WireFault::Unread);
     };
+    let len = request.len;
+    let message = message_without_body(alloc, routes, request)?;
     let body = take_body(alloc, buffer, link, end.len, len)?;
-    Ok(Some(message(alloc, body)?))
-}
-
-/// The message with a body.
-pub fn message(alloc: Global, body: Vec<u8>) -> Result<Message, AllocError>
-    ensures { IfOk result (λ m. m ≡ message_of body.items) }
-{
-    let service = Vec::from_slice(alloc, b"luci.resultdb.v1.Recorder")?;
-    let method = Vec::from_slice(alloc, b"CreateInvocation")?;
-    let target = Vec::from_slice(alloc, b"/prpc/luci.resultdb.v1.Recorder/CreateInvocation")?;
-    Ok(Message {
-        asked: Asked {
-            bearer: None,
-            update_token: None,
-            service: Bytes::new(service),
-            method: Bytes::new(method),
-            body: Bytes::new(body),
-        },
-        target: Bytes::new(target),
-        close: false,
-    })
+    Ok(Some(with_body(message, body)))
 }

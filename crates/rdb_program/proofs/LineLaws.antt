@@ -1,9 +1,11 @@
--- The lines that say which fault of the wire was met.
-use Rattle.std.proofs.Common.{◌≡◌, ℕ, refl, codes}
+-- The lines that say which fault of the wire was met, or which one of the configuration.
+use Rattle.std.proofs.Common.{◌≡◌, ℕ, List, refl, codes}
 use Rattle.std.specs.Fmt.{digits}
 use Rattle.http_wire.specs.declared.message.WireFault.TheVariants as faults
 use Rattle.rdb_program.specs.declared.ending.Cause.TheVariants as causes
 use Rattle.rdb_program.specs.Causes.{row_of}
+use Rattle.rdb_program.specs.Run.{refusal_line}
+use Rattle.permissions.specs.declared.faults.PolicyFault.TheVariants as refusals
 
 pub cut_short_line : (have : ℕ) → codes "rdb: wire 8 CutShort\n" ≡ (row_of (causes.Wire (faults.CutShort have))).line
 unfolding digits
@@ -20,3 +22,43 @@ memory_line = refl
 pub unread_line : codes "rdb: wire 11 Unread\n" ≡ (row_of (causes.Wire faults.Unread)).line
 unfolding digits
 unread_line = refl
+
+pub not_toml_line : codes "rdb: configuration refused: 1 NotToml\n" ≡ refusal_line refusals.NotToml
+unfolding digits
+not_toml_line = refl
+
+pub bad_name_line : (at : List ℕ) → codes "rdb: configuration refused: 2 BadName\n" ≡ refusal_line (refusals.BadName at)
+unfolding digits
+bad_name_line at = refl
+
+pub unknown_role_line : (name : List ℕ) → codes "rdb: configuration refused: 3 UnknownRole\n" ≡ refusal_line (refusals.UnknownRole name)
+unfolding digits
+unknown_role_line name = refl
+
+pub unknown_realm_line : (name : List ℕ) → codes "rdb: configuration refused: 4 UnknownRealm\n" ≡ refusal_line (refusals.UnknownRealm name)
+unfolding digits
+unknown_realm_line name = refl
+
+pub realm_cycle_line : (name : List ℕ) → codes "rdb: configuration refused: 5 RealmCycle\n" ≡ refusal_line (refusals.RealmCycle name)
+unfolding digits
+realm_cycle_line name = refl
+
+pub two_owners_line : (token : List ℕ) → codes "rdb: configuration refused: 6 TwoOwners\n" ≡ refusal_line (refusals.TwoOwners token)
+unfolding digits
+two_owners_line token = refl
+
+pub too_many_line : (count : ℕ) → codes "rdb: configuration refused: 7 TooMany\n" ≡ refusal_line (refusals.TooMany count)
+unfolding digits
+too_many_line count = refl
+
+pub bad_shape_line : (at : List ℕ) → codes "rdb: configuration refused: 8 BadShape\n" ≡ refusal_line (refusals.BadShape at)
+unfolding digits
+bad_shape_line at = refl
+
+pub unknown_principal_line : (name : List ℕ) → codes "rdb: configuration refused: 9 UnknownPrincipal\n" ≡ refusal_line (refusals.UnknownPrincipal name)
+unfolding digits
+unknown_principal_line name = refl
+
+pub no_memory_line : codes "rdb: configuration refused: 0 Memory\n" ≡ refusal_line refusals.Memory
+unfolding digits
+no_memory_line = refl

@@ -1,262 +1,310 @@
 -- What a run's exit status says.
-use Rattle.std.proofs.Common.{◌≡◌, ◌≢◌, ℕ, ℤ, ◌<◌, ◌≤◌, ◌⊎◌, inl, inr, List, ◌++◌, length, map, Option, Some, None, Result, Ok, Err, refl, sym, ap, ◌∙◌, subst, arith, length-append}
-use Rattle.std.proofs.lemmas.List.{length-map}
-use Rattle.outside.specs.Bytes.{IsEnd}
-use Rattle.outside.specs.Ends.{Outgoing, Ends}
-use Rattle.outside.specs.Whole.{WritesWhole, CountsFault, CountsEnd}
+use Rattle.std.proofs.Common.{◌≡◌, ◌≢◌, ℕ, ℤ, ◌<◌, ◌≤◌, ◌⊎◌, inl, inr, List, [], ◌∷◌, ◌++◌, length, Option, Some, Result, Ok, Err, refl, sym, ap, ◌∙◌, subst, arith}
+use Rattle.outside.specs.Bytes.{Took}
+use Rattle.outside.specs.Ends.{Incoming, Outgoing, Ends}
+use Rattle.outside.specs.Whole.{WritesWhole, IsWritten}
 use Rattle.outside.specs.declared.whole.WriteEnd.{WriteEnd}
 use Rattle.outside.specs.declared.whole.WriteEnd.TheVariants as write_ends
 use Rattle.fault_counts.specs.Causes.{Rose}
-use Rattle.record_desk.specs.Exchange.{Exchange}
-use Rattle.http_wire.specs.Stream.{Framed}
-use Rattle.http_wire.specs.declared.message.End.{End}
-use Rattle.http_wire.specs.declared.message.End.TheVariants as stream_ends
-use Rattle.http_wire.specs.declared.message.Message.{Message}
-use Rattle.http_wire.specs.declared.message.WireFault.{WireFault}
-use Rattle.http_wire.proofs.StreamLaws.{framed_once}
-use Rattle.rdb_program.specs.Words.{IsAnswerWords}
-use Rattle.rdb_program.specs.Turns.{Turn, messages_of, reply_limit}
-use Rattle.rdb_program.specs.Causes.{row_of, IsLastWrite, CountsReads}
-use Rattle.rdb_program.specs.Connection.{Sent, Connection}
-use Rattle.rdb_program.specs.Framing.{Served, AreFirst, AreMessages}
-use Rattle.service_core.specs.Settings.{open_to_all}
+use Rattle.policy_tables.specs.declared.tables.PolicyTables.{PolicyTables}
+use Rattle.permissions.specs.Faults.{IsPolicyOf, IsFirstFault}
+use Rattle.permissions.specs.declared.faults.PolicyFault.{PolicyFault}
 use Rattle.service_core.specs.World.{empty_world}
 use Rattle.service_core.specs.CoreState.{CoreState}
+use Rattle.record_desk.specs.Exchange.{Exchange}
+use Rattle.record_desk.specs.Clocked.{IsClocked}
 use Rattle.record_desk.specs.Standing.{Moves}
-use Rattle.rdb_program.specs.Run.{status_of, IsHistory, IsRun}
-use Rattle.rdb_program.specs.Statuses.{IsWhole, IsFull, IsDone, IsBroken, HasFailed, HasStalled, EndsIn, StatusSays}
+use Rattle.http_wire.specs.Stream.{Framed}
+use Rattle.http_wire.specs.declared.message.End.TheVariants as stream_ends
+use Rattle.program_words.specs.Grammar.{Says}
+use Rattle.program_words.specs.declared.command.Command.{Command}
+use Rattle.program_words.specs.declared.command.Command.TheVariants as commands
+use Rattle.program_words.proofs.Answering.{one_command}
+use Rattle.rdb_program.specs.Words.{SayNothing, IsAnswerWords, AskForText}
+use Rattle.rdb_program.specs.Configured.{Accepts}
+use Rattle.rdb_program.specs.Run.{Work, Outside, outside, IsReported, status_of, line_of, refusal_line, IsHistory, Shows, StopsAtConfig, Serves, IsRun, ProgramRun}
+use Rattle.rdb_program.specs.Statuses.{IsShown, IsWorkDone, EndsFailed, HasFailed, HasStalled, ConfigSays, StatusSays}
 use Rattle.rdb_program.specs.declared.ending.Cause.{Cause}
-use Rattle.rdb_program.specs.declared.ending.Cause.TheVariants as causes
 use Rattle.rdb_program.specs.declared.ending.Ending.{Ending}
-use Rattle.rdb_program.specs.declared.ending.Ending.TheVariants.{WordsRefused, Unstarted, Served as WasServed}
+use Rattle.rdb_program.specs.declared.ending.Ending.TheVariants.{WordsRefused, Shown, ConfigFault, ConfigRefused, Unstarted, Served}
+use Rattle.rdb_program.proofs.CauseLaws.{status_at, not_one, not_two, faults_of, stalls_of, no_fault, no_stall, done_at, broken_at, failed_at, stalled_at, no_read_fault_at, not_fault_at, not_stall_at, ends_at, fault_not_finished, finished_no_fault, fault_there, stall_there}
+use Rattle.rdb_program.proofs.ConfigLaws.{policy_apart, accepted_told, refused_told}
 
--- ---- the counts of what was written
+-- ---- the words
 
-faults_of : (asked : List Exchange → Type 0) (before : Ends) (cause : Cause) (after : Ends) (c : Connection asked before cause after)
-    → CountsFault before.outgoing.faults c.result after.outgoing.faults
-faults_of asked before cause after c =
-    subst (λ (n : ℕ). CountsFault n c.result after.outgoing.faults) c.sent.faults c.sent.writes.faults
+pub answer_apart : (words : List (List ℕ)) (text : List ℕ) → AskForText words text → IsAnswerWords words → ⊥
+answer_apart words text (inl help) answer = let e = one_command words (commands.Answer answer.0 answer.1) commands.Help answer.2 help.0 in cc
+answer_apart words text (inr version) answer =
+    let e = one_command words (commands.Answer answer.0 answer.1) commands.Version answer.2 version.0 in cc
 
-stalls_of : (asked : List Exchange → Type 0) (before : Ends) (cause : Cause) (after : Ends) (c : Connection asked before cause after)
-    → CountsEnd before.outgoing.stalls c.result after.outgoing.stalls
-stalls_of asked before cause after c =
-    subst (λ (n : ℕ). CountsEnd n c.result after.outgoing.stalls) c.sent.stalls c.sent.writes.stalls
+asks : (words : List (List ℕ)) (text : List ℕ) → AskForText words text → (command : Command) × Says words command
+asks words text (inl help) = (commands.Help, help.0)
+asks words text (inr version) = (commands.Version, version.0)
 
-no_fault : (a b : ℕ) (result : Result (Unit {0}) WriteEnd) → CountsFault a result b → result ≢ Err write_ends.WriteFault → b ≡ a
-no_fault a b (Ok done) counts other = counts
-no_fault a b (Err write_ends.WriteFault) counts other = absurd (other refl)
-no_fault a b (Err write_ends.SinkTakesNothing) counts other = counts
+answers : (words : List (List ℕ)) → IsAnswerWords words → (command : Command) × Says words command
+answers words answer = (commands.Answer answer.0 answer.1, answer.2)
 
-no_stall : (a b : ℕ) (result : Result (Unit {0}) WriteEnd) → CountsEnd a result b → result ≢ Err write_ends.SinkTakesNothing → b ≡ a
-no_stall a b (Ok done) counts other = counts
-no_stall a b (Err write_ends.WriteFault) counts other = counts
-no_stall a b (Err write_ends.SinkTakesNothing) counts other = absurd (other refl)
+nothing_apart : (words : List (List ℕ)) → SayNothing words → IsAnswerWords words → ⊥
+nothing_apart words nothing answer = nothing (commands.Answer answer.0 answer.1) answer.2
 
-fault_there : (a b : ℕ) (result : Result (Unit {0}) WriteEnd) → CountsFault a result b → result ≡ Err write_ends.WriteFault → Rose a b
-fault_there a b result counts is = (subst (λ (r : Result (Unit {0}) WriteEnd). CountsFault a r b) is counts).1
+-- ---- a run that leaves the connection alone
 
-stall_there : (a b : ℕ) (result : Result (Unit {0}) WriteEnd) → CountsEnd a result b → result ≡ Err write_ends.SinkTakesNothing → Rose a b
-stall_there a b result counts is = (subst (λ (r : Result (Unit {0}) WriteEnd). CountsEnd a r b) is counts).1
-
--- an end that is well is no other
-well_no_fault : (result : Result (Unit {0}) WriteEnd) → result ≡ Ok tt → result ≢ Err write_ends.WriteFault
-well_no_fault result well fault = let both : Ok tt ≡ Err write_ends.WriteFault = sym well ∙ fault in cc
-
-well_no_stall : (result : Result (Unit {0}) WriteEnd) → result ≡ Ok tt → result ≢ Err write_ends.SinkTakesNothing
-well_no_stall result well stall = let both : Ok tt ≡ Err write_ends.SinkTakesNothing = sym well ∙ stall in cc
-
-stall_no_fault : (result : Result (Unit {0}) WriteEnd) → result ≡ Err write_ends.SinkTakesNothing → result ≢ Err write_ends.WriteFault
-stall_no_fault result stall fault = let both : ◌≡◌ {A = Result (Unit {0}) WriteEnd} (Err write_ends.SinkTakesNothing) (Err write_ends.WriteFault) = sym stall ∙ fault in cc
-
-fault_no_stall : (result : Result (Unit {0}) WriteEnd) → result ≡ Err write_ends.WriteFault → result ≢ Err write_ends.SinkTakesNothing
-fault_no_stall result fault stall = stall_no_fault result stall fault
-
--- ---- the statuses of causes
-
-abbrev status_at : Cause → ℕ
-status_at cause = (row_of cause).status
-
-not_one : (cause : Cause) → status_at cause ≢ 1
-not_one causes.End e = omega (arith, e)
-not_one causes.Closed e = omega (arith, e)
-not_one (causes.Wire fault) e = omega (arith, e)
-not_one causes.ReadFault e = omega (arith, e)
-not_one causes.WriteFault e = omega (arith, e)
-not_one causes.SinkTakesNothing e = omega (arith, e)
-not_one causes.Memory e = omega (arith, e)
-
-done_at : (asked : List Exchange → Type 0) (before : Ends) (cause : Cause) (after : Ends) → Served asked before cause after → status_at cause ≡ 0
-    → IsDone before after
-done_at asked before causes.End after s e = inl (s.connection.rest_is.1, λ stream told. (messages_of s.connection.turns, s.framed stream told))
-done_at asked before causes.Closed after s e =
-    inr (λ stream told. (
-      messages_of s.connection.turns,
-      s.framed stream told,
-      length-map s.connection.turns (λ (t : Turn). t.message) ∙ s.connection.last_is.1,
-    ))
-done_at asked before (causes.Wire fault) after s e = absurd (omega (arith, e))
-done_at asked before causes.ReadFault after s e = absurd (omega (arith, e))
-done_at asked before causes.WriteFault after s e = absurd (omega (arith, e))
-done_at asked before causes.SinkTakesNothing after s e = absurd (omega (arith, e))
-done_at asked before causes.Memory after s e = absurd (omega (arith, e))
-
-broken_at : (asked : List Exchange → Type 0) (before : Ends) (cause : Cause) (after : Ends) → Served asked before cause after → status_at cause ≡ 8
-    → IsBroken before
-broken_at asked before (causes.Wire fault) after s e = λ stream told. (messages_of s.connection.turns, fault, s.framed stream told)
-broken_at asked before causes.End after s e = absurd (omega (arith, e))
-broken_at asked before causes.Closed after s e = absurd (omega (arith, e))
-broken_at asked before causes.ReadFault after s e = absurd (omega (arith, e))
-broken_at asked before causes.WriteFault after s e = absurd (omega (arith, e))
-broken_at asked before causes.SinkTakesNothing after s e = absurd (omega (arith, e))
-broken_at asked before causes.Memory after s e = absurd (omega (arith, e))
-
-failed_at : (asked : List Exchange → Type 0) (before : Ends) (cause : Cause) (after : Ends) → Connection asked before cause after → status_at cause ≡ 4
-    → HasFailed before after
-failed_at asked before causes.ReadFault after c e = inl c.reads.1
-failed_at asked before causes.WriteFault after c e =
-    inr (fault_there before.outgoing.faults after.outgoing.faults c.result (faults_of asked before causes.WriteFault after c) c.last_write)
-failed_at asked before causes.End after c e = absurd (omega (arith, e))
-failed_at asked before causes.Closed after c e = absurd (omega (arith, e))
-failed_at asked before (causes.Wire fault) after c e = absurd (omega (arith, e))
-failed_at asked before causes.SinkTakesNothing after c e = absurd (omega (arith, e))
-failed_at asked before causes.Memory after c e = absurd (omega (arith, e))
-
-stalled_at : (asked : List Exchange → Type 0) (before : Ends) (cause : Cause) (after : Ends) → Connection asked before cause after → status_at cause ≡ 9
-    → HasStalled before after
-stalled_at asked before causes.SinkTakesNothing after c e =
-    stall_there before.outgoing.stalls after.outgoing.stalls c.result (stalls_of asked before causes.SinkTakesNothing after c) c.last_write
-stalled_at asked before causes.End after c e = absurd (omega (arith, e))
-stalled_at asked before causes.Closed after c e = absurd (omega (arith, e))
-stalled_at asked before (causes.Wire fault) after c e = absurd (omega (arith, e))
-stalled_at asked before causes.ReadFault after c e = absurd (omega (arith, e))
-stalled_at asked before causes.WriteFault after c e = absurd (omega (arith, e))
-stalled_at asked before causes.Memory after c e = absurd (omega (arith, e))
-
-no_read_fault_at : (cause : Cause) (a b : ℕ) → CountsReads cause a b → status_at cause ≢ 4 → b ≡ a
-no_read_fault_at causes.End a b counts isnt = counts
-no_read_fault_at causes.Closed a b counts isnt = counts
-no_read_fault_at (causes.Wire fault) a b counts isnt = counts
-no_read_fault_at causes.ReadFault a b counts isnt = absurd (isnt refl)
-no_read_fault_at causes.WriteFault a b counts isnt = counts
-no_read_fault_at causes.SinkTakesNothing a b counts isnt = counts
-no_read_fault_at causes.Memory a b counts isnt = counts
-
-not_fault_at : (cause : Cause) (result : Result (Unit {0}) WriteEnd) → IsLastWrite cause result → status_at cause ≢ 4 → status_at cause ≢ 7
-    → status_at cause ≢ 8 → result ≢ Err write_ends.WriteFault
-not_fault_at causes.End result is n4 n7 n8 = well_no_fault result is
-not_fault_at causes.Closed result is n4 n7 n8 = well_no_fault result is
-not_fault_at (causes.Wire fault) result is n4 n7 n8 = absurd (n8 refl)
-not_fault_at causes.ReadFault result is n4 n7 n8 = absurd (n4 refl)
-not_fault_at causes.WriteFault result is n4 n7 n8 = absurd (n4 refl)
-not_fault_at causes.SinkTakesNothing result is n4 n7 n8 = stall_no_fault result is
-not_fault_at causes.Memory result is n4 n7 n8 = absurd (n7 refl)
-
-not_stall_at : (cause : Cause) (result : Result (Unit {0}) WriteEnd) → IsLastWrite cause result → status_at cause ≢ 8 → status_at cause ≢ 9
-    → result ≢ Err write_ends.SinkTakesNothing
-not_stall_at causes.End result is n8 n9 = well_no_stall result is
-not_stall_at causes.Closed result is n8 n9 = well_no_stall result is
-not_stall_at (causes.Wire fault) result is n8 n9 = absurd (n8 refl)
-not_stall_at causes.ReadFault result is n8 n9 = well_no_stall result is
-not_stall_at causes.WriteFault result is n8 n9 = fault_no_stall result is
-not_stall_at causes.SinkTakesNothing result is n8 n9 = absurd (n9 refl)
-not_stall_at causes.Memory result is n8 n9 = is
-
--- ---- which status a stream ends in
-
--- as many messages as the limit are no fewer
-too_many : (ms first others : List Message) → ms ≡ first ++ others → length first ≡ reply_limit → ¬ (length ms < reply_limit)
-too_many ms first others parts full few = omega (arith, full, few, ap length parts, length-append first others)
-
-ends_at : (asked : List Exchange → Type 0) (before : Ends) (cause : Cause) (after : Ends) → Served asked before cause after
-    → (stream : List ℕ) (ms : List Message) (end : End) (status : ℕ) → before.incoming.left ≡ Some stream → Framed stream ms end
-    → length ms < reply_limit → ¬ HasFailed before after → ¬ HasStalled before after
-    → (end ≡ stream_ends.Finished → status ≡ 0) → ((fault : WireFault) → end ≡ stream_ends.Fault fault → status ≡ 8)
-    → (status_at cause ≡ status) ⊎ (status_at cause ≡ 7)
-ends_at asked before causes.End after s stream ms end status told framed few fine takes whole broken =
-    inl (sym (whole (sym (framed_once (messages_of s.connection.turns) ms stream stream_ends.Finished end (s.framed stream told) framed).1)))
-ends_at asked before (causes.Wire fault) after s stream ms end status told framed few fine takes whole broken =
-    inl (sym (broken fault (sym (framed_once (messages_of s.connection.turns) ms stream (stream_ends.Fault fault) end (s.framed stream told) framed).1)))
-ends_at asked before causes.Closed after s stream ms end status told framed few fine takes whole broken =
-    let first = s.framed stream told ms end framed in
-    absurd (too_many ms (messages_of s.connection.turns) first.0 first.1
-    (length-map s.connection.turns (λ (t : Turn). t.message) ∙ s.connection.last_is.1) few)
-ends_at asked before causes.ReadFault after s stream ms end status told framed few fine takes whole broken =
-    absurd (fine (failed_at asked before causes.ReadFault after s.connection refl))
-ends_at asked before causes.WriteFault after s stream ms end status told framed few fine takes whole broken =
-    absurd (fine (failed_at asked before causes.WriteFault after s.connection refl))
-ends_at asked before causes.SinkTakesNothing after s stream ms end status told framed few fine takes whole broken =
-    absurd (takes (stalled_at asked before causes.SinkTakesNothing after s.connection refl))
-ends_at asked before causes.Memory after s stream ms end status told framed few fine takes whole broken = inr refl
-
-fault_not_finished : (fault : WireFault) → stream_ends.Fault fault ≡ stream_ends.Finished → ⊥
-fault_not_finished fault e = cc
-
-finished_no_fault : (fault : WireFault) → stream_ends.Finished ≡ stream_ends.Fault fault → ⊥
-finished_no_fault fault e = cc
-
--- ---- the runs
-
-says_served : (words : List (List ℕ)) (before : Ends) (tb : List ℤ → Type 0) (after : Ends) (ta : List ℤ → Type 0) (cause : Cause)
-    → IsRun (WasServed cause) words before tb after ta → StatusSays (status_at cause) words before after
-says_served words before tb after ta cause run =
-    let s = run.1 in
-    let c = s.connection in
-    record {
-      words_refused = λ is. absurd (not_one cause is);
-      words_accepted = λ isnt. run.0;
-      untouched = λ is. absurd (not_one cause is);
-      done = done_at _ before cause after s;
-      failed = failed_at _ before cause after c;
-      broken = broken_at _ before cause after s;
-      stalled = stalled_at _ before cause after c;
-      no_read_fault = no_read_fault_at cause before.incoming.faults after.incoming.faults c.reads;
-      no_write_fault = λ n4 n7 n8. no_fault before.outgoing.faults after.outgoing.faults c.result (faults_of _ before cause after c) (not_fault_at cause c.result c.last_write n4 n7 n8);
-      no_stall = λ n8 n9. no_stall before.outgoing.stalls after.outgoing.stalls c.result (stalls_of _ before cause after c) (not_stall_at cause c.result c.last_write n8 n9);
-      whole_stream = λ are stream ms told framed few fine takes.
-          ends_at _ before cause after s stream ms stream_ends.Finished 0 told framed few fine takes (λ e. refl) (λ fault e. absurd (finished_no_fault fault e));
-      broken_stream = λ are fault stream ms told framed few fine takes.
-          ends_at _ before cause after s stream ms (stream_ends.Fault fault) 8 told framed few fine takes (λ e. absurd (fault_not_finished fault e)) (λ f e. refl);
-    }
-
--- A run that touched nothing, by one of the statuses 1 and 7.
-says_untouched : (status : ℕ) (words : List (List ℕ)) (before after : Ends) → after ≡ before → (status ≡ 1) ⊎ (status ≡ 7)
-    → (status ≡ 1 → ¬ IsAnswerWords words) → (status ≢ 1 → IsAnswerWords words) → (IsAnswerWords words → status ≡ 7) → StatusSays status words before after
-says_untouched status words before after same one refused accepted seven = record {
+says_still : (status : ℕ) (words : List (List ℕ)) (before after : Outside) → after.work.ends ≡ before.work.ends
+    → status ≢ 0 → status ≢ 8 → status ≢ 9
+    → (status ≡ 1 → SayNothing words) → (status ≢ 1 → status ≢ 7 → (command : Command) × Says words command)
+    → (status ≡ 1 → after.work ≡ before.work) → (status ≡ 2 → IsAnswerWords words)
+    → ((text : List ℕ) → before.work.config.left ≡ Some text → ConfigSays status words text before after)
+    → (status ≡ 4 → Rose before.work.config.faults after.work.config.faults)
+    → (status ≢ 4 → after.work.config.faults ≡ before.work.config.faults) → (¬ IsAnswerWords words → after.work.config ≡ before.work.config)
+    → ((text : List ℕ) → AskForText words text → status ≡ 7) → (IsAnswerWords words → status ≢ 2 → ¬ HasFailed before.work after.work → status ≡ 7)
+    → StatusSays status words before after
+says_still status words before after same n0 n8 n9 refused accepted unread asked config rose kept unasked texts seven = record {
   words_refused = refused;
   words_accepted = accepted;
-  untouched = λ is. same;
-  done = λ is. absurd (not_this status 0 one (omega arith) (omega arith) is);
-  failed = λ is. absurd (not_this status 4 one (omega arith) (omega arith) is);
-  broken = λ is. absurd (not_this status 8 one (omega arith) (omega arith) is);
-  stalled = λ is. absurd (not_this status 9 one (omega arith) (omega arith) is);
+  untouched = unread;
+  asked_to_serve = to_serve;
+  unserved = λ is. same;
+  config = config;
+  done = λ is. absurd (n0 is);
+  failed = λ is. inl (record { rose = rose is; ends = same });
+  broken = λ is. absurd (n8 is);
+  stalled = λ is. absurd (n9 is);
+  no_config_fault = kept;
   no_read_fault = λ n4. ap (λ (e : Ends). e.incoming.faults) same;
   no_write_fault = λ n4 n7 n8. ap (λ (e : Ends). e.outgoing.faults) same;
   no_stall = λ n8 n9. ap (λ (e : Ends). e.outgoing.stalls) same;
-  whole_stream = λ are stream ms told framed few fine takes. inr (seven are);
-  broken_stream = λ are fault stream ms told framed few fine takes. inr (seven are);
+  config_unread = unasked;
+  text_shown = λ text asks fine takes. inr (texts text asks);
+  whole_stream = λ are n2 stream ms told framed few fine takes. inr (seven are n2 fine);
+  broken_stream = λ are n2 fault stream ms told framed few fine takes. inr (seven are n2 fine);
 }
   where
-    not_this : (status other : ℕ) → (status ≡ 1) ⊎ (status ≡ 7) → 1 ≢ other → 7 ≢ other → status ≢ other
-    not_this status other (inl one) n1 n7 is = n1 (sym one ∙ is)
-    not_this status other (inr seven) n1 n7 is = n7 (sym seven ∙ is)
+    to_serve : (status ≡ 2) ⊎ (status ≡ 8) → IsAnswerWords words
+    to_serve (inl two) = asked two
+    to_serve (inr eight) = absurd (n8 eight)
 
-pub says : (words : List (List ℕ)) (before : Ends) (tb : List ℤ → Type 0) (after : Ends) (ta : List ℤ → Type 0) (ending : Ending)
-    → IsRun ending words before tb after ta → StatusSays (status_of ending) words before after
-says words before tb after ta WordsRefused run =
-    says_untouched 1 words before after run.1 (inl refl) (λ is. run.0) (λ isnt. absurd (isnt refl)) (λ are. absurd (run.0 are))
-says words before tb after ta Unstarted run =
-    says_untouched 7 words before after run.1 (inr refl) (λ is. absurd (omega (arith, is))) (λ isnt. run.0) (λ are. refl)
-says words before tb after ta (WasServed cause) run = says_served words before tb after ta cause run
+-- ---- the configuration, by how the run ended
+
+config_other : (status : ℕ) (words : List (List ℕ)) (text : List ℕ) (before after : Outside) → ¬ IsAnswerWords words → status ≢ 2
+    → ConfigSays status words text before after
+config_other status words text before after other n2 = record {
+  refused = λ is. absurd (n2 is);
+  served = λ are m2 m7 read. absurd (other are);
+  has_fault = λ are read fault first. absurd (other are);
+  has_none = λ tables policy. n2;
+}
+
+config_failed : (words : List (List ℕ)) (text : List ℕ) (before after : Outside) → Rose before.work.config.faults after.work.config.faults
+    → ConfigSays 4 words text before after
+config_failed words text before after rose = record {
+  refused = λ is. absurd (omega (arith, is));
+  served = λ are m2 m7 read. absurd (read refl rose);
+  has_fault = λ are read fault first. absurd (read refl rose);
+  has_none = λ tables policy is. omega (arith, is);
+}
+
+config_left : (words : List (List ℕ)) (text : List ℕ) (before after : Outside) → ConfigSays 7 words text before after
+config_left words text before after = record {
+  refused = λ is. absurd (omega (arith, is));
+  served = λ are m2 m7 read. absurd (m7 refl);
+  has_fault = λ are read fault first. inr refl;
+  has_none = λ tables policy is. omega (arith, is);
+}
+
+config_refused : (words : List (List ℕ)) (text : List ℕ) (before after : Outside) (fault : PolicyFault) → IsFirstFault text fault
+    → IsReported (refusal_line fault) before.errors after.errors → ConfigSays 2 words text before after
+config_refused words text before after fault first line = record {
+  refused = λ is. (fault, first, line);
+  served = λ are m2 m7 read. absurd (m2 refl);
+  has_fault = λ are read other one. inl refl;
+  has_none = λ tables policy is. policy_apart text tables fault policy first;
+}
+
+config_served : (status : ℕ) (words : List (List ℕ)) (text : List ℕ) (before after : Outside) (tables : PolicyTables) → status ≢ 2
+    → IsPolicyOf text tables → ConfigSays status words text before after
+config_served status words text before after tables n2 policy = record {
+  refused = λ is. absurd (n2 is);
+  served = λ are m2 m7 read. (tables, policy);
+  has_fault = λ are read fault first. absurd (policy_apart text tables fault policy first);
+  has_none = λ other same. n2;
+}
+
+-- ---- the runs
+
+says_words_refused : (words : List (List ℕ)) (before after : Outside) → SayNothing words → after.work ≡ before.work → StatusSays 1 words before after
+says_words_refused words before after nothing same =
+    says_still 1 words before after (ap (λ (w : Work). w.ends) same) (λ e. omega (arith, e)) (λ e. omega (arith, e)) (λ e. omega (arith, e))
+    (λ is. nothing) (λ n1 n7. absurd (n1 refl)) (λ is. same) (λ is. absurd (omega (arith, is)))
+    (λ text told. config_other 1 words text before after (nothing_apart words nothing) (λ e. omega (arith, e)))
+    (λ is. absurd (omega (arith, is))) (λ n4. ap (λ (w : Work). w.config.faults) same) (λ other. ap (λ (w : Work). w.config) same)
+    (λ text asked. absurd (nothing_asked text asked)) (λ are n2 fine. absurd (nothing_apart words nothing are))
+  where
+    nothing_asked : (text : List ℕ) → AskForText words text → ⊥
+    nothing_asked text asked = nothing (asks words text asked).0 (asks words text asked).1
+
+says_unstarted : (words : List (List ℕ)) (before after : Outside) → after.work.ends ≡ before.work.ends
+    → after.work.config.faults ≡ before.work.config.faults → (¬ IsAnswerWords words → after.work.config ≡ before.work.config)
+    → StatusSays 7 words before after
+says_unstarted words before after same faults unasked =
+    says_still 7 words before after same (λ e. omega (arith, e)) (λ e. omega (arith, e)) (λ e. omega (arith, e))
+    (λ is. absurd (omega (arith, is))) (λ n1 n7. absurd (n7 refl)) (λ is. absurd (omega (arith, is))) (λ is. absurd (omega (arith, is)))
+    (λ text told. config_left words text before after)
+    (λ is. absurd (omega (arith, is))) (λ n4. faults) unasked (λ text asked. refl) (λ are n2 fine. refl)
+
+says_config_fault : (words : List (List ℕ)) (before after : Outside) → IsAnswerWords words → after.work.ends ≡ before.work.ends
+    → Rose before.work.config.faults after.work.config.faults → StatusSays 4 words before after
+says_config_fault words before after are same rose =
+    says_still 4 words before after same (λ e. omega (arith, e)) (λ e. omega (arith, e)) (λ e. omega (arith, e))
+    (λ is. absurd (omega (arith, is))) (λ n1 n7. answers words are) (λ is. absurd (omega (arith, is))) (λ is. are)
+    (λ text told. config_failed words text before after rose)
+    (λ is. rose) (λ n4. absurd (n4 refl)) (λ other. absurd (other are)) (λ text asked. absurd (answer_apart words text asked are))
+    (λ also n2 fine. absurd (fine (inl (record { rose = rose; ends = same }))))
+
+says_config_refused : (words : List (List ℕ)) (before after : Outside) → IsAnswerWords words → after.work.ends ≡ before.work.ends
+    → after.work.config.faults ≡ before.work.config.faults
+    → ((text : List ℕ) → before.work.config.left ≡ Some text → ConfigSays 2 words text before after) → StatusSays 2 words before after
+says_config_refused words before after are same faults config =
+    says_still 2 words before after same (λ e. omega (arith, e)) (λ e. omega (arith, e)) (λ e. omega (arith, e))
+    (λ is. absurd (omega (arith, is))) (λ n1 n7. answers words are) (λ is. absurd (omega (arith, is))) (λ is. are) config
+    (λ is. absurd (omega (arith, is))) (λ n4. faults) (λ other. absurd (other are)) (λ text asked. absurd (answer_apart words text asked are))
+    (λ also n2 fine. absurd (n2 refl))
+
+-- What is common to the runs that show a text.
+says_shown : (status : ℕ) (words : List (List ℕ)) (before after : Outside) (result : Result (Unit {0}) WriteEnd)
+    (tb ta : List ℤ → Type 0) → Shows result words before.work tb after.work ta
+    → status ≢ 1 → status ≢ 2 → status ≢ 7 → status ≢ 8
+    → (status ≡ 0 → result ≡ Ok tt) → (status ≡ 4 → result ≡ Err write_ends.WriteFault) → (status ≡ 9 → result ≡ Err write_ends.SinkTakesNothing)
+    → (status ≢ 4 → result ≢ Err write_ends.WriteFault) → (status ≢ 9 → result ≢ Err write_ends.SinkTakesNothing)
+    → (¬ HasFailed before.work after.work → ¬ HasStalled before.work after.work → status ≡ 0) → StatusSays status words before after
+says_shown status words before after result tb ta s n1 n2 n7 n8 well failed stalled unfailed unstalled shown = record {
+  words_refused = λ is. absurd (n1 is);
+  words_accepted = λ m1 m7. asks words s.text s.asked;
+  untouched = λ is. absurd (n1 is);
+  asked_to_serve = no_serve;
+  unserved = λ is. absurd (n2 is);
+  config = λ text told. config_other status words text before after no_answer n2;
+  done = λ is. inl (s.text, s.asked, record { config = s.config; unread = s.ends.unread; written = written_whole (well is) });
+  failed = λ is. inr (inr (fault_there before.work.ends.outgoing.faults after.work.ends.outgoing.faults result s.ends.writes.faults (failed is)));
+  broken = λ is. absurd (n8 is);
+  stalled = λ is. stall_there before.work.ends.outgoing.stalls after.work.ends.outgoing.stalls result s.ends.writes.stalls (stalled is);
+  no_config_fault = λ n4. ap (λ (i : Incoming). i.faults) s.config;
+  no_read_fault = λ n4. ap (λ (i : Incoming). i.faults) s.ends.unread;
+  no_write_fault = λ n4 m7 m8. no_fault before.work.ends.outgoing.faults after.work.ends.outgoing.faults result s.ends.writes.faults (unfailed n4);
+  no_stall = λ m8 n9. no_stall before.work.ends.outgoing.stalls after.work.ends.outgoing.stalls result s.ends.writes.stalls (unstalled n9);
+  config_unread = λ other. s.config;
+  text_shown = λ text asked fine takes. inl (shown fine takes);
+  whole_stream = λ are m2 stream ms told framed few fine takes. absurd (no_answer are);
+  broken_stream = λ are m2 fault stream ms told framed few fine takes. absurd (no_answer are);
+}
+  where
+    no_answer : IsAnswerWords words → ⊥
+    no_answer are = answer_apart words s.text s.asked are
+
+    no_serve : (status ≡ 2) ⊎ (status ≡ 8) → IsAnswerWords words
+    no_serve (inl two) = absurd (n2 two)
+    no_serve (inr eight) = absurd (n8 eight)
+
+    written_whole : result ≡ Ok tt → Took before.work.ends.outgoing.written s.text after.work.ends.outgoing.written
+    written_whole is =
+        subst (λ (r : Result (Unit {0}) WriteEnd). IsWritten before.work.ends.outgoing.written s.text r after.work.ends.outgoing.written) is
+        s.ends.writes.written
+
+says_text : (words : List (List ℕ)) (before after : Outside) (result : Result (Unit {0}) WriteEnd) (tb ta : List ℤ → Type 0)
+    → Shows result words before.work tb after.work ta → StatusSays (status_of (Shown result)) words before after
+says_text words before after (Ok done) tb ta s =
+    says_shown 0 words before after (Ok done) tb ta s (λ e. omega (arith, e)) (λ e. omega (arith, e)) (λ e. omega (arith, e)) (λ e. omega (arith, e))
+    (λ is. refl) (λ is. absurd (omega (arith, is))) (λ is. absurd (omega (arith, is))) (λ n4 e. cc) (λ n9 e. cc) (λ fine takes. refl)
+says_text words before after (Err write_ends.WriteFault) tb ta s =
+    says_shown 4 words before after (Err write_ends.WriteFault) tb ta s (λ e. omega (arith, e)) (λ e. omega (arith, e)) (λ e. omega (arith, e))
+    (λ e. omega (arith, e)) (λ is. absurd (omega (arith, is))) (λ is. refl) (λ is. absurd (omega (arith, is))) (λ n4 e. n4 refl) (λ n9 e. cc)
+    (λ fine takes. absurd (fine (inr (inr s.ends.writes.faults.1))))
+says_text words before after (Err write_ends.SinkTakesNothing) tb ta s =
+    says_shown 9 words before after (Err write_ends.SinkTakesNothing) tb ta s (λ e. omega (arith, e)) (λ e. omega (arith, e)) (λ e. omega (arith, e))
+    (λ e. omega (arith, e)) (λ is. absurd (omega (arith, is))) (λ is. absurd (omega (arith, is))) (λ is. refl) (λ n4 e. cc) (λ n9 e. n9 refl)
+    (λ fine takes. absurd (takes s.ends.writes.stalls.1))
+
+says_served : (words : List (List ℕ)) (before after : Outside) (tb ta : List ℤ → Type 0) (cause : Cause)
+    → Serves cause words before.work tb after.work ta → StatusSays (status_at cause) words before after
+says_served words before after tb ta cause run =
+    let s = run.served in
+    let c = s.connection in
+    let was = before.work.ends in
+    let is_now = after.work.ends in
+    record {
+      words_refused = λ is. absurd (not_one cause is);
+      words_accepted = λ n1 n7. answers words run.words_are;
+      untouched = λ is. absurd (not_one cause is);
+      asked_to_serve = λ is. run.words_are;
+      unserved = λ is. absurd (not_two cause is);
+      config = λ text told.
+          config_served (status_at cause) words text before after run.tables (not_two cause)
+          (accepted_told before.work.config run.tables after.work.config text run.config told);
+      done = λ is. inr (run.words_are, done_at _ was cause is_now s is);
+      failed = λ is. inr (failed_at _ was cause is_now c is);
+      broken = broken_at _ was cause is_now s;
+      stalled = stalled_at _ was cause is_now c;
+      no_config_fault = λ n4. run.config.faults;
+      no_read_fault = no_read_fault_at cause was.incoming.faults is_now.incoming.faults c.reads;
+      no_write_fault = λ n4 n7 n8. no_fault was.outgoing.faults is_now.outgoing.faults c.result (faults_of _ was cause is_now c) (not_fault_at cause c.result c.last_write n4 n7 n8);
+      no_stall = λ n8 n9. no_stall was.outgoing.stalls is_now.outgoing.stalls c.result (stalls_of _ was cause is_now c) (not_stall_at cause c.result c.last_write n8 n9);
+      config_unread = λ other. absurd (other run.words_are);
+      text_shown = λ text asked fine takes. absurd (answer_apart words text asked run.words_are);
+      whole_stream = λ are n2 stream ms told framed few fine takes.
+          ends_at _ was cause is_now s stream ms stream_ends.Finished 0 told framed few (λ f. fine (inr f)) takes (λ e. refl)
+          (λ fault e. absurd (finished_no_fault fault e));
+      broken_stream = λ are n2 fault stream ms told framed few fine takes.
+          ends_at _ was cause is_now s stream ms (stream_ends.Fault fault) 8 told framed few (λ f. fine (inr f)) takes
+          (λ e. absurd (fault_not_finished fault e)) (λ f e. refl);
+    }
+
+-- What the status of a run says, with the line that the errors got.
+says : (words : List (List ℕ)) (before after : Outside) (tb ta : List ℤ → Type 0) (ending : Ending)
+    → IsRun ending words before.work tb after.work ta → IsReported (line_of ending) before.errors after.errors
+    → StatusSays (status_of ending) words before after
+says words before after tb ta WordsRefused run line = says_words_refused words before after run.0 run.1
+says words before after tb ta (Shown result) run line = says_text words before after result tb ta run
+says words before after tb ta ConfigFault run line = says_config_fault words before after run.words_are run.ends run.config.faults
+says words before after tb ta (ConfigRefused fault) run line =
+    says_config_refused words before after run.words_are run.ends run.config.faults
+    (λ text told.
+    let whole = refused_told before.work.config fault after.work.config text run.config told in
+    config_refused words text before after whole.0 whole.1
+    (subst (λ (l : List ℕ). IsReported l before.errors after.errors) whole.2 line))
+says words before after tb ta Unstarted (inl run) line =
+    says_unstarted words before after (ap (λ (w : Work). w.ends) run.0) (ap (λ (w : Work). w.config.faults) run.0)
+    (λ other. ap (λ (w : Work). w.config) run.0)
+says words before after tb ta Unstarted (inr run) line =
+    says_unstarted words before after run.ends run.config.faults (λ other. absurd (other run.words_are))
+says words before after tb ta (Served cause) run line = says_served words before after tb ta cause run
+
+abbrev pub work_at : Incoming → Incoming → Outgoing → Work
+work_at config input output = record { config = config; ends = record { incoming = input; outgoing = output } }
+
+-- The same of the ends that a link reads and writes through.
+pub says_through : (words : List (List ℕ)) (cb ca ib i ia j : Incoming) (ob o oa p eb ea : Outgoing) (tb ta : List ℤ → Type 0) (ending : Ending)
+    → ib ≡ i → ia ≡ j → ob ≡ o → oa ≡ p → IsRun ending words (work_at cb ib ob) tb (work_at ca ia oa) ta → IsReported (line_of ending) eb ea
+    → StatusSays (status_of ending) words (outside cb i o eb) (outside ca j p ea)
+says_through words cb ca ib i ia j ob o oa p eb ea tb ta ending one two three four run line =
+    says words (outside cb i o eb) (outside ca j p ea) tb ta ending
+    (subst (λ (x : Incoming). IsRun ending words (work_at cb x o) tb (work_at ca j p) ta) one
+    (subst (λ (x : Incoming). IsRun ending words (work_at cb ib o) tb (work_at ca x p) ta) two
+    (subst (λ (x : Outgoing). IsRun ending words (work_at cb ib x) tb (work_at ca ia p) ta) three
+    (subst (λ (x : Outgoing). IsRun ending words (work_at cb ib ob) tb (work_at ca ia x) ta) four run)))) line
 
 -- ---- the history of a connection over an empty world
 
-pub history_from : {T : Type 0} (tells : T → List ℤ → Type 0) (first last : CoreState) (start then now end : T) (es : List Exchange)
-    → first.settings ≡ open_to_all → first.world ≡ empty_world → start ≡ then → now ≡ end → Moves first (tells start) es last (tells now)
-    → IsHistory (tells then) es (tells end)
-history_from {T} tells first last start then now end es settings empty began ended moves = record {
+pub history_from : {T : Type 0} (tells : T → List ℤ → Type 0) (tables : PolicyTables) (first last : CoreState) (start then now end : T) (es : List Exchange)
+    → first.settings.policy ≡ tables → first.world ≡ empty_world → start ≡ then → now ≡ end → Moves first (tells start) es last (tells now)
+    → IsHistory tables (tells then) es (tells end)
+history_from {T} tells tables first last start then now end es policy empty began ended moves = record {
   first = first;
   last = last;
-  settings = settings;
+  policy = policy;
   empty = empty;
   moves = subst (λ (t : T). Moves first (tells then) es last (tells t)) ended (subst (λ (t : T). Moves first (tells t) es last (tells now)) began moves);
 }
+
+-- a clock that wasn't asked tells what it told
+pub unasked : (tells : List ℤ → Type 0) → IsClocked tells [] tells
+unasked tells [] others e told = (refl, told)
+unasked tells (x ∷ xs) others e told = absurd (omega (arith, e))

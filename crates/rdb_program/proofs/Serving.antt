@@ -7,7 +7,7 @@ use Rattle.outside.specs.Whole.{WritesWhole}
 use Rattle.outside.specs.declared.whole.WriteEnd.{WriteEnd}
 use Rattle.outside.specs.declared.whole.WriteEnd.TheVariants as write_ends
 use Rattle.outside.proofs.Taken.{gave_nothing, gave_both, took_nothing, took_both}
-use Rattle.service_core.specs.declared.forms.Told.{Told}
+use Rattle.call_forms.specs.declared.forms.Told.{Told}
 use Rattle.record_desk.specs.Exchange.{Exchange}
 use Rattle.http_wire.specs.WireState.{WireState}
 use Rattle.http_wire.specs.Held.{Reading}

@@ -1,6 +1,6 @@
 -- One turn more.
 use Rattle.std.proofs.Common.{◌≡◌, ℕ, ◌+◌, Bool, List, [], ◌∷◌, ◌++◌, length, refl, sym, ap, ◌∙◌, append_assoc, append-nil, arith}
-use Rattle.service_core.specs.ReplyBytes.{told_bytes}
+use Rattle.call_forms.specs.ReplyBytes.{told_bytes}
 use Rattle.rdb_program.specs.Turns.{Turn, closes, replies_from, replies}
 
 -- the reply of a turn, before which there were so many

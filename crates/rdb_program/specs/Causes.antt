@@ -4,8 +4,8 @@ use Rattle.outside.specs.Bytes.{IsEnd}
 use Rattle.fault_counts.specs.Causes.{Rose}
 use Rattle.outside.specs.declared.whole.WriteEnd.{WriteEnd}
 use Rattle.outside.specs.declared.whole.WriteEnd.TheVariants as write_ends
-use Rattle.service_core.specs.ReplyBytes.{standin_bytes}
-use Rattle.service_core.specs.declared.forms.Standin.TheVariants as standins
+use Rattle.call_forms.specs.ReplyBytes.{standin_bytes}
+use Rattle.call_forms.specs.declared.forms.Standin.TheVariants as standins
 use Rattle.http_wire.specs.Out.{fault_number, fault_name, farewell_bytes}
 use Rattle.http_wire.specs.Stream.{HasEnd, IsUndecided}
 use Rattle.http_wire.specs.declared.message.End.{End}

@@ -4,8 +4,8 @@ use Rattle.outside.specs.Bytes.{Gave, Took}
 use Rattle.outside.specs.Ends.{Outgoing, Ends}
 use Rattle.outside.specs.Whole.{WritesWhole}
 use Rattle.outside.specs.declared.whole.WriteEnd.{WriteEnd}
-use Rattle.service_core.specs.ReplyBytes.{told_bytes}
-use Rattle.service_core.specs.declared.forms.Told.{Told}
+use Rattle.call_forms.specs.ReplyBytes.{told_bytes}
+use Rattle.call_forms.specs.declared.forms.Told.{Told}
 use Rattle.record_desk.specs.Exchange.{Exchange}
 use Rattle.http_wire.specs.Stream.{Spells}
 use Rattle.rdb_program.specs.Turns.{Turn, messages_of, exchanges_of, reply_limit, closes, replies}

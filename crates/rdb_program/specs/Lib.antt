@@ -4,5 +4,6 @@ pub mod Causes
 pub mod Closing
 pub mod Connection
 pub mod Framing
+pub mod Configured
 pub mod Run
 pub mod Statuses

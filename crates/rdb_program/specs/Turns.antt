@@ -1,7 +1,7 @@
 -- Messages and what was told for them.
 use Rattle.std.specs.Prelude.{ℕ, ◌+◌, ◌==◌, ◌||◌, Bool, List, [], ◌∷◌, ◌++◌, map}
-use Rattle.service_core.specs.ReplyBytes.{told_bytes}
-use Rattle.service_core.specs.declared.forms.Told.{Told}
+use Rattle.call_forms.specs.ReplyBytes.{told_bytes}
+use Rattle.call_forms.specs.declared.forms.Told.{Told}
 use Rattle.record_desk.specs.Exchange.{Exchange}
 use Rattle.http_wire.specs.declared.message.Message.{Message}
 

@@ -1,21 +1,18 @@
--- The grammar of the command line.
-use Rattle.std.specs.Prelude.{◌≡◌, ◌≢◌, ℕ, List, [], ◌∷◌, codes}
+-- What the words of the command line ask for.
+use Rattle.std.specs.Prelude.{◌≡◌, ℕ, ◌⊎◌, List}
+use Rattle.program_words.specs.Grammar.{Says}
+use Rattle.program_words.specs.Texts.{help_text, version_text}
+use Rattle.program_words.specs.declared.command.Command.{Command}
+use Rattle.program_words.specs.declared.command.Command.TheVariants.{Answer, Help, Version}
 
--- A path isn't empty. What begins with `-` is an option.
-abbrev pub IsPath : List ℕ → Type 0
-IsPath [] = ⊥
-IsPath (first ∷ others) = first ≢ 45
+-- The words are outside the grammar.
+abbrev pub SayNothing : List (List ℕ) → Type 0
+SayNothing words = (command : Command) → ¬ Says words command
 
--- answer --config PATH --journal PATH
-pub record AreAnswerParts (command config_option config journal_option journal : List ℕ) : Type 0 where
-  pub command_is : command ≡ codes "answer"
-  pub config_option_is : config_option ≡ codes "--config"
-  pub config_is : IsPath config
-  pub journal_option_is : journal_option ≡ codes "--journal"
-  pub journal_is : IsPath journal
-
--- just these five words
+-- The words ask for one connection to be served, and name two paths.
 abbrev pub IsAnswerWords : List (List ℕ) → Type 0
-IsAnswerWords (command ∷ config_option ∷ config ∷ journal_option ∷ journal ∷ []) =
-    AreAnswerParts command config_option config journal_option journal
-IsAnswerWords other = ⊥
+IsAnswerWords words = (config : List ℕ) × (journal : List ℕ) × Says words (Answer config journal)
+
+-- The words ask for this text: that of help, or that of the version.
+abbrev pub AskForText : List (List ℕ) → List ℕ → Type 0
+AskForText words text = (Says words Help × (text ≡ help_text)) ⊎ (Says words Version × (text ≡ version_text))

@@ -2,17 +2,17 @@
 ghost use Rattle.std.specs.Prelude.{◌≡◌, ◌<◌, List, [], ◌∷◌, ◌++◌, true};
 ghost use Rattle.outside.specs.Ends.{OnlyWrites};
 ghost use Rattle.outside.specs.Whole.{WritesWhole};
-ghost use Rattle.service_core.specs.ReplyBytes.{told_bytes};
+ghost use Rattle.call_forms.specs.ReplyBytes.{told_bytes};
 ghost use Rattle.record_desk.specs.Exchange.{Exchange};
 ghost use Rattle.rdb_program.specs.Turns.{reply_limit, closes};
 ghost use Rattle.rdb_program.specs.Connection.{Answers, Connection};
 ghost use Rattle.rdb_program.specs.Closing.{Closes, LeavesWire};
 
 use crate::ending::Cause;
+use call_forms::{Standin, Told};
 use http_wire::{Message, Wire, WireFault, write_farewell, write_response, write_standin};
 use outside::{Link, WriteEnd};
 use record_desk::Teller;
-use service_core::forms::{Standin, Told};
 use std::alloc::Global;
 
 /// The most replies of one connection. The last of them closes it.

@@ -1,10 +1,11 @@
 //! How a run ends: its exit status, and its line on standard error.
 ghost use Rattle.std.specs.Prelude.{◌≡◌};
 ghost use Rattle.rdb_program.specs.Causes.{row_of, cause_of};
-ghost use Rattle.rdb_program.specs.Run.{status_of, line_of};
+ghost use Rattle.rdb_program.specs.Run.{status_of, line_of, refusal_line};
 
 use http_wire::WireFault;
 use outside::WriteEnd;
+use permissions::PolicyFault;
 
 /// Why a connection ended.
 #[derive(Clone, Copy, Debug)]
@@ -41,12 +42,18 @@ impl From<WriteEnd> for Cause {
     }
 }
 
-/// How a run ended.
-#[derive(Clone, Copy, Debug)]
+/// How a run ended. A fault of the configuration may hold a token, so nothing prints an ending whole.
+#[derive(Drop)]
 pub enum Ending {
     /// The words are outside the grammar.
     WordsRefused,
-    /// Memory was wanting before anything was read.
+    /// The text that the words ask for was written, or the write of it ended so.
+    Shown(Result<(), WriteEnd>),
+    /// A read of the configuration failed.
+    ConfigFault,
+    /// The configuration has this fault.
+    ConfigRefused(PolicyFault),
+    /// Memory was wanting before anything was read of the input.
     Unstarted,
     /// The connection was served, and ended by this cause.
     Served(Cause),
@@ -59,6 +66,10 @@ impl Ending {
     {
         match self {
             Ending::WordsRefused => 1,
+            Ending::Shown(Ok(())) => 0,
+            Ending::Shown(Err(end)) => Cause::from(*end).status(),
+            Ending::ConfigFault => 4,
+            Ending::ConfigRefused(_) => 2,
             Ending::Unstarted => 7,
             Ending::Served(cause) => cause.status(),
         }
@@ -70,6 +81,10 @@ impl Ending {
     {
         match self {
             Ending::WordsRefused => "rdb: words refused\n",
+            Ending::Shown(Ok(())) => "",
+            Ending::Shown(Err(end)) => Cause::from(*end).line(),
+            Ending::ConfigFault => "rdb: fault of config\n",
+            Ending::ConfigRefused(fault) => refusal_line(fault),
             Ending::Unstarted => "rdb: want of memory\n",
             Ending::Served(cause) => cause.line(),
         }
@@ -111,5 +126,24 @@ fn wire_line(fault: &WireFault) -> &'static str
         WireFault::ReadFault => "rdb: wire 9 ReadFault\n",
         WireFault::Memory => "rdb: wire 10 Memory\n",
         WireFault::Unread => "rdb: wire 11 Unread\n",
+    }
+}
+
+fn refusal_line(fault: &PolicyFault) -> &'static str
+    ensures { result.now ≡ refusal_line fault.now }
+{
+    match fault {
+        PolicyFault::NotToml => "rdb: configuration refused: 1 NotToml\n",
+        PolicyFault::BadName { .. } => "rdb: configuration refused: 2 BadName\n",
+        PolicyFault::UnknownRole { .. } => "rdb: configuration refused: 3 UnknownRole\n",
+        PolicyFault::UnknownRealm { .. } => "rdb: configuration refused: 4 UnknownRealm\n",
+        PolicyFault::RealmCycle { .. } => "rdb: configuration refused: 5 RealmCycle\n",
+        PolicyFault::TwoOwners { .. } => "rdb: configuration refused: 6 TwoOwners\n",
+        PolicyFault::TooMany { .. } => "rdb: configuration refused: 7 TooMany\n",
+        PolicyFault::BadShape { .. } => "rdb: configuration refused: 8 BadShape\n",
+        PolicyFault::UnknownPrincipal { .. } => {
+            "rdb: configuration refused: 9 UnknownPrincipal\n"
+        }
+        PolicyFault::Memory => "rdb: configuration refused: 0 Memory\n",
     }
 }

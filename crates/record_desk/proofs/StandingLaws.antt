@@ -7,8 +7,8 @@ use Rattle.service_core.specs.CoreState.{CoreState}
 use Rattle.service_core.specs.World.{World}
 use Rattle.service_core.specs.Step.{moment_of}
 use Rattle.service_core.specs.History.{Entry, Serves}
-use Rattle.service_core.specs.declared.asked.Asked.{Asked}
-use Rattle.service_core.specs.declared.forms.Told.{Told}
+use Rattle.call_forms.specs.declared.asked.Asked.{Asked}
+use Rattle.call_forms.specs.declared.forms.Told.{Told}
 use Rattle.service_core.proofs.HistoryLaws.{timed_goes_on}
 use Rattle.record_desk.specs.Exchange.{Exchange}
 use Rattle.record_desk.specs.Standing.{Moves, exchange_of}

@@ -1,6 +1,6 @@
 -- What was asked, and what was told.
-use Rattle.service_core.specs.declared.asked.Asked.{Asked}
-use Rattle.service_core.specs.declared.forms.Told.{Told}
+use Rattle.call_forms.specs.declared.asked.Asked.{Asked}
+use Rattle.call_forms.specs.declared.forms.Told.{Told}
 
 pub record Exchange : Type 0 where
   pub asked : Asked

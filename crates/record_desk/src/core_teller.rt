@@ -4,9 +4,9 @@ ghost use Rattle.record_desk.specs.Exchange.{Exchange};
 ghost use Rattle.record_desk.specs.Standing.{Moves};
 
 use crate::Teller;
+use call_forms::{Asked, Told};
 use outside::Clock;
-use service_core::forms::Told;
-use service_core::{Asked, Core};
+use service_core::Core;
 use std::alloc::Global;
 
 /// A core that is asked by one seat, at the moments of a clock.

@@ -3,8 +3,7 @@ ghost use Rattle.std.specs.Prelude.{◌≡◌, List, [], ◌∷◌, ◌++◌};
 ghost use Rattle.std.specs.Borrow.{GName};
 ghost use Rattle.record_desk.specs.Exchange.{Exchange};
 
-use service_core::Asked;
-use service_core::forms::Told;
+use call_forms::{Asked, Told};
 
 /// Something that tells an answer to each request that it is asked.
 ///

@@ -1,54 +1,70 @@
 -- Histories keep worlds valid, add rows alone, and go on by one call.
-use Rattle.std.proofs.Common.{◌≡◌, ℤ, ◌≤ℤ◌, ◌⊎◌, List, [], ◌∷◌, ◌++◌, append-nil, append_assoc, inl, inr, refl, sym, ap, ◌∙◌, subst}
-use Rattle.service_core.specs.Settings.{Settings}
-use Rattle.service_core.specs.declared.asked.Asked.{Asked}
-use Rattle.service_core.specs.declared.forms.Answer.{Answer}
-use Rattle.service_core.specs.declared.forms.Standin.TheVariants.{Unavailable, Memory, Spent}
-use Rattle.service_core.specs.declared.forms.Told.{Told}
-use Rattle.service_core.specs.declared.forms.Told.TheVariants.{Made, Standin as Instead}
-use Rattle.service_core.specs.declared.requests.Request.{Request}
-use Rattle.service_core.specs.declared.requests.Request.TheVariants.{CreateInvocation}
-use Rattle.service_core.specs.declared.rows.Invocation.{Invocation}
-use Rattle.service_core.specs.World.{World, IsValid, IsCallMoment, new_row}
-use Rattle.service_core.specs.Requests.{Asks}
-use Rattle.service_core.specs.Step.{id_taken, Step, Refuses, Performs, IsAccepted, acted}
+use Rattle.std.proofs.Common.{◌≡◌, ℕ, ℤ, ◌≤ℤ◌, ◌⊎◌, List, [], ◌∷◌, ◌++◌, append-nil, append_assoc, inl, inr, refl, sym, ap, ◌∙◌, subst}
+use Rattle.service_core.specs.Settings.{Settings, HasNames, caller_name}
+use Rattle.call_forms.specs.declared.asked.Asked.{Asked}
+use Rattle.call_forms.specs.declared.forms.Answer.{Answer}
+use Rattle.call_forms.specs.declared.forms.Standin.TheVariants.{Unavailable, Memory, Spent}
+use Rattle.call_forms.specs.declared.forms.Told.{Told}
+use Rattle.call_forms.specs.declared.forms.Told.TheVariants.{Made, Standin as Instead}
+use Rattle.invocations.specs.declared.invocation.Invocation.{Invocation}
+use Rattle.message_forms.specs.declared.requests.Request.{Request}
+use Rattle.message_forms.specs.declared.requests.Request.TheVariants.{CreateInvocation}
+use Rattle.service_core.specs.World.{World, IsValid, IsCallMoment}
+use Rattle.service_core.specs.Broken.{BrokenIn, IsUnbroken, out_of_reach}
+use Rattle.service_core.specs.Step.{Step, Refuses, Performs, IsAccepted, acted, row_made}
 use Rattle.service_core.specs.History.{Tells, IsTimed}
 use Rattle.service_core.specs.Laws.{RowsStay, LegalKeepsValid, TimedIsLegal, TimedGoesOn}
-use Rattle.service_core.proofs.WorldLaws.{row-new, valid-with_row}
+use Rattle.service_core.proofs.AskedForms.{asked_has_forms}
+use Rattle.service_core.proofs.PolicyLaws.{caller_is_there, name_is}
+use Rattle.service_core.proofs.StepLaws.{can_add}
+use Rattle.service_core.proofs.WorldLaws.{in_reach, row-new, valid-with_row}
+
+-- what is accepted breaks no rule of the world
+accepted_in : (s : Settings) (w : World) (moment : ℤ) (asked : Asked) (caller : ℕ) (request : Request)
+    → IsAccepted s w moment asked caller request → IsUnbroken (BrokenIn s w moment caller request)
+accepted_in s w moment asked caller request accepted r is = accepted.unbroken r (inr (caller, request, accepted.wants, is))
 
 -- a request that breaks no rule leads to a valid world
-pub valid-acted : (s : Settings) (w : World) (moment : ℤ) (asked : Asked) (request : Request) → IsValid w → IsCallMoment moment
-    → w.last ≤ℤ moment → IsAccepted s w moment asked request → IsValid (acted w moment request)
-valid-acted s w moment asked (CreateInvocation id realm) valid call later accepted =
-    valid-with_row w (new_row moment id realm) valid
-    (λ there. accepted.unbroken (id_taken id) (inr (record { request = CreateInvocation id realm; asks = accepted.asks; takes = (there, refl) })))
-    call later (row-new moment id realm accepted.asks.asks.1 accepted.asks.asks.2 call)
+pub valid-acted : (s : Settings) (w : World) (moment : ℤ) (asked : Asked) (caller : ℕ) (request : Request) → HasNames s → IsValid w
+    → IsCallMoment moment → w.last ≤ℤ moment → IsAccepted s w moment asked caller request → IsValid (acted s w moment caller request)
+valid-acted s w moment asked caller (CreateInvocation id realm deadline tags) names valid call later accepted =
+    let request : Request = CreateInvocation id realm deadline tags in
+    let none = accepted_in s w moment asked caller request accepted in
+    let forms = asked_has_forms asked.service asked.method asked.body request accepted.wants.asks in
+    let name = name_is s caller names (caller_is_there s asked.bearer caller accepted.wants.caller_is) in
+    valid-with_row w (row_made s moment caller request) valid (can_add s w moment caller request none) call later
+    (row-new moment (caller_name s caller) id realm deadline tags name forms.0 forms.1 forms.2 call
+    (λ given e. in_reach moment given (λ far. none (out_of_reach given moment) (inr (inl (given, e, far, refl))))))
 
-judged_keeps_valid : (s : Settings) (w : World) (moment : ℤ) (asked : Asked) (answer : Answer) (after : World) → IsCallMoment moment
-    → w.last ≤ℤ moment → Refuses s w moment asked after answer ⊎ Performs s w moment asked after answer → IsValid w → IsValid after
-judged_keeps_valid s w moment asked answer after call later (inl refused) valid = subst IsValid (sym refused.same) valid
-judged_keeps_valid s w moment asked answer after call later (inr performs) valid =
-    subst IsValid (sym performs.acted_on) (valid-acted s w moment asked performs.request valid call later performs.accepted)
+judged_keeps_valid : (s : Settings) (w : World) (moment : ℤ) (asked : Asked) (answer : Answer) (after : World) → HasNames s
+    → IsCallMoment moment → w.last ≤ℤ moment → Refuses s w moment asked after answer ⊎ Performs s w moment asked after answer
+    → IsValid w → IsValid after
+judged_keeps_valid s w moment asked answer after names call later (inl refused) valid = subst IsValid (sym refused.same) valid
+judged_keeps_valid s w moment asked answer after names call later (inr performs) valid =
+    subst IsValid (sym performs.acted_on)
+    (valid-acted s w moment asked performs.caller performs.request names valid call later performs.accepted)
 
-step_keeps_valid : (s : Settings) (w : World) (moment : ℤ) (asked : Asked) (answer : Answer) (after : World) → IsCallMoment moment
-    → w.last ≤ℤ moment → Step s w moment asked after answer → IsValid w → IsValid after
-step_keeps_valid s w moment asked answer after call later step valid =
-    judged_keeps_valid s w moment asked answer after call later
+step_keeps_valid : (s : Settings) (w : World) (moment : ℤ) (asked : Asked) (answer : Answer) (after : World) → HasNames s
+    → IsCallMoment moment → w.last ≤ℤ moment → Step s w moment asked after answer → IsValid w → IsValid after
+step_keeps_valid s w moment asked answer after names call later step valid =
+    judged_keeps_valid s w moment asked answer after names call later
     (subst (λ (u : World). Refuses s u moment asked after answer ⊎ Performs s u moment asked after answer) step.advances step.judged) valid
 
-tells_keeps_valid : (s : Settings) (w : World) (moment : ℤ) (asked : Asked) (told : Told) (after : World) → IsCallMoment moment
-    → w.last ≤ℤ moment → Tells s w moment asked told after → IsValid w → IsValid after
-tells_keeps_valid s w moment asked (Made answer) after call later step valid = step_keeps_valid s w moment asked answer after call later step valid
-tells_keeps_valid s w moment asked (Instead Memory) after call later (inl same) valid = subst IsValid (sym same) valid
-tells_keeps_valid s w moment asked (Instead Memory) after call later (inr same) valid = subst IsValid (sym same) valid
-tells_keeps_valid s w moment asked (Instead Unavailable) after call later never valid = absurd never
-tells_keeps_valid s w moment asked (Instead Spent) after call later never valid = absurd never
+tells_keeps_valid : (s : Settings) (w : World) (moment : ℤ) (asked : Asked) (told : Told) (after : World) → HasNames s
+    → IsCallMoment moment → w.last ≤ℤ moment → Tells s w moment asked told after → IsValid w → IsValid after
+tells_keeps_valid s w moment asked (Made answer) after names call later step valid =
+    step_keeps_valid s w moment asked answer after names call later step valid
+tells_keeps_valid s w moment asked (Instead Memory) after names call later (inl same) valid = subst IsValid (sym same) valid
+tells_keeps_valid s w moment asked (Instead Memory) after names call later (inr same) valid = subst IsValid (sym same) valid
+tells_keeps_valid s w moment asked (Instead Unavailable) after names call later never valid = absurd never
+tells_keeps_valid s w moment asked (Instead Spent) after names call later never valid = absurd never
 
 pub legal_keeps_valid : LegalKeepsValid
-legal_keeps_valid s w [] v end valid = subst IsValid (sym end) valid
-legal_keeps_valid s w (e ∷ h) v legal valid =
+legal_keeps_valid s w [] v names end valid = subst IsValid (sym end) valid
+legal_keeps_valid s w (e ∷ h) v names legal valid =
     let leads = legal.1 in
-    legal_keeps_valid s legal.0 h v legal.2 (tells_keeps_valid s w e.moment e.asked e.told legal.0 leads.moment leads.later leads.tells valid)
+    legal_keeps_valid s legal.0 h v names legal.2
+    (tells_keeps_valid s w e.moment e.asked e.told legal.0 names leads.moment leads.later leads.tells valid)
 
 pub timed_is_legal : TimedIsLegal
 timed_is_legal s w [] [] v end = end
@@ -71,13 +87,14 @@ Adds w v = (more : List Invocation) × (v.invocations ≡ w.invocations ++ more)
 adds_none : (w v : World) → v ≡ w → Adds w v
 adds_none w v same = ([], ap (λ (u : World). u.invocations) same ∙ sym (append-nil w.invocations))
 
-adds_acted : (w : World) (moment : ℤ) (request : Request) → Adds w (acted w moment request)
-adds_acted w moment (CreateInvocation id realm) = (new_row moment id realm ∷ [], refl)
+adds_acted : (s : Settings) (w : World) (moment : ℤ) (caller : ℕ) (request : Request) → Adds w (acted s w moment caller request)
+adds_acted s w moment caller (CreateInvocation id realm deadline tags) =
+    (row_made s moment caller (CreateInvocation id realm deadline tags) ∷ [], refl)
 
 adds_judged : (s : Settings) (w : World) (moment : ℤ) (asked : Asked) (answer : Answer) (after : World)
     → Refuses s w moment asked after answer ⊎ Performs s w moment asked after answer → Adds w after
 adds_judged s w moment asked answer after (inl refused) = adds_none w after refused.same
-adds_judged s w moment asked answer after (inr performs) = subst (Adds w) (sym performs.acted_on) (adds_acted w moment performs.request)
+adds_judged s w moment asked answer after (inr performs) = subst (Adds w) (sym performs.acted_on) (adds_acted s w moment performs.caller performs.request)
 
 tells_adds : (s : Settings) (w : World) (moment : ℤ) (asked : Asked) (told : Told) (after : World) → Tells s w moment asked told after → Adds w after
 tells_adds s w moment asked (Made answer) after step =

@@ -1,9 +1,10 @@
-pub mod StandinLaws
+pub mod FormLaws
+pub mod AskedForms
+pub mod RuleOrder
+pub mod RuleFacts
 pub mod WorldLaws
+pub mod PolicyLaws
 pub mod StepLaws
-pub mod StepThere
-pub mod RequestLaws
-pub mod Decisions
+pub mod UniqueLaws
 pub mod HistoryLaws
 pub mod PlanLaws
-pub mod UniqueLaws

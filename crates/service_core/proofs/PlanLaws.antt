@@ -1,43 +1,51 @@
--- A plan that was prepared is one of its request, and fits.
-use Rattle.std.proofs.Common.{◌≡◌, ◌<◌, ℕ, ℤ, ◌≤ℤ◌, sym, ap, ◌∙◌, subst}
-use Rattle.service_core.specs.Settings.{Settings}
-use Rattle.service_core.specs.declared.asked.Asked.{Asked}
-use Rattle.service_core.specs.declared.requests.Request.{Request}
-use Rattle.service_core.specs.World.{World, IsValid, IsCallMoment}
-use Rattle.service_core.specs.Step.{IsAccepted, acted, reply_to}
+-- A plan that was made is one of its request, and fits.
+use Rattle.std.proofs.Common.{◌≡◌, ◌<◌, ℕ, ℤ, ◌≤ℤ◌, sym, ap, ◌∙◌, subst, refl}
+use Rattle.permissions.specs.Hash.{token_text}
+use Rattle.call_forms.specs.declared.asked.Asked.{Asked}
+use Rattle.message_forms.specs.declared.requests.Request.{Request}
+use Rattle.message_forms.specs.declared.requests.Request.TheVariants.{CreateInvocation}
+use Rattle.service_core.specs.Settings.{Settings, HasNames, secret_of}
+use Rattle.service_core.specs.World.{World, IsValid, IsCallMoment, with_row}
+use Rattle.service_core.specs.Answers.{created_answer}
+use Rattle.service_core.specs.Understood.{token_id}
+use Rattle.service_core.specs.Step.{IsAccepted, acted, reply_to, row_made}
 use Rattle.service_core.specs.CoreState.{CoreState, PlanState}
-use Rattle.service_core.specs.Plans.{IsPlanOf, Fits}
+use Rattle.service_core.specs.Plans.{IsPlanOf, Fits, planned}
 use Rattle.service_core.proofs.HistoryLaws.{valid-acted}
 
--- the plan is of this request at this moment
-pub record IsMade (w : World) (moment : ℤ) (request : Request) (plan : PlanState) : Type 0 where
-  pub request_is : plan.request ≡ request
-  pub moment_is : plan.moment ≡ moment
-  pub answer_is : plan.answer ≡ reply_to w moment request
+row_added : (s : Settings) (w : World) (moment : ℤ) (caller : ℕ) (request : Request)
+    → with_row w (row_made s moment caller request) ≡ acted s w moment caller request
+row_added s w moment caller (CreateInvocation id realm deadline tags) = refl
 
-plan_of_made : (s : Settings) (w : World) (moment : ℤ) (asked : Asked) (request : Request) (plan : PlanState)
-    → IsAccepted s w moment asked request → IsMade w moment request plan → IsPlanOf s w moment asked plan
-plan_of_made s w moment asked request plan accepted made = record {
-  accepted = subst (IsAccepted s w moment asked) (sym made.request_is) accepted;
-  moment_is = made.moment_is;
-  answer_is = made.answer_is ∙ ap (reply_to w moment) (sym made.request_is);
-}
+reply_made : (s : Settings) (w : World) (moment : ℤ) (caller : ℕ) (request : Request)
+    → created_answer (token_text (secret_of s) (token_id request)) (row_made s moment caller request) ≡ reply_to s w moment caller request
+reply_made s w moment caller (CreateInvocation id realm deadline tags) = refl
 
-fits_of_made : (core : CoreState) (moment : ℤ) (asked : Asked) (request : Request) (plan : PlanState) → IsValid core.world
-    → IsCallMoment moment → core.world.last ≤ℤ moment → 0 < core.spare
-    → IsAccepted core.settings core.world moment asked request → IsMade core.world moment request plan → Fits core plan
-fits_of_made core moment asked request plan valid call later room accepted made = record {
-  valid = subst IsValid
-      (ap (λ (t : ℤ). acted core.world t request) (sym made.moment_is) ∙ ap (acted core.world plan.moment) (sym made.request_is))
-      (valid-acted core.settings core.world moment asked request valid call later accepted);
-  room = room;
-}
+-- the plan is of what this caller asks for at this moment
+pub record IsMade (s : Settings) (moment : ℤ) (caller : ℕ) (request : Request) (plan : PlanState) : Type 0 where
+  pub row_is : plan.row ≡ row_made s moment caller request
+  pub answer_is : plan.answer ≡ created_answer (token_text (secret_of s) (token_id request)) (row_made s moment caller request)
 
-pub prepared_plan : (core : CoreState) (moment : ℤ) (asked : Asked) (request : Request) (plan : PlanState) → IsValid core.world
-    → IsCallMoment moment → core.world.last ≤ℤ moment → 0 < core.spare
-    → IsAccepted core.settings core.world moment asked request → IsMade core.world moment request plan
+planned_made : (s : Settings) (w : World) (moment : ℤ) (caller : ℕ) (request : Request) (plan : PlanState)
+    → IsMade s moment caller request plan → planned w plan ≡ acted s w moment caller request
+planned_made s w moment caller request plan made = ap (with_row w) made.row_is ∙ row_added s w moment caller request
+
+pub prepared_plan : (core : CoreState) (moment : ℤ) (asked : Asked) (caller : ℕ) (request : Request) (plan : PlanState)
+    → HasNames core.settings → IsValid core.world → IsCallMoment moment → core.world.last ≤ℤ moment → 0 < core.spare
+    → IsAccepted core.settings core.world moment asked caller request → IsMade core.settings moment caller request plan
     → IsPlanOf core.settings core.world moment asked plan × Fits core plan
-prepared_plan core moment asked request plan valid call later room accepted made = (
-  plan_of_made core.settings core.world moment asked request plan accepted made,
-  fits_of_made core moment asked request plan valid call later room accepted made,
-)
+prepared_plan core moment asked caller request plan names valid call later room accepted made =
+    let after = planned_made core.settings core.world moment caller request plan made in (
+      record {
+        caller = caller;
+        request = request;
+        accepted = accepted;
+        planned_is = after;
+        answer_is = made.answer_is ∙ reply_made core.settings core.world moment caller request;
+      },
+      record {
+        valid = subst IsValid (sym after)
+            (valid-acted core.settings core.world moment asked caller request names valid call later accepted);
+        room = room;
+      },
+    )

@@ -1,10 +1,10 @@
 -- Histories: what was asked and told, one call after the other.
 use Rattle.std.specs.Prelude.{◌≡◌, ◌⊎◌, ℕ, ℤ, ◌≤ℤ◌, List, [], ◌∷◌}
 use Rattle.service_core.specs.Settings.{Settings}
-use Rattle.service_core.specs.declared.asked.Asked.{Asked}
-use Rattle.service_core.specs.declared.forms.Standin.TheVariants.{Unavailable, Memory, Spent}
-use Rattle.service_core.specs.declared.forms.Told.{Told}
-use Rattle.service_core.specs.declared.forms.Told.TheVariants.{Made, Standin as Instead}
+use Rattle.call_forms.specs.declared.asked.Asked.{Asked}
+use Rattle.call_forms.specs.declared.forms.Standin.TheVariants.{Unavailable, Memory, Spent}
+use Rattle.call_forms.specs.declared.forms.Told.{Told}
+use Rattle.call_forms.specs.declared.forms.Told.TheVariants.{Made, Standin as Instead}
 use Rattle.service_core.specs.World.{World, IsCallMoment}
 use Rattle.service_core.specs.Step.{Step, Advances, moment_of}
 

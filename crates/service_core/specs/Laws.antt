@@ -1,9 +1,9 @@
 -- Laws of steps and histories.
-use Rattle.std.specs.Prelude.{◌≡◌, ℤ, ◌≤ℤ◌, List, [], ◌∷◌, ◌++◌}
-use Rattle.service_core.specs.Settings.{Settings}
-use Rattle.service_core.specs.declared.asked.Asked.{Asked}
-use Rattle.service_core.specs.declared.forms.Answer.{Answer}
-use Rattle.service_core.specs.declared.rows.Invocation.{Invocation}
+use Rattle.std.specs.Prelude.{◌≡◌, ℤ, List, [], ◌∷◌, ◌++◌}
+use Rattle.call_forms.specs.declared.asked.Asked.{Asked}
+use Rattle.call_forms.specs.declared.forms.Answer.{Answer}
+use Rattle.invocations.specs.declared.invocation.Invocation.{Invocation}
+use Rattle.service_core.specs.Settings.{Settings, HasNames}
 use Rattle.service_core.specs.World.{World, IsValid}
 use Rattle.service_core.specs.Step.{Step, moment_of}
 use Rattle.service_core.specs.History.{Entry, Leads, IsLegal, IsTimed}
@@ -14,18 +14,18 @@ pub record HasStep (s : Settings) (w : World) (moment : ℤ) (asked : Asked) : T
   pub answer : Answer
   pub step : Step s w moment asked after answer
 
-abbrev pub StepsAreThere : Type 0
-StepsAreThere = (s : Settings) (w : World) (moment : ℤ) (asked : Asked) → HasStep s w moment asked
-
 -- And to one world alone, with one answer.
 abbrev pub StepsAreUnique : Type 0
 StepsAreUnique =
     (s : Settings) (w : World) (moment : ℤ) (asked : Asked) (v : World) (r : Answer) (x : World) (q : Answer)
     → Step s w moment asked v r → Step s w moment asked x q → (v ≡ x) × (r ≡ q)
 
--- A history from a valid world leads to a valid one. So no two invocations ever have one id.
+-- A history from a valid world leads to a valid one, where the names of users have their form. So no two invocations ever
+-- have one id.
 abbrev pub LegalKeepsValid : Type 0
-LegalKeepsValid = (s : Settings) (w : World) (h : List Entry) (v : World) → IsLegal s w h v → IsValid w → IsValid v
+LegalKeepsValid =
+    (s : Settings) (w : World) (h : List Entry) (v : World)
+    → HasNames s → IsLegal s w h v → IsValid w → IsValid v
 
 -- A history takes no invocation away and alters none: it adds some behind those that were there.
 abbrev pub RowsStay : Type 0

@@ -1,11 +1,12 @@
-pub mod ReplyBytes
 pub mod Settings
-pub mod Rules
-pub mod Requests
-pub mod Replies
 pub mod World
+pub mod Broken
+pub mod Answers
 pub mod Step
 pub mod History
 pub mod CoreState
+pub mod Understood
 pub mod Plans
 pub mod Laws
+pub mod Breaches
+pub mod NewRows

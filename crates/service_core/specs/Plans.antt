@@ -1,31 +1,27 @@
 -- What a request is prepared to.
 use Rattle.std.specs.Prelude.{◌≡◌, ℕ, ℤ, ◌<◌}
-use Rattle.service_core.specs.Settings.{Settings}
-use Rattle.service_core.specs.declared.asked.Asked.{Asked}
-use Rattle.service_core.specs.declared.requests.Request.{Request}
+use Rattle.call_forms.specs.declared.asked.Asked.{Asked}
+use Rattle.message_forms.specs.declared.requests.Request.{Request}
 use Rattle.service_core.specs.declared.plan.Prepared.{Prepared}
 use Rattle.service_core.specs.declared.plan.Prepared.TheVariants.{Refused, Change}
-use Rattle.service_core.specs.declared.world.Judged.{Judged}
-use Rattle.service_core.specs.World.{World, IsValid}
+use Rattle.service_core.specs.Settings.{Settings}
+use Rattle.service_core.specs.World.{World, IsValid, with_row}
 use Rattle.service_core.specs.CoreState.{CoreState, PlanState}
 use Rattle.service_core.specs.Step.{IsAccepted, Refuses, acted, reply_to}
 
--- What is found of a request: that it breaks a rule, or that it asks for this and breaks none.
-abbrev pub IsJudged : Settings → World → ℤ → Asked → Judged → Type 0
-IsJudged s w moment asked (Judged.Refused answer) = Refuses s w moment asked w answer
-IsJudged s w moment asked (Judged.Accepted request) = IsAccepted s w moment asked request
-
--- The plan acts on what the request asks for, and gives the reply to it.
-pub record IsPlanOf (s : Settings) (w : World) (moment : ℤ) (asked : Asked) (plan : PlanState) : Type 0 where
-  pub accepted : IsAccepted s w moment asked plan.request
-  pub moment_is : plan.moment ≡ moment
-  pub answer_is : plan.answer ≡ reply_to w moment plan.request
-
 -- the world after the plan
 abbrev pub planned : World → PlanState → World
-planned w plan = acted w plan.moment plan.request
+planned w plan = with_row w plan.row
 
--- The plan fits the core: it was prepared for its world, and there is room.
+-- The plan does what a caller asks for and is granted, and gives the reply to it.
+pub record IsPlanOf (s : Settings) (w : World) (moment : ℤ) (asked : Asked) (plan : PlanState) : Type 0 where
+  pub caller : ℕ
+  pub request : Request
+  pub accepted : IsAccepted s w moment asked caller request
+  pub planned_is : planned w plan ≡ acted s w moment caller request
+  pub answer_is : plan.answer ≡ reply_to s w moment caller request
+
+-- The plan fits the core: the world after it is a valid one, and there is room.
 pub record Fits (core : CoreState) (plan : PlanState) : Type 0 where
   pub valid : IsValid (planned core.world plan)
   pub room : 0 < core.spare

@@ -1,16 +1,18 @@
 -- What the service does with one request.
-use Rattle.std.specs.Prelude.{◌≡◌, ◌⊎◌, ℕ, ◌≤◌, ◌==◌, if◌then◌else◌, ℤ, pos, List, ◌++◌, codes}
+use Rattle.std.specs.Prelude.{◌≡◌, ◌⊎◌, ℕ, ℤ, pos}
 use Rattle.std.specs.Int.{int_min, int_max}
-use Rattle.service_core.specs.Settings.{Settings}
-use Rattle.service_core.specs.declared.asked.Asked.{Asked}
-use Rattle.service_core.specs.declared.forms.Answer.{Answer}
-use Rattle.service_core.specs.declared.forms.Refusal.{Refusal}
-use Rattle.service_core.specs.declared.requests.Request.{Request}
-use Rattle.service_core.specs.declared.requests.Request.TheVariants.{CreateInvocation}
-use Rattle.service_core.specs.World.{World, HasId, new_row, with_row, latest_call}
-use Rattle.service_core.specs.Requests.{Asks, AsksNothing}
-use Rattle.service_core.specs.Rules.{refusal_answer}
-use Rattle.service_core.specs.Replies.{invocation_answer}
+use Rattle.permissions.specs.Hash.{token_text}
+use Rattle.invocations.specs.declared.invocation.Invocation.{Invocation}
+use Rattle.call_forms.specs.declared.asked.Asked.{Asked}
+use Rattle.call_forms.specs.declared.forms.Answer.{Answer}
+use Rattle.call_forms.specs.declared.forms.Refusal.{Refusal}
+use Rattle.call_forms.specs.Rules.{refusal_answer}
+use Rattle.message_forms.specs.declared.requests.Request.{Request}
+use Rattle.message_forms.specs.declared.requests.Request.TheVariants.{CreateInvocation}
+use Rattle.service_core.specs.Settings.{Settings, secret_of, caller_name}
+use Rattle.service_core.specs.World.{World, new_row, with_row, latest_call}
+use Rattle.service_core.specs.Broken.{Wants, Broken, IsFirst, IsUnbroken}
+use Rattle.service_core.specs.Answers.{created_answer}
 
 -- The moment of a call: what the clock says, brought into the years from 1970 to 9998, and no earlier than the last change.
 abbrev pub moment_of : ℤ → ℤ → ℤ
@@ -20,50 +22,29 @@ moment_of last now = int_max last (int_max (pos 0) (int_min now latest_call))
 abbrev pub Advances : World → ℤ → World → Type 0
 Advances w moment after = after ≡ w
 
-abbrev pub body_not_built : Refusal
-body_not_built = record { rule = 6; subject = codes "body NotBuilt" }
-
-abbrev pub id_taken : List ℕ → Refusal
-id_taken id = record { rule = 19; subject = codes "invocations/" ++ id }
-
--- Rule 6: the body is of no form that is read as yet.
-abbrev pub BreaksForm : Asked → Refusal → Type 0
-BreaksForm asked r = AsksNothing asked.body × (r ≡ body_not_built)
-
--- Rule 19: the id that the request gives is an invocation's already.
-abbrev pub Takes : World → Request → Refusal → Type 0
-Takes w (CreateInvocation id realm) r = HasId w id × (r ≡ id_taken id)
-
-pub record BreaksTaken (w : World) (asked : Asked) (r : Refusal) : Type 0 where
-  pub request : Request
-  pub asks : Asks asked.body request
-  pub takes : Takes w request r
-
--- The request breaks the rule of this refusal, by the rule's own words. Each rule has one.
-abbrev pub Broken : Settings → World → ℤ → Asked → Refusal → Type 0
-Broken s w moment asked r = BreaksForm asked r ⊎ BreaksTaken w asked r
-
--- The rules that one walk over a body's fields asks, 4 to 6, stand at one place of the order.
-abbrev pub place_in_order : ℕ → ℕ
-place_in_order number = if number == 5 then 4 else if number == 6 then 4 else number
-
 -- What is refused is the broken rule that comes first.
-pub record IsRefusal (s : Settings) (w : World) (moment : ℤ) (asked : Asked) (r : Refusal) : Type 0 where
-  pub broken : Broken s w moment asked r
-  pub first : (other : Refusal) → Broken s w moment asked other → place_in_order r.rule ≤ place_in_order other.rule
+abbrev pub IsRefusal : Settings → World → ℤ → Asked → Refusal → Type 0
+IsRefusal s w moment asked r = IsFirst (Broken s w moment asked) r
 
--- The request breaks no rule, and asks for this.
-pub record IsAccepted (s : Settings) (w : World) (moment : ℤ) (asked : Asked) (request : Request) : Type 0 where
-  pub asks : Asks asked.body request
-  pub unbroken : (r : Refusal) → ¬ (Broken s w moment asked r)
+-- The request breaks no rule, and this caller asks for this.
+pub record IsAccepted (s : Settings) (w : World) (moment : ℤ) (asked : Asked) (caller : ℕ) (request : Request) : Type 0 where
+  pub wants : Wants s asked caller request
+  pub unbroken : IsUnbroken (Broken s w moment asked)
+
+-- the invocation that a request makes
+abbrev pub row_made : Settings → ℤ → ℕ → Request → Invocation
+row_made s moment caller (CreateInvocation id realm deadline tags) =
+    new_row moment (caller_name s caller) id realm deadline tags
 
 -- What an accepted request changes.
-abbrev pub acted : World → ℤ → Request → World
-acted w moment (CreateInvocation id realm) = with_row w (new_row moment id realm)
+abbrev pub acted : Settings → World → ℤ → ℕ → Request → World
+acted s w moment caller (CreateInvocation id realm deadline tags) =
+    with_row w (row_made s moment caller (CreateInvocation id realm deadline tags))
 
--- The reply to it.
-abbrev pub reply_to : World → ℤ → Request → Answer
-reply_to w moment (CreateInvocation id realm) = invocation_answer (new_row moment id realm)
+-- The reply to it: the invocation, and the update token with which its caller may change it.
+abbrev pub reply_to : Settings → World → ℤ → ℕ → Request → Answer
+reply_to s w moment caller (CreateInvocation id realm deadline tags) =
+    created_answer (token_text (secret_of s) id) (row_made s moment caller (CreateInvocation id realm deadline tags))
 
 -- A refused request changes nothing.
 pub record Refuses (s : Settings) (w : World) (moment : ℤ) (asked : Asked) (after : World) (answer : Answer) : Type 0 where
@@ -74,10 +55,11 @@ pub record Refuses (s : Settings) (w : World) (moment : ℤ) (asked : Asked) (af
 
 -- An accepted request is acted on, and answered.
 pub record Performs (s : Settings) (w : World) (moment : ℤ) (asked : Asked) (after : World) (answer : Answer) : Type 0 where
+  pub caller : ℕ
   pub request : Request
-  pub accepted : IsAccepted s w moment asked request
-  pub acted_on : after ≡ acted w moment request
-  pub answer_is : answer ≡ reply_to w moment request
+  pub accepted : IsAccepted s w moment asked caller request
+  pub acted_on : after ≡ acted s w moment caller request
+  pub answer_is : answer ≡ reply_to s w moment caller request
 
 -- At this moment this request leads from the world w to the world after, with this answer: first due deadlines are carried
 -- out, and then the request is judged in the world between.

@@ -1,12 +1,28 @@
-//! Laws of the definitions that the contracts cite. These functions do nothing: what each of them ensures is the law.
-ghost use Rattle.service_core.specs.Laws.{RowsStay, StepsAreThere, StepsAreUnique, LegalKeepsValid, TimedIsLegal, TimedGoesOn};
+//! Laws of the definitions that the contracts cite. These functions change nothing: what each of them ensures is the law.
+ghost use Rattle.std.specs.Prelude.{◌<◌, length};
+ghost use Rattle.call_forms.specs.declared.asked.Asked.{Asked};
+ghost use Rattle.service_core.specs.World.{IsCallMoment};
+ghost use Rattle.service_core.specs.Broken.{Wants};
+ghost use Rattle.service_core.specs.Laws.{HasStep, RowsStay, StepsAreUnique, LegalKeepsValid, TimedIsLegal, TimedGoesOn};
 
-/// A request at a moment leads from a world to some world, with some answer.
-pub fn a_step_is_there()
-    ensures { StepsAreThere }
-{}
+use crate::world::Core;
+use message_forms::Request;
+use names_realms::Moment;
+use permissions::CallerId;
 
-/// And to one world alone, with one answer.
+/// What a caller asks for leads from the world of a core, at a moment, to some world, with some
+/// answer.
+pub fn a_step_is_there(core: &Core, moment: Moment, caller: CallerId, request: &Request)
+    // The caller is one of the core's policy, and the moment one that a call may have.
+    requires there { caller < length core.now.settings.policy.users }
+    requires moment { IsCallMoment moment }
+    ensures { (asked : Asked) → Wants core.now.settings asked caller request.now
+        → HasStep core.now.settings core.now.world moment asked }
+{
+    let _ = core.judge(moment, caller, request);
+}
+
+/// A request at a moment leads from a world to one world alone, with one answer.
 pub fn one_step()
     ensures { StepsAreUnique }
 {}

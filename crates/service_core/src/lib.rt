@@ -1,19 +1,17 @@
 //! The service itself: what it holds, and what one request changes and answers.
 #![tactic(auto)]
 
-pub mod asked;
-pub mod forms;
+mod breaches;
+mod judging;
 pub mod laws;
-pub mod plan;
-pub mod refusals;
-pub mod replies;
-pub mod requests;
-pub mod rows;
-pub mod world;
-
-pub use asked::Asked;
-pub use requests::Request;
-pub use world::Core;
-
+mod new_rows;
+mod plan;
+mod reading;
+mod refusals;
 #[cfg(test)]
 mod tests;
+mod world;
+
+pub use plan::{Plan, Prepared};
+pub use reading::{Call, Understood, understand};
+pub use world::Core;

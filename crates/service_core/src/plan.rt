@@ -1,13 +1,11 @@
 //! What an accepted request will change.
 ghost use Rattle.std.specs.Prelude.{◌≡◌};
-ghost use Rattle.service_core.specs.World.{new_row};
-ghost use Rattle.service_core.specs.declared.requests.Request.TheVariants.{CreateInvocation};
 
-use crate::forms::Answer;
-use crate::rows::Invocation;
+use call_forms::Answer;
+use invocations::Invocation;
 use std::marker::Model;
 
-/// A change that is ready to be made: what it acts on, and the answer to the request.
+/// A change that is ready to be made: the invocation that it adds, and the answer that it gives.
 #[derive(Drop)]
 pub struct Plan {
     row: Invocation,
@@ -15,39 +13,24 @@ pub struct Plan {
 }
 
 impl Model for Plan {
-    ghost use Rattle.std.specs.Prelude.{◌≡◌};
-    ghost use Rattle.service_core.specs.World.{new_row, IsCallMoment};
     ghost use Rattle.service_core.specs.CoreState.{PlanState};
-    ghost use Rattle.service_core.specs.declared.requests.Request.TheVariants.{CreateInvocation};
 
     ghost Value = { PlanState };
 
-    ghost view = { λ p. record {
-      request = CreateInvocation p.row.id p.row.realm;
-      moment = p.row.created;
-      answer = p.answer;
-    } };
-
-    ghost invariant = { λ p. p.row ≡ new_row p.row.created p.row.id p.row.realm };
+    ghost view = { λ p. record { row = p.row; answer = p.answer } };
 }
 
 impl Plan {
     /// The plan that adds a new invocation.
     pub(crate) fn new(row: Invocation, answer: Answer) -> Plan
-        requires { row ≡ new_row row.created row.id row.realm }
-        ensures { result ≡ record {
-          request = CreateInvocation row.id row.realm;
-          moment = row.created;
-          answer = answer;
-        } }
+        ensures { result ≡ record { row = row; answer = answer } }
     {
         Plan { row, answer }
     }
 
     /// The new invocation and the answer.
     pub(crate) fn into_parts(self) -> (Invocation, Answer)
-        ensures row { CreateInvocation result.0.id result.0.realm ≡ self.request }
-        ensures new { result.0 ≡ new_row self.moment result.0.id result.0.realm }
+        ensures row { result.0 ≡ self.row }
         ensures answer { result.1 ≡ self.answer }
     {
         (self.row, self.answer)

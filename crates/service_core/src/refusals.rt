@@ -1,105 +1,70 @@
-//! Refusals and their answers.
-ghost use Rattle.std.specs.Prelude.{◌≡◌, ◌++◌, IfOk, OnOk};
-ghost use Rattle.service_core.specs.Rules.{IsRuleNumber, rule_of, subject_part, refusal_answer};
-ghost use Rattle.service_core.specs.Step.{body_not_built, id_taken};
+//! Refusals that a request earns by itself.
+ghost use Rattle.std.specs.Prelude.{◌≡◌, Some, [], IfOk};
+ghost use Rattle.call_forms.specs.Rules.{IsRuleNumber, refusal_answer};
+ghost use Rattle.message_forms.specs.Refusals.{refusal_of as refusal_of_fault};
+ghost use Rattle.call_forms.specs.declared.forms.Refusal.{Refusal};
+ghost use Rattle.service_core.specs.Broken.{refusal, target_of};
 
-use crate::forms::{Answer, Refusal};
+use call_forms::{Answer, Asked, Refusal, write_refusal};
 use lists::Bytes;
-use names_realms::InvocationId;
+use message_forms::{FormFault, refusal_of};
 use std::alloc::{AllocError, Global};
 
-/// The rule that each field has a value that is read.
-const BAD_VALUE: u8 = 6;
+/// The rule that the method is one that is served.
+const NO_METHOD: u8 = 1;
 
-/// The rule that a name is free.
-const TAKEN: u8 = 19;
+/// The rule that the bearer token is a user's.
+const NO_CALLER: u8 = 2;
 
-/// The name, the HTTP status and the gRPC code of the rule of a number, from 1 to 21.
-fn rule_of(number: u8) -> (&'static str, u16, u8)
-    requires { IsRuleNumber number }
-    ensures name { result.0.now ≡ (rule_of number).name }
-    ensures status { result.1 ≡ (rule_of number).status }
-    ensures code { result.2 ≡ (rule_of number).code }
+/// The answer by a rule, with what breaks it.
+pub(crate) fn refused(alloc: Global, rule: u8, subject: Vec<u8>) -> Result<Answer, AllocError>
+    requires { IsRuleNumber rule }
+    ensures { IfOk result (λ answer. answer ≡ refusal_answer (refusal rule subject.items)) }
 {
-    match number {
-        1 => ("NoMethod", 501, 12),
-        2 => ("NoCaller", 401, 16),
-        3 => ("NotJson", 400, 3),
-        4 => ("WrongKind", 400, 3),
-        5 => ("Missing", 400, 3),
-        6 => ("BadValue", 400, 3),
-        7 => ("RequestIdReused", 400, 9),
-        8 => ("NotFound", 404, 5),
-        9 => ("NoUpdateToken", 401, 16),
-        10 => ("BadUpdateToken", 403, 7),
-        11 => ("Denied", 403, 7),
-        12 => ("NotActive", 400, 9),
-        13 => ("DeadlineRange", 400, 3),
-        14 => ("Itself", 400, 3),
-        15 => ("TooMany", 400, 3),
-        16 => ("Repeated", 400, 3),
-        17 => ("SizeWrong", 400, 3),
-        18 => ("HashWrong", 400, 3),
-        19 => ("Taken", 409, 6),
-        20 => ("TableFull", 429, 8),
-        _ => ("StoreFull", 429, 8),
+    let subject = Bytes::new(subject);
+    write_refusal(alloc, &Refusal { rule, subject })
+}
+
+/// What a request aims at.
+fn target_of(alloc: Global, asked: &Asked) -> Result<Vec<u8>, AllocError>
+    ensures { IfOk result (λ target. target.items ≡ target_of asked.now) }
+{
+    let method = asked.method.as_slice();
+    let service = asked.service.as_slice();
+    if service.is_empty() {
+        return Vec::from_slice(alloc, method);
     }
+    let mut target = Vec::from_slice(alloc, b"/prpc/")?;
+    target.extend_from_slice(service)?;
+    target.push(b'/')?;
+    target.extend_from_slice(method)?;
+    Ok(target)
 }
 
-/// Appends the part of a text that names what breaks the rule.
-fn add_subject(text: &mut Vec<u8>, subject: &[u8]) -> Result<(), AllocError>
-    ensures { OnOk result (text.new.items ≡ text.old.items ++ subject_part subject.now) }
+/// The answer to a method that isn't there.
+pub(crate) fn no_method(alloc: Global, asked: &Asked) -> Result<Answer, AllocError>
+    ensures { IfOk result (λ answer. answer ≡ refusal_answer (refusal 1 (target_of asked.now))) }
 {
-    if subject.is_empty() {
-        return Ok(());
-    }
-    text.extend_from_slice(b": ")?;
-    text.extend_from_slice(subject)
+    refused(alloc, NO_METHOD, target_of(alloc, asked)?)
 }
 
-/// The answer of a refusal. `Err` where there is no memory for its text.
-pub fn write_refusal(alloc: Global, refusal: &Refusal) -> Result<Answer, AllocError>
-    requires { IsRuleNumber refusal.now.rule }
-    ensures { IfOk result (λ answer. answer ≡ refusal_answer refusal.now) }
+/// The answer to a request of nobody's.
+pub(crate) fn no_caller(alloc: Global) -> Result<Answer, AllocError>
+    ensures { IfOk result (λ answer. answer ≡ refusal_answer (refusal 2 [])) }
 {
-    let rule = refusal.rule;
-    let (name, status, code) = rule_of(rule);
-    let mut text = format!(in alloc; "{rule} {name}")?.into_bytes();
-    add_subject(&mut text, refusal.subject.as_slice())?;
-    text.push(b'\n')?;
-    Ok(Answer {
-        status,
-        code,
-        token: None,
-        body: Bytes::new(text),
-    })
+    refused(alloc, NO_CALLER, Vec::new(alloc))
 }
 
-/// The answer to a body of a form that isn't read as yet.
-pub(crate) fn not_built(alloc: Global) -> Result<Answer, AllocError>
-    ensures { IfOk result (λ answer. answer ≡ refusal_answer body_not_built) }
+/// The answer to a body that isn't read.
+pub(crate) fn bad_body(
+    alloc: Global,
+    asked: &Asked,
+    fault: &FormFault,
+) -> Result<Answer, AllocError>
+    ensures { IfOk result (λ answer. (r : Refusal)
+        × (refusal_of_fault (target_of asked.now) fault.now ≡ Some r) × (answer ≡ refusal_answer r)) }
 {
-    let subject = Bytes::new(String::from_str(alloc, "body NotBuilt")?.into_bytes());
-    write_refusal(
-        alloc,
-        &Refusal {
-            rule: BAD_VALUE,
-            subject,
-        },
-    )
-}
-
-/// The answer to a request for an id that is taken.
-pub(crate) fn taken(alloc: Global, id: &InvocationId) -> Result<Answer, AllocError>
-    ensures { IfOk result (λ answer. answer ≡ refusal_answer (id_taken id.now)) }
-{
-    let id = id.as_str();
-    let subject = Bytes::new(format!(in alloc; "invocations/{id}")?.into_bytes());
-    write_refusal(
-        alloc,
-        &Refusal {
-            rule: TAKEN,
-            subject,
-        },
-    )
+    let target = target_of(alloc, asked)?;
+    let refusal = refusal_of(alloc, target.as_slice(), fault)?;
+    write_refusal(alloc, &refusal)
 }

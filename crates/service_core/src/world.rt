@@ -1,65 +1,71 @@
 //! The core: the world in memory, and its steps.
-ghost use Rattle.std.specs.Prelude.{◌≡◌, ◌≤ℤ◌, ◌+◌, ◌<◌, ◌≤◌, ◌↔◌, pos, IfOk, OnOk, IsTrue, Some, Contains, map};
+ghost use Rattle.std.specs.Prelude.{◌≡◌, ◌≤ℤ◌, ◌+◌, ◌<◌, ◌≤◌, pos, IfOk, OnOk, Some, length};
 ghost use Rattle.std.specs.Int.{int_min, int_max};
-ghost use Rattle.service_core.specs.Settings.{open_to_all};
-ghost use Rattle.service_core.specs.World.{empty_world, HasId, IsCallMoment, IsValid, latest_call};
-ghost use Rattle.service_core.specs.Step.{moment_of, reply_to};
-ghost use Rattle.service_core.specs.Plans.{IsJudged, IsPrepared, Fits, planned};
+ghost use Rattle.permissions.specs.Faults.{IsSound};
+ghost use Rattle.invocations.specs.Faults.{CanAdd};
+ghost use Rattle.service_core.specs.Settings.{HasNames};
+ghost use Rattle.service_core.specs.World.{empty_world, IsCallMoment, IsValid, latest_call};
+ghost use Rattle.service_core.specs.Broken.{BrokenIn};
+ghost use Rattle.service_core.specs.Answers.{created_answer};
+ghost use Rattle.service_core.specs.Step.{moment_of, row_made};
+ghost use Rattle.service_core.specs.Understood.{IsCallOf, token_id};
+ghost use Rattle.call_forms.specs.declared.asked.Asked.{Asked};
+ghost use Rattle.service_core.specs.Breaches.{Finds};
+ghost use Rattle.service_core.specs.Plans.{IsPrepared, Fits, planned};
 ghost use Rattle.service_core.specs.History.{Serves};
 
-use crate::asked::Asked;
-use crate::forms::{Answer, Standin, Told};
+use crate::breaches::Breach;
+use crate::judging::judge;
+use crate::new_rows::{NewRow, creator_of, deadline_from};
 use crate::plan::{Plan, Prepared};
-use crate::refusals::{not_built, taken};
-use crate::replies::invocation_answer;
-use crate::requests::{Request, read_request};
-use crate::rows::Invocation;
+use crate::reading::{Call, Understood, understand};
+use call_forms::{Answer, Asked, Standin, Told};
+use invocations::{AddFault, Invocation, Table};
+use message_forms::Request;
 use names_realms::{InvocationId, Moment};
+use permissions::{CallerId, Policy};
 use std::alloc::{AllocError, Global};
 use std::marker::Model;
 
 /// 9999-01-01T00:00:00Z
 const LATEST_CALL: i64 = 253_370_764_800_000_000;
 
-/// What is found of a request.
-#[derive(Drop)]
-enum Judged {
-    Refused(Answer),
-    Accepted(Request),
-}
-
-/// All that the service holds.
+/// All that the service holds, under a policy.
 #[derive(Drop)]
 pub struct Core {
-    rows: Vec<Invocation>,
+    policy: Policy,
+    table: Table,
     last: Moment,
 }
 
 impl Model for Core {
-    ghost use Rattle.std.specs.Prelude.{◌-◌, vec_len, vec_capacity};
-    ghost use Rattle.service_core.specs.Settings.{open_to_all};
+    ghost use Rattle.service_core.specs.Settings.{HasNames};
     ghost use Rattle.service_core.specs.World.{World, IsValid};
     ghost use Rattle.service_core.specs.CoreState.{CoreState};
 
     ghost Value = { CoreState };
 
     ghost view = { λ c. record {
-      settings = open_to_all;
-      world = record { invocations = c.rows.items; last = c.last };
-      spare = vec_capacity c.rows - vec_len c.rows;
+      settings = record { policy = c.policy };
+      world = record { invocations = c.table.rows; last = c.last };
+      spare = c.table.spare;
     } };
 
-    ghost invariant = { λ c. IsValid (record { invocations = c.rows.items; last = c.last }) };
+    ghost invariant = { λ c. IsValid (record { invocations = c.table.rows; last = c.last })
+        × HasNames (record { policy = c.policy }) };
 }
 
 impl Core {
-    /// The empty world.
-    pub fn new(alloc: Global) -> Result<Core, AllocError>
+    /// The empty world under a policy without a fault, as `Policy::from_toml` reads it. `Err` where
+    /// there is no memory.
+    pub fn new(alloc: Global, policy: Policy) -> Result<Core, AllocError>
+        requires { IsSound policy }
         ensures world { IfOk result (λ core. core.world ≡ empty_world) }
-        ensures settings { IfOk result (λ core. core.settings ≡ open_to_all) }
+        ensures settings { IfOk result (λ core. core.settings.policy ≡ policy) }
     {
         Ok(Core {
-            rows: Vec::new(alloc),
+            policy,
+            table: Table::new(alloc)?,
             last: Moment::new(0),
         })
     }
@@ -69,11 +75,11 @@ impl Core {
         ensures value { result.now ≡ self.now.world.invocations }
         ensures valid { IsValid self.now.world }
     {
-        self.rows.as_slice()
+        self.table.rows()
     }
 
-    /// The moment of a call: what the clock says, in microseconds since 1970, brought into the years from 1970 to 9998,
-    /// and no earlier than the last change.
+    /// The moment of a call: what the clock says, in microseconds since 1970, brought into the
+    /// years from 1970 to 9998, and no earlier than the last change.
     pub fn moment_of(&self, now: i64) -> Moment
         ensures value { result ≡ moment_of self.now.world.last now }
         ensures in_range { IsCallMoment result }
@@ -82,42 +88,84 @@ impl Core {
         Moment::new(later_of(within_years(now), self.last.micros()))
     }
 
-    /// The answer of the first rule that a request breaks, or what it asks for.
-    fn judge(&self, alloc: Global, moment: Moment, asked: &Asked) -> Result<Judged, AllocError>
-        ensures judged { IfOk result (IsJudged self.now.settings self.now.world moment asked.now) }
+    /// The first of the rules from 11 on that a call breaks, if any. It takes no memory.
+    pub(crate) fn judge<'r>(
+        &self,
+        moment: Moment,
+        caller: CallerId,
+        request: &'r Request,
+    ) -> Option<Breach<'r>>
+        requires there { caller < length self.now.settings.policy.users }
+        requires moment { IsCallMoment moment }
+        ensures judged { Finds
+            (BrokenIn self.now.settings self.now.world moment caller request.now) result }
         ensures valid { IsValid self.now.world }
+        ensures names { HasNames self.now.settings }
     {
-        let _ = moment;
-        let _ = &self.rows;
-        let Some(request) = read_request(alloc, asked.body.as_slice())? else {
-            return Ok(Judged::Refused(not_built(alloc)?));
-        };
-        if has_id(self.rows.as_slice(), request.id()) {
-            return Ok(Judged::Refused(taken(alloc, request.id())?));
-        }
-        Ok(Judged::Accepted(request))
+        judge(&self.policy, &self.table, moment, caller, request)
     }
 
-    /// The plan of what is asked for, with room for it.
-    fn plan(&mut self, alloc: Global, moment: Moment, request: Request) -> Result<Plan, AllocError>
-        requires { IsCallMoment moment }
+    /// The plan of what a caller asks for, with room for it.
+    fn plan(&mut self, alloc: Global, moment: Moment, call: Call) -> Result<Plan, AllocError>
+        requires there { call.caller < length self.old.settings.policy.users }
+        requires moment { IsCallMoment moment }
+        requires can { CanAdd self.old.world.invocations (token_id call.request) }
         ensures world { self.new.world ≡ self.old.world }
         ensures settings { self.new.settings ≡ self.old.settings }
         ensures spare { self.old.spare ≤ self.new.spare }
         ensures room { OnOk result (0 < self.new.spare) }
-        ensures request { IfOk result (λ plan. plan.request ≡ request) }
-        ensures moment { IfOk result (λ plan. plan.moment ≡ moment) }
-        ensures answer { IfOk result (λ plan. plan.answer ≡ reply_to self.old.world moment request) }
+        ensures row { IfOk result (λ plan.
+            plan.row ≡ row_made self.old.settings moment call.caller call.request) }
+        ensures answer { IfOk result (λ plan. plan.answer ≡ created_answer call.token plan.row) }
     {
-        self.rows.reserve(1)?;
-        let Request::CreateInvocation { id, realm } = request;
-        let row = Invocation::new(moment, id, realm);
-        let answer = invocation_answer(alloc, &row)?;
-        Ok(Plan::new(row, answer))
+        let Call {
+            caller,
+            request,
+            token,
+        } = call;
+        let Request::CreateInvocation {
+            id,
+            realm,
+            deadline,
+            tags,
+        } = request;
+        make_room(&mut self.table, alloc, &id)?;
+        let new = NewRow {
+            id,
+            realm,
+            creator: creator_of(alloc, &self.policy, caller)?,
+            created: moment,
+            deadline: deadline_from(moment, deadline),
+            tags,
+        };
+        let answer = new.answer(alloc, token)?;
+        Ok(Plan::new(new.into_row(alloc)?, answer))
     }
 
-    /// What a request comes to at this moment. It takes all the memory that the change needs, and changes nothing yet.
-    /// `Err` where there is no memory.
+    /// What a caller's request comes to at this moment.
+    fn prepare_call(
+        &mut self,
+        alloc: Global,
+        moment: Moment,
+        call: Call,
+    ) -> Result<Prepared, AllocError>
+        requires there { call.caller < length self.old.settings.policy.users }
+        requires in_range { IsCallMoment moment }
+        requires later { self.old.world.last ≤ℤ moment }
+        ensures world { self.new.world ≡ self.old.world }
+        ensures settings { self.new.settings ≡ self.old.settings }
+        ensures spare { self.old.spare ≤ self.new.spare }
+        ensures prepared { (asked : Asked) → IsCallOf self.old.settings asked call
+            → IfOk result (IsPrepared self.new moment asked) }
+    {
+        if let Some(breach) = self.judge(moment, call.caller, &call.request) {
+            return Ok(Prepared::Refused(breach.answer(alloc)?));
+        }
+        Ok(Prepared::Change(self.plan(alloc, moment, call)?))
+    }
+
+    /// What a request comes to at this moment. It takes all the memory that the change needs, and
+    /// changes nothing yet. `Err` where there is no memory.
     pub fn prepare(
         &mut self,
         alloc: Global,
@@ -131,9 +179,9 @@ impl Core {
         ensures spare { self.old.spare ≤ self.new.spare }
         ensures prepared { IfOk result (IsPrepared self.new moment asked.now) }
     {
-        match self.judge(alloc, moment, asked)? {
-            Judged::Refused(answer) => Ok(Prepared::Refused(answer)),
-            Judged::Accepted(request) => Ok(Prepared::Change(self.plan(alloc, moment, request)?)),
+        match understand(alloc, &self.policy, asked)? {
+            Understood::Refused(answer) => Ok(Prepared::Refused(answer)),
+            Understood::Wanted(call) => self.prepare_call(alloc, moment, call),
         }
     }
 
@@ -142,12 +190,12 @@ impl Core {
         requires { Fits self.old plan }
         ensures world { self.new.world ≡ planned self.old.world plan }
         ensures settings { self.new.settings ≡ self.old.settings }
-        ensures spare { self.new.spare + 1 ≡ self.old.spare }
+        ensures spare { self.old.spare ≤ self.new.spare + 1 }
         ensures answer { result ≡ Some plan.answer }
     {
         let (row, answer) = plan.into_parts();
         self.last = row.created;
-        self.rows.push_reserved(row);
+        self.table.add_prepared(row);
         Some(answer)
     }
 
@@ -164,10 +212,11 @@ impl Core {
         }
     }
 
-    /// Serves a request at the moment that this answer of the clock makes, in microseconds since 1970. Where there is no
-    /// memory, the stand-in for it is told, and nothing is changed.
+    /// Serves a request at the moment that this answer of the clock makes, in microseconds since
+    /// 1970. Where there is no memory, the stand-in for it is told, and nothing is changed.
     pub fn serve(&mut self, alloc: Global, now: i64, asked: &Asked) -> Told
-        ensures serves { Serves self.old.settings self.old.world now asked.now result self.new.world }
+        ensures serves { Serves self.old.settings self.old.world now asked.now result
+            self.new.world }
         ensures settings { self.new.settings ≡ self.old.settings }
     {
         let moment = self.moment_of(now);
@@ -179,16 +228,18 @@ impl Core {
     }
 }
 
-/// Whether one of the rows has this id.
-fn has_id(rows: &[Invocation], id: &InvocationId) -> bool
-    ensures { IsTrue result ↔ Contains (map (λ row. row.id) rows.now) id.now }
+/// Makes room for a row with an id that can be added.
+fn make_room(table: &mut Table, alloc: Global, id: &InvocationId) -> Result<(), AllocError>
+    requires { CanAdd table.old.rows id.now }
+    ensures rows { table.new.rows ≡ table.old.rows }
+    ensures spare { table.old.spare ≤ table.new.spare }
+    ensures room { OnOk result (0 < table.new.spare) }
 {
-    for row in rows {
-        if row.id.same_as(id) {
-            return true;
-        }
+    match table.prepare_add(alloc, id) {
+        Ok(()) => Ok(()),
+        Err(AddFault::Memory) => Err(AllocError),
+        Err(_) => unreachable!(),
     }
-    false
 }
 
 /// The clock's answer, brought into the years from 1970 to 9998.

@@ -1,5 +1,5 @@
 use Rattle.std.proofs.Common.{◌++◌, codes, ap, ◌∙◌}
-use Rattle.service_core.specs.ReplyBytes.{line}
+use Rattle.call_forms.specs.ReplyBytes.{line}
 use Rattle.http_wire.proofs.reply_head.put_type_line.Goals as goal
 
 pub returns-clause-items : goal.returns-clause-items

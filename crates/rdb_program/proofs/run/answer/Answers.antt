@@ -7,17 +7,20 @@ use Rattle.rdb_program.proofs.run.answer.Goals as goal
 
 -- The teller still holds the clock that it was made of, so what it leaves of it is the clock's.
 pub returns-clause-run : goal.returns-clause-run
-returns-clause-run g c = λ words are.
+returns-clause-run g c = λ words before after are accepts.
     let first = c.new-teller.result in
     let last = c.serve_connection.new.teller in
     let holds = c.serve_connection.ensures.teller_holds in
     let same : last.clock.ghost_name ≡ first.clock.ghost_name = cc in
-    let clock = c.clock-1.given.1 (sym c.new-teller.ensures.clock ∙ sym same) in (
-      are,
-      served _ _ _ _ (asked_so _ _ _ _ _
-          (λ es asked. history_from (λ clock. g.C.Clock.tells (g.C.Clock.state clock)) first.core.now last.core.now first.clock.now _ last.clock.now _ es
-          (ap (λ (k : CoreState). k.settings) c.new-teller.ensures.core_now ∙ c.in-Ok.ensures.settings)
+    let clock = c.clock-1.given.1 (sym c.new-teller.ensures.clock ∙ sym same) in
+    record {
+      words_are = are;
+      tables = _;
+      config = accepts;
+      served = served _ _ _ _ (asked_so _ _ _ _ _
+          (λ es asked. history_from (λ clock. g.C.Clock.tells (g.C.Clock.state clock)) _ first.core.now last.core.now first.clock.now _ last.clock.now _ es
+          (ap (λ (k : CoreState). k.settings.policy) c.new-teller.ensures.core_now ∙ c.in-Ok.ensures.settings)
           (ap (λ (k : CoreState). k.world) c.new-teller.ensures.core_now ∙ c.in-Ok.ensures.world)
           c.new-teller.ensures.clock_now (sym clock) (asked first [] (moves_nowhere _ _)))
-          c.serve_connection.ensures.connection),
-    )
+          c.serve_connection.ensures.connection);
+    }

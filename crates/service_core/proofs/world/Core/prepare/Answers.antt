@@ -1,23 +1,24 @@
-use Rattle.std.proofs.Common.{◌≤ℤ◌, sym, ap, ◌∙◌, subst}
-use Rattle.service_core.specs.Settings.{Settings}
-use Rattle.service_core.specs.World.{World, IsValid}
-use Rattle.service_core.specs.Step.{IsAccepted, reply_to}
-use Rattle.service_core.proofs.PlanLaws.{prepared_plan}
+use Rattle.std.proofs.Common.{subst}
+use Rattle.service_core.specs.CoreState.{CoreState}
+use Rattle.service_core.specs.Understood.{IsUnderstood}
+use Rattle.service_core.proofs.PolicyLaws.{caller_is_there}
+use Rattle.service_core.proofs.StepLaws.{refuses_alone}
 use Rattle.service_core.proofs.world.Core.prepare.Goals as goal
 
-pub returns-in_ok-plan-in-Accepted-clause-prepared :
-    goal.returns-in_ok-plan-in-Accepted-clause-prepared
-returns-in_ok-plan-in-Accepted-clause-prepared c =
-    let core = c.plan.new.self in
-    let moment = c.args.moment in
-    let asked = c.args.asked.now in
-    let request = c.in-Accepted.request in
-    let made = c.in_ok-plan-in-Accepted.ensures in
-    let world = sym c.plan.ensures.world in
-    let accepted = rw c.in-Accepted.is at c.in_ok-answer.ensures.judged in
-    let settled = subst (λ (s : Settings). IsAccepted s c.args.self.now.world moment asked request) (sym c.plan.ensures.settings) accepted in
-    prepared_plan core moment asked request c.in_ok-plan-in-Accepted.field-0
-    (subst IsValid world c.judge.ensures.valid) c.requires.in_range
-    (subst (λ (w : World). w.last ≤ℤ moment) world c.requires.later) made.room
-    (subst (λ (w : World). IsAccepted core.settings w moment asked request) world settled)
-    (record { request_is = made.request; moment_is = made.moment; answer_is = made.answer ∙ ap (λ (w : World). reply_to w moment request) world })
+pub prepare_call-requires-clause-there : goal.prepare_call-requires-clause-there
+prepare_call-requires-clause-there c =
+    let understood = subst (λ (core : CoreState). IsUnderstood core.settings c.args.asked.now c.in_ok-answer.field-0) c.self.view_is c.in_ok-answer.ensures in
+    let wanted = rw c.in-Wanted.is at understood in
+    caller_is_there c.args.self.now.settings c.args.asked.now.bearer c.in-Wanted.call.caller wanted.wants.caller_is
+
+pub returns-in-Refused-clause-prepared : goal.returns-in-Refused-clause-prepared
+returns-in-Refused-clause-prepared c =
+    let understood = subst (λ (core : CoreState). IsUnderstood core.settings c.args.asked.now c.in_ok-answer.field-0) c.self.view_is c.in_ok-answer.ensures in
+    let refused = rw c.in-Refused.is at understood in
+    refuses_alone c.args.self.now.settings c.args.self.now.world c.args.moment c.args.asked.now c.in-Refused.answer refused
+
+pub returns-in-Wanted-clause-prepared : goal.returns-in-Wanted-clause-prepared
+returns-in-Wanted-clause-prepared c =
+    let understood = subst (λ (core : CoreState). IsUnderstood core.settings c.args.asked.now c.in_ok-answer.field-0) c.self.view_is c.in_ok-answer.ensures in
+    let wanted = rw c.in-Wanted.is at understood in
+    c.prepare_call.ensures.prepared c.args.asked.now wanted

@@ -1,0 +1,51 @@
+#!/usr/bin/env python3
+"""Measures creations over one connection: 2,000 of them, and 20,000, by the built program.
+
+Prints the seconds of each and their ratio, which is 10 where the time is linear, and creations a second.
+"""
+
+import pathlib
+import subprocess
+import sys
+import tempfile
+import time
+
+TOP = pathlib.Path(__file__).resolve().parent.parent
+RDB = TOP / "rdb"
+COUNTS = (2_000, 20_000)
+TURNS = 3  # of each, the fastest counts
+ROUTE = "/prpc/luci.resultdb.v1.Recorder/CreateInvocation"
+
+
+def requests(count):
+    for number in range(count):
+        body = '{"invocationId":"u-%d","invocation":{"realm":"proj:ci","tags":[{"key":"builder","value":"linux-rel"}]}}' % number
+        yield f"POST {ROUTE} HTTP/1.1\r\nAuthorization: Bearer tok-a\r\nContent-Length: {len(body)}\r\n\r\n{body}".encode()
+
+
+def seconds(path, folder):
+    words = [RDB, "answer", "--config", TOP / "examples/farm.toml", "--journal", f"{folder}/farm.journal"]
+    with open(path, "rb") as feed, open(f"{folder}/replies", "wb") as replies:
+        start = time.monotonic()
+        subprocess.run(words, stdin=feed, stdout=replies, check=True)
+        return time.monotonic() - start
+
+
+def main():
+    found = {}
+    with tempfile.TemporaryDirectory(dir=sys.argv[1] if len(sys.argv) > 1 else None) as folder:
+        for count in COUNTS:
+            path = pathlib.Path(folder) / f"{count}.http"
+            path.write_bytes(b"".join(requests(count)))
+            found[count] = min(seconds(path, folder) for _ in range(TURNS))
+            made = (pathlib.Path(folder) / "replies").read_bytes().count(b"HTTP/1.1 200 OK\r\n")
+            if made != count:
+                raise SystemExit(f"{made} of {count} creations were accepted")
+            print(f"{count} creations: {found[count]:.2f} s, {count / found[count]:.0f}/s")
+    few, many = COUNTS
+    print(f"ratio of {many} to {few}: {found[many] / found[few]:.1f} (linear: {many / few:.0f})")
+    return 0
+
+
+if __name__ == "__main__":
+    sys.exit(main())

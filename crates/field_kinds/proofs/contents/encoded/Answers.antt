@@ -1,0 +1,9 @@
+use Rattle.std.proofs.Common.{◌<◌, ◌≤◌, ℕ, arith}
+use Rattle.base64.specs.GeneralPurpose.{IsBytes}
+use Rattle.field_kinds.proofs.ContentLaws.{contents_written}
+use Rattle.field_kinds.proofs.contents.encoded.Goals as goal
+
+pub returns-clause-again : goal.returns-clause-again
+returns-clause-again c =
+    let bytes : IsBytes c.args.bytes.now = λ i. omega (arith, c.type_inv.bytes i) in
+    contents_written c.args.bytes.now bytes

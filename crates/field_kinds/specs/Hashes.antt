@@ -1,0 +1,30 @@
+-- Hashes: `sha256:` and 64 lower-case hexadecimal digits.
+use Rattle.std.specs.Prelude.{ℕ, ◌+◌, ◌==◌, ◌&&◌, ◌||◌, Bool, not, nat_lt, if◌then◌else◌, List, length, take, drop, codes, Option, Some, None, option_map}
+use Rattle.std.specs.List.{position}
+use Rattle.std.specs.Option.{option_or}
+use Rattle.std.specs.Char.{is_ascii_digit}
+use Rattle.name_parts.specs.Parts.{literal_bad_place}
+use Rattle.json_fields.specs.declared.whys.Why.{Why}
+use Rattle.json_fields.specs.declared.whys.Why.TheVariants.{Empty, TooLong, BadByte}
+
+-- 0 to 9, and a to f
+abbrev pub is_lower_hex : ℕ → Bool
+is_lower_hex b = is_ascii_digit b || (nat_lt 96 b && nat_lt b 103)
+
+-- where a text that begins right ends too soon
+abbrev pub end_place : List ℕ → Option ℕ
+end_place text = if nat_lt (length text) 71 then Some (length text) else None
+
+-- the first place behind the seventh byte that is no digit
+abbrev pub digit_place : List ℕ → Option ℕ
+digit_place text = option_map (λ n. n + 7) (position (λ b. not (is_lower_hex b)) (drop 7 text))
+
+-- the first wrong place: in the front, then in the digits, then at the end
+abbrev pub wrong_place : List ℕ → Option ℕ
+wrong_place text = option_or (literal_bad_place (codes "sha256:") (take 7 text)) (option_or (digit_place text) (end_place text))
+
+-- one part of 71 bytes: that it is empty, then that it is too long, then its first wrong place
+abbrev pub hash_why : List ℕ → Option Why
+hash_why text =
+    if length text == 0 then Some Empty
+    else (if nat_lt 71 (length text) then Some (TooLong (length text)) else option_map BadByte (wrong_place text))

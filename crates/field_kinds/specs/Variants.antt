@@ -1,0 +1,78 @@
+-- Variants: `{"def":{key:value}}`.
+use Rattle.std.specs.Prelude.{◌≡◌, ℕ, Bool, true, false, ◌&&◌, if◌then◌else◌, List, [], ◌∷◌, codes, Option, Some, None, is_some, unwrap_or, IsPermutation}
+use Rattle.serde_json.specs.Data.{Data, null, boolean, number, string, array, object, Members, no_members, member}
+use Rattle.serde_json.specs.Find.{as_str}
+use Rattle.names_realms.specs.declared.pairs.Pair.{Pair}
+use Rattle.names_realms.specs.declared.pairs.PairFault.{PairFault}
+use Rattle.names_realms.specs.declared.pairs.PairFault.TheVariants.{Key, Value, Memory}
+use Rattle.names_realms.specs.Pairs.{pair_fault}
+use Rattle.names_realms.specs.Variants.{IsAscending}
+use Rattle.json_fields.specs.Names.{NameForm, word}
+use Rattle.json_fields.specs.Faults.{here, first}
+use Rattle.json_fields.specs.Fields.{optional, fault_of, set_at}
+use Rattle.json_fields.specs.Kinds.{an_object}
+use Rattle.json_fields.specs.Texts.{refused}
+use Rattle.json_fields.specs.declared.faults.FieldFault.{FieldFault}
+use Rattle.json_fields.specs.declared.faults.FaultKind.TheVariants.{WrongKind}
+
+abbrev pub def_name : NameForm
+def_name = word (codes "def")
+
+-- whether each member is a text
+abbrev pub all_texts : Members → Bool
+all_texts no_members = true
+all_texts (member k d ms) = is_some (as_str d) && all_texts ms
+
+-- each name with its text, in the order of the members, which is that of the names' bytes
+abbrev pub pairs_of : Members → List Pair
+pairs_of no_members = []
+pairs_of (member k d ms) = record { key = k; value = unwrap_or (as_str d) [] } ∷ pairs_of ms
+
+-- what is told of a pair: the fault of its key or of its value
+abbrev pub told : Option PairFault → Option FieldFault
+told None = None
+told (Some (Key f)) = refused (Some f)
+told (Some (Value f)) = refused (Some f)
+told (Some Memory) = None
+
+-- the first fault of pairs, in each of which the key is judged before the value
+abbrev pub pairs_fault : List Pair → Option FieldFault
+pairs_fault [] = None
+pairs_fault (p ∷ ps) = first (told (pair_fault p.key p.value)) (pairs_fault ps)
+
+-- an object of texts, each a pair with its name
+abbrev pub members_fault : Members → Option FieldFault
+members_fault ms = if all_texts ms then pairs_fault (pairs_of ms) else Some (here WrongKind)
+
+abbrev pub a_def : Data → Option FieldFault
+a_def null = Some (here WrongKind)
+a_def (boolean b) = Some (here WrongKind)
+a_def (number n) = Some (here WrongKind)
+a_def (string s) = Some (here WrongKind)
+a_def (array ds) = Some (here WrongKind)
+a_def (object ms) = members_fault ms
+
+-- an object, whose pairs are at `def`; an unset one has none
+abbrev pub variant_fields : List (Data → Option FieldFault)
+variant_fields = an_object ∷ optional def_name a_def ∷ []
+
+abbrev pub a_variant : Data → Option FieldFault
+a_variant d = fault_of variant_fields d
+
+-- the pairs at `def`
+abbrev pub pairs_in : Data → List Pair
+pairs_in null = []
+pairs_in (boolean b) = []
+pairs_in (number n) = []
+pairs_in (string s) = []
+pairs_in (array ds) = []
+pairs_in (object ms) = pairs_of ms
+
+abbrev pub pairs_at : Option Data → List Pair
+pairs_at None = []
+pairs_at (Some d) = pairs_in d
+
+-- The variant has just these pairs, in the order of their keys.
+pub record IsVariant (d : Data) (v : List Pair) : Type 0 where
+  pub pairs : IsPermutation (pairs_at (set_at def_name d)) v
+  pub order : IsAscending v

@@ -1,0 +1,81 @@
+//! Properties of a result.
+ghost use Rattle.std.specs.Prelude.{◌≡◌, ◌≤◌, None, length, IfOk, IfErr};
+ghost use Rattle.serde_json.specs.View.{view};
+ghost use Rattle.serde_json.specs.Written.{compact_text};
+ghost use Rattle.json_fields.specs.Faults.{Says};
+ghost use Rattle.field_kinds.specs.Properties.{properties_fault};
+
+use crate::trees::{has_float, is_within};
+use json_fields::{FaultKind, Form, ReadFault, Why};
+use serde_json::Value;
+use std::alloc::Global;
+use std::marker::Model;
+
+/// An object as its compact text, of at most 8,192 bytes.
+#[derive(Debug, Drop)]
+pub struct Properties {
+    text: String,
+}
+
+impl Model for Properties {
+    ghost use Rattle.std.specs.Prelude.{◌≤◌, ℕ, List, length, string_bytes};
+
+    ghost Value = { List ℕ };
+
+    ghost view = { λ p. string_bytes p.text };
+
+    ghost invariant = { λ p. length (string_bytes p.text) ≤ 8192 };
+}
+
+impl Properties {
+    /// The compact text.
+    pub fn as_str(&self) -> &str
+        ensures text { result.now ≡ self.now }
+        ensures few { length self.now ≤ 8192 }
+    {
+        self.text.as_str()
+    }
+}
+
+/// Keeps an object.
+fn kept(alloc: Global, value: &Value) -> Result<Properties, ReadFault>
+    ensures ok { IfOk result (λ p. (properties_fault (view value.now) ≡ None)
+        × (p ≡ compact_text (view value.now))) }
+    ensures err { IfErr result (λ e. Says e (properties_fault (view value.now))) }
+{
+    if has_float(value) {
+        return Err(ReadFault::here(alloc, FaultKind::BadValue(Why::NotWhole)));
+    }
+    let text = value.to_string(alloc)?;
+    if text.len() > 8192 {
+        return Err(ReadFault::here(alloc, FaultKind::BadValue(Why::TooLong(text.len()))));
+    }
+    if !is_within(64, value) {
+        return Err(ReadFault::here(alloc, FaultKind::BadValue(Why::TooDeep)));
+    }
+    Ok(Properties { text })
+}
+
+impl Form for Properties {
+    ghost use Rattle.field_kinds.specs.Properties.{a_properties, IsCompact, empty_object};
+
+    ghost fault = { a_properties };
+
+    ghost means = { IsCompact };
+
+    ghost empty = { empty_object };
+
+    fn is_empty(value: &Value) -> bool {
+        match value {
+            Value::Object(map) => map.is_empty(),
+            _ => false,
+        }
+    }
+
+    fn read(alloc: Global, value: &Value) -> Result<Properties, ReadFault> {
+        match value {
+            Value::Object(_) => kept(alloc, value),
+            _ => Err(ReadFault::here(alloc, FaultKind::WrongKind)),
+        }
+    }
+}

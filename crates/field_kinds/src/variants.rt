@@ -1,0 +1,227 @@
+//! Variants of tests.
+ghost use Rattle.std.specs.Prelude.{◌≡◌, true, ◌++◌, [], ◌∷◌, None, Some, IfOk, IfErr, OnOk, IsPermutation, is_some, unwrap_or};
+ghost use Rattle.serde_json.specs.View.{view, members_view};
+ghost use Rattle.serde_json.specs.Find.{as_str};
+ghost use Rattle.names_realms.specs.Pairs.{pair_fault};
+ghost use Rattle.names_realms.specs.Variants.{IsAscending};
+ghost use Rattle.json_fields.specs.Faults.{Says};
+ghost use Rattle.json_fields.specs.Texts.{refused};
+ghost use Rattle.json_fields.specs.Fields.{optional, set_at};
+ghost use Rattle.field_kinds.specs.Variants.{def_name, all_texts, pairs_of, pairs_at, pairs_fault, members_fault, told, a_def};
+
+use json_fields::{FaultKind, Form, Name, ReadFault, Why, object, optional};
+use names_realms::{NameFault, Pair, PairFault, Variant};
+use serde_json::{Map, Value};
+use std::alloc::Global;
+use std::marker::Model;
+
+fn refused(alloc: Global, fault: NameFault) -> ReadFault
+    ensures { Says result (refused (Some fault)) }
+{
+    match Why::of(fault) {
+        Some(why) => ReadFault::here(alloc, FaultKind::BadValue(why)),
+        None => ReadFault::Memory,
+    }
+}
+
+/// What is told of a pair.
+fn told(alloc: Global, fault: PairFault) -> ReadFault
+    ensures { Says result (told (Some fault)) }
+{
+    match fault {
+        PairFault::Key(fault) => refused(alloc, fault),
+        PairFault::Value(fault) => refused(alloc, fault),
+        PairFault::Memory => ReadFault::Memory,
+    }
+}
+
+fn is_text(value: &Value) -> bool
+    ensures { result ≡ is_some (as_str (view value.now)) }
+{
+    value.is_string()
+}
+
+fn all_texts(map: &Map<String, Value>) -> bool
+    ensures { result ≡ all_texts (members_view map.now.entries) }
+{
+    for (_key, value) in map {
+        if !is_text(value) {
+            return false;
+        }
+    }
+    true
+}
+
+/// The text of a value, where it is one.
+fn text_of(value: &Value) -> &str
+    ensures { result.now ≡ unwrap_or (as_str (view value.now)) [] }
+{
+    match value {
+        Value::String(text) => text.as_str(),
+        _ => "",
+    }
+}
+
+/// Reads one pair.
+fn read_pair(alloc: Global, key: &str, value: &str) -> Result<Pair, ReadFault>
+    ensures ok { IfOk result (λ p. (p.key ≡ key.now) × (p.value ≡ value.now) × (pair_fault key.now value.now ≡ None)) }
+    ensures err { IfErr result (λ e. Says e (told (pair_fault key.now value.now))) }
+{
+    match Pair::read(alloc, key.as_bytes(), value.as_bytes()) {
+        Ok(pair) => Ok(pair),
+        Err(fault) => Err(told(alloc, fault)),
+    }
+}
+
+/// Appends the pair of a name and a value.
+fn add_pair(alloc: Global, pairs: &mut Vec<Pair>, key: &str, value: &Value) -> Result<(), ReadFault>
+    ensures ok { OnOk result ((pairs.new.items ≡ pairs.old.items
+        ++ record { key = key.now; value = unwrap_or (as_str (view value.now)) [] } ∷ [])
+        × (pair_fault key.now (unwrap_or (as_str (view value.now)) []) ≡ None)) }
+    ensures err { IfErr result (λ e. Says e (told (pair_fault key.now (unwrap_or (as_str (view value.now)) [])))) }
+{
+    let pair = read_pair(alloc, key, text_of(value))?;
+    match pairs.push(pair) {
+        Ok(()) => Ok(()),
+        Err(_) => Err(ReadFault::Memory),
+    }
+}
+
+/// The pairs of an object, or the fault of the first that has one.
+fn read_pairs(alloc: Global, map: &Map<String, Value>) -> Result<Vec<Pair>, ReadFault>
+    ensures ok { IfOk result (λ ps. (ps.items ≡ pairs_of (members_view map.now.entries))
+        × (pairs_fault (pairs_of (members_view map.now.entries)) ≡ None)) }
+    ensures ascending { IfOk result (λ _. IsAscending (pairs_of (members_view map.now.entries))) }
+    ensures err { IfErr result (λ e. Says e (pairs_fault (pairs_of (members_view map.now.entries)))) }
+{
+    let mut pairs = Vec::with_capacity(alloc, map.len())?;
+    for (key, value) in map {
+        add_pair(alloc, &mut pairs, key.as_str(), value)?;
+    }
+    Ok(pairs)
+}
+
+/// The pairs of an object of texts, in the order of their keys.
+#[derive(Debug, Drop)]
+struct Pairs {
+    pairs: Vec<Pair>,
+}
+
+impl Model for Pairs {
+    ghost use Rattle.std.specs.Prelude.{List};
+    ghost use Rattle.names_realms.specs.declared.pairs.Pair.{Pair};
+    ghost use Rattle.names_realms.specs.Variants.{IsAscending};
+
+    ghost Value = { List Pair };
+
+    ghost view = { λ p. p.pairs.items };
+
+    ghost invariant = { λ p. IsAscending p.pairs.items };
+}
+
+impl Pairs {
+    fn into_vec(self) -> Vec<Pair>
+        ensures pairs { result.items ≡ self }
+        ensures ascending { IsAscending self }
+    {
+        self.pairs
+    }
+}
+
+impl Form for Pairs {
+    ghost use Rattle.json_fields.specs.Kinds.{never_empty};
+    ghost use Rattle.field_kinds.specs.Variants.{a_def, pairs_in};
+
+    ghost fault = { a_def };
+
+    ghost means = { λ d x. x ≡ pairs_in d };
+
+    ghost empty = { never_empty };
+
+    fn is_empty(_value: &Value) -> bool {
+        false
+    }
+
+    fn read(alloc: Global, value: &Value) -> Result<Pairs, ReadFault> {
+        match value {
+            Value::Object(map) => {
+                if all_texts(map) {
+                    let pairs = read_pairs(alloc, map)?;
+                    Ok(Pairs { pairs })
+                } else {
+                    Err(ReadFault::here(alloc, FaultKind::WrongKind))
+                }
+            }
+            _ => Err(ReadFault::here(alloc, FaultKind::WrongKind)),
+        }
+    }
+}
+
+/// A variant as `{"def":{key:value}}`.
+#[derive(Debug, Drop)]
+pub struct VariantMap {
+    pub variant: Variant,
+}
+
+fn def_name() -> Name
+    ensures { result ≡ def_name }
+{
+    Name::word("def")
+}
+
+/// The pairs at `def`, none where it is unset.
+fn pairs_at(alloc: Global, value: &Value) -> Result<Vec<Pair>, ReadFault>
+    ensures ok { IfOk result (λ ps. (optional def_name a_def (view value.now) ≡ None)
+        × (ps.items ≡ pairs_at (set_at def_name (view value.now))) × IsAscending ps.items) }
+    ensures err { IfErr result (λ e. Says e (optional def_name a_def (view value.now))) }
+{
+    match optional::<Pairs>(alloc, value, def_name()) {
+        Ok(Some(found)) => Ok(found.into_vec()),
+        Ok(None) => Ok(Vec::new(alloc)),
+        Err(fault) => Err(fault),
+    }
+}
+
+fn only_memory(fault: NameFault) -> ReadFault
+    requires { fault ≡ NameFault.Memory }
+    ensures { result ≡ ReadFault.Memory }
+{
+    match fault {
+        NameFault::Memory => ReadFault::Memory,
+        _ => unreachable!(),
+    }
+}
+
+/// The variant of pairs, which have no key twice.
+fn variant_of(alloc: Global, pairs: Vec<Pair>) -> Result<Variant, ReadFault>
+    requires { IsAscending pairs.items }
+    ensures ok { IfOk result (λ v. IsPermutation pairs.items v × IsAscending v) }
+    ensures memory { IfErr result (λ e. e ≡ ReadFault.Memory) }
+{
+    match Variant::from_pairs(alloc, pairs) {
+        Ok(variant) => Ok(variant),
+        Err(fault) => Err(only_memory(fault)),
+    }
+}
+
+impl Form for VariantMap {
+    ghost use Rattle.json_fields.specs.Kinds.{never_empty};
+    ghost use Rattle.field_kinds.specs.Variants.{a_variant, IsVariant};
+
+    ghost fault = { a_variant };
+
+    ghost means = { λ d x. IsVariant d x.variant };
+
+    ghost empty = { never_empty };
+
+    fn is_empty(_value: &Value) -> bool {
+        false
+    }
+
+    fn read(alloc: Global, value: &Value) -> Result<VariantMap, ReadFault> {
+        object(alloc, value)?;
+        let pairs = pairs_at(alloc, value)?;
+        let variant = variant_of(alloc, pairs)?;
+        Ok(VariantMap { variant })
+    }
+}

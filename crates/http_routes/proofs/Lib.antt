@@ -1,0 +1,4 @@
+pub mod PartLaws
+pub mod SeekLaws
+pub mod ParamLaws
+pub mod InsertLaws

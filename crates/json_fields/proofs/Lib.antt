@@ -1,0 +1,5 @@
+pub mod ListLaws
+pub mod WriteLaws
+pub mod TextLaws
+pub mod MeaningLaws
+pub mod PlainLaws

@@ -1,0 +1,9 @@
+pub mod Names
+pub mod Whys
+pub mod Faults
+pub mod Fields
+pub mod Kinds
+pub mod Texts
+pub mod Tags
+pub mod Writing
+pub mod Laws

@@ -1,0 +1,28 @@
+//! The frame by which JSON bodies are read and written: a kind of values, a field of a kind, a list of fields.
+//!
+//! A body's fault is the first fault in the list of its fields, and where there is none its value is what the fields say.
+#![tactic(auto)]
+
+mod body;
+mod elements;
+mod faults;
+mod fields;
+mod kinds;
+pub mod laws;
+mod names;
+mod tags;
+#[cfg(test)]
+mod tests;
+mod texts;
+mod whys;
+mod writing;
+
+pub use body::{BodyFault, read_body, read_json};
+pub use faults::{FaultKind, FieldFault, ReadFault, path_text};
+pub use fields::{Form, optional, optional_list, or_empty_text, required};
+pub use kinds::{UnbuiltList, UnbuiltText, object};
+pub use names::{Name, Step};
+pub use tags::{Tag, TagKey, TagValue};
+pub use texts::{InvocationName, Spelled, SpelledOut, read_text, write_text};
+pub use whys::Why;
+pub use writing::{Written, put, write_list, write_optional, write_required};

@@ -1,0 +1,578 @@
+//! Texts that are read by a grammar: ids, realms, names, moments and spans.
+ghost use Rattle.std.specs.Prelude.{◌≡◌, ◌≢◌, false, ℕ, List, Option, None, Some, IfOk, IfErr, string_bytes};
+ghost use Rattle.serde_json.specs.Data.{string};
+ghost use Rattle.serde_json.specs.View.{view};
+ghost use Rattle.name_parts.specs.declared.faults.NameFault.{NameFault};
+ghost use Rattle.json_fields.specs.Faults.{Says};
+ghost use Rattle.json_fields.specs.Kinds.{empty_text};
+ghost use Rattle.json_fields.specs.Texts.{a_text, IsText, refused};
+ghost use Rattle.json_fields.specs.Writing.{IsSpelled, IsWritten};
+
+use crate::faults::{FaultKind, ReadFault};
+use crate::fields::Form;
+use crate::whys::Why;
+use crate::writing::Written;
+use names_realms::{
+    ArtifactId, ArtifactName, InvocationId, Moment, NameFault, Parent, Realm, ResultId, ResultName,
+    Span, TestId,
+};
+use serde_json::Value;
+use std::alloc::{AllocError, Global};
+
+/// What a text is read as by a grammar: `text_fault` is what is wrong with a text, and `spells` which value it spells.
+pub trait Spelled: Sized + Drop {
+    ghost text_fault: { List ℕ → Option NameFault };
+
+    ghost spells: { List ℕ → Self → Type 0 };
+
+    /// Reads all of the text.
+    fn parse_text(alloc: Global, text: &[u8]) -> Result<Self, NameFault>
+        ensures ok { IfOk result (λ x. (text_fault text.now ≡ None) × spells text.now x) }
+        ensures fault { IfErr result (λ f. f ≢ NameFault.Memory → text_fault text.now ≡ Some f) };
+}
+
+/// A value with one text, by which it is read again.
+pub trait SpelledOut: Spelled {
+    ghost spelling: { Self → List ℕ };
+
+    /// The text. `Err` where there is no memory for it.
+    fn to_spelling(&self, alloc: Global) -> Result<String, AllocError>
+        ensures text { IfOk result (λ t. string_bytes t ≡ spelling self.now) }
+        ensures again { IsSpelled Self.text_fault Self.spells (spelling self.now) self.now };
+}
+
+/// Whether a value is the empty text.
+pub(crate) fn is_empty_text(value: &Value) -> bool
+    ensures { result ≡ empty_text (view value.now) }
+{
+    match value {
+        Value::String(text) => text.is_empty(),
+        _ => false,
+    }
+}
+
+/// What is told of a text that its grammar refuses.
+fn refused(alloc: Global, fault: NameFault) -> ReadFault
+    ensures { Says result (refused (Some fault)) }
+{
+    match Why::of(fault) {
+        Some(why) => ReadFault::here(alloc, FaultKind::BadValue(why)),
+        None => ReadFault::Memory,
+    }
+}
+
+/// Reads a text by its grammar.
+pub fn read_text<T: Spelled>(alloc: Global, value: &Value) -> Result<T, ReadFault>
+    ensures ok { IfOk result (λ x. (a_text T.text_fault (view value.now) ≡ None)
+        × IsText T.spells (view value.now) x) }
+    ensures err { IfErr result (λ e. Says e (a_text T.text_fault (view value.now))) }
+{
+    match value {
+        Value::String(text) => match T::parse_text(alloc, text.as_bytes()) {
+            Ok(x) => Ok(x),
+            Err(fault) => Err(refused(alloc, fault)),
+        },
+        _ => Err(ReadFault::here(alloc, FaultKind::WrongKind)),
+    }
+}
+
+impl Spelled for InvocationId {
+    ghost use Rattle.json_fields.specs.Texts.{IsSame};
+    ghost use Rattle.names_realms.specs.Names.{invocation_id_fault};
+
+    ghost text_fault = { invocation_id_fault };
+
+    ghost spells = { IsSame };
+
+    fn parse_text(alloc: Global, text: &[u8]) -> Result<InvocationId, NameFault> {
+        InvocationId::parse(alloc, text)
+    }
+}
+
+impl Form for InvocationId {
+    ghost use Rattle.json_fields.specs.Texts.{IsSame};
+    ghost use Rattle.names_realms.specs.Names.{invocation_id_fault};
+
+    ghost fault = { a_text invocation_id_fault };
+
+    ghost means = { IsText IsSame };
+
+    ghost empty = { empty_text };
+
+    fn is_empty(value: &Value) -> bool {
+        is_empty_text(value)
+    }
+
+    fn read(alloc: Global, value: &Value) -> Result<InvocationId, ReadFault> {
+        read_text(alloc, value)
+    }
+}
+
+impl SpelledOut for InvocationId {
+    ghost spelling = { λ x. x };
+
+    fn to_spelling(&self, alloc: Global) -> Result<String, AllocError> {
+        String::from_str(alloc, self.as_str())
+    }
+}
+
+impl Spelled for Realm {
+    ghost use Rattle.json_fields.specs.Texts.{IsSame};
+    ghost use Rattle.names_realms.specs.Realms.{realm_fault};
+
+    ghost text_fault = { realm_fault };
+
+    ghost spells = { IsSame };
+
+    fn parse_text(alloc: Global, text: &[u8]) -> Result<Realm, NameFault> {
+        Realm::parse(alloc, text)
+    }
+}
+
+impl Form for Realm {
+    ghost use Rattle.json_fields.specs.Texts.{IsSame};
+    ghost use Rattle.names_realms.specs.Realms.{realm_fault};
+
+    ghost fault = { a_text realm_fault };
+
+    ghost means = { IsText IsSame };
+
+    ghost empty = { empty_text };
+
+    fn is_empty(value: &Value) -> bool {
+        is_empty_text(value)
+    }
+
+    fn read(alloc: Global, value: &Value) -> Result<Realm, ReadFault> {
+        read_text(alloc, value)
+    }
+}
+
+impl SpelledOut for Realm {
+    ghost spelling = { λ x. x };
+
+    fn to_spelling(&self, alloc: Global) -> Result<String, AllocError> {
+        String::from_str(alloc, self.as_str())
+    }
+}
+
+impl Spelled for TestId {
+    ghost use Rattle.json_fields.specs.Texts.{IsSame};
+    ghost use Rattle.names_realms.specs.Names.{test_id_fault};
+
+    ghost text_fault = { test_id_fault };
+
+    ghost spells = { IsSame };
+
+    fn parse_text(alloc: Global, text: &[u8]) -> Result<TestId, NameFault> {
+        TestId::parse(alloc, text)
+    }
+}
+
+impl Form for TestId {
+    ghost use Rattle.json_fields.specs.Texts.{IsSame};
+    ghost use Rattle.names_realms.specs.Names.{test_id_fault};
+
+    ghost fault = { a_text test_id_fault };
+
+    ghost means = { IsText IsSame };
+
+    ghost empty = { empty_text };
+
+    fn is_empty(value: &Value) -> bool {
+        is_empty_text(value)
+    }
+
+    fn read(alloc: Global, value: &Value) -> Result<TestId, ReadFault> {
+        read_text(alloc, value)
+    }
+}
+
+impl SpelledOut for TestId {
+    ghost spelling = { λ x. x };
+
+    fn to_spelling(&self, alloc: Global) -> Result<String, AllocError> {
+        String::from_str(alloc, self.as_str())
+    }
+}
+
+impl Spelled for ResultId {
+    ghost use Rattle.json_fields.specs.Texts.{IsSame};
+    ghost use Rattle.names_realms.specs.Names.{result_id_fault};
+
+    ghost text_fault = { result_id_fault };
+
+    ghost spells = { IsSame };
+
+    fn parse_text(alloc: Global, text: &[u8]) -> Result<ResultId, NameFault> {
+        ResultId::parse(alloc, text)
+    }
+}
+
+impl Form for ResultId {
+    ghost use Rattle.json_fields.specs.Texts.{IsSame};
+    ghost use Rattle.names_realms.specs.Names.{result_id_fault};
+
+    ghost fault = { a_text result_id_fault };
+
+    ghost means = { IsText IsSame };
+
+    ghost empty = { empty_text };
+
+    fn is_empty(value: &Value) -> bool {
+        is_empty_text(value)
+    }
+
+    fn read(alloc: Global, value: &Value) -> Result<ResultId, ReadFault> {
+        read_text(alloc, value)
+    }
+}
+
+impl SpelledOut for ResultId {
+    ghost spelling = { λ x. x };
+
+    fn to_spelling(&self, alloc: Global) -> Result<String, AllocError> {
+        String::from_str(alloc, self.as_str())
+    }
+}
+
+impl Spelled for ArtifactId {
+    ghost use Rattle.json_fields.specs.Texts.{IsSame};
+    ghost use Rattle.names_realms.specs.Names.{artifact_id_fault};
+
+    ghost text_fault = { artifact_id_fault };
+
+    ghost spells = { IsSame };
+
+    fn parse_text(alloc: Global, text: &[u8]) -> Result<ArtifactId, NameFault> {
+        ArtifactId::parse(alloc, text)
+    }
+}
+
+impl Form for ArtifactId {
+    ghost use Rattle.json_fields.specs.Texts.{IsSame};
+    ghost use Rattle.names_realms.specs.Names.{artifact_id_fault};
+
+    ghost fault = { a_text artifact_id_fault };
+
+    ghost means = { IsText IsSame };
+
+    ghost empty = { empty_text };
+
+    fn is_empty(value: &Value) -> bool {
+        is_empty_text(value)
+    }
+
+    fn read(alloc: Global, value: &Value) -> Result<ArtifactId, ReadFault> {
+        read_text(alloc, value)
+    }
+}
+
+impl SpelledOut for ArtifactId {
+    ghost spelling = { λ x. x };
+
+    fn to_spelling(&self, alloc: Global) -> Result<String, AllocError> {
+        String::from_str(alloc, self.as_str())
+    }
+}
+
+impl Spelled for ResultName {
+    ghost use Rattle.names_realms.specs.ResultNames.{result_name_fault, IsResultName};
+
+    ghost text_fault = { result_name_fault };
+
+    ghost spells = { λ text x. IsResultName x text };
+
+    fn parse_text(alloc: Global, text: &[u8]) -> Result<ResultName, NameFault> {
+        ResultName::parse(alloc, text)
+    }
+}
+
+impl Form for ResultName {
+    ghost use Rattle.names_realms.specs.ResultNames.{result_name_fault, IsResultName};
+
+    ghost fault = { a_text result_name_fault };
+
+    ghost means = { IsText (λ text x. IsResultName x text) };
+
+    ghost empty = { empty_text };
+
+    fn is_empty(value: &Value) -> bool {
+        is_empty_text(value)
+    }
+
+    fn read(alloc: Global, value: &Value) -> Result<ResultName, ReadFault> {
+        read_text(alloc, value)
+    }
+}
+
+impl Spelled for ArtifactName {
+    ghost use Rattle.names_realms.specs.ArtifactNames.{artifact_name_fault, IsArtifactName};
+
+    ghost text_fault = { artifact_name_fault };
+
+    ghost spells = { λ text x. IsArtifactName x text };
+
+    fn parse_text(alloc: Global, text: &[u8]) -> Result<ArtifactName, NameFault> {
+        ArtifactName::parse(alloc, text)
+    }
+}
+
+impl Form for ArtifactName {
+    ghost use Rattle.names_realms.specs.ArtifactNames.{artifact_name_fault, IsArtifactName};
+
+    ghost fault = { a_text artifact_name_fault };
+
+    ghost means = { IsText (λ text x. IsArtifactName x text) };
+
+    ghost empty = { empty_text };
+
+    fn is_empty(value: &Value) -> bool {
+        is_empty_text(value)
+    }
+
+    fn read(alloc: Global, value: &Value) -> Result<ArtifactName, ReadFault> {
+        read_text(alloc, value)
+    }
+}
+
+impl Spelled for Parent {
+    ghost use Rattle.names_realms.specs.Parents.{parent_fault, IsParentName};
+
+    ghost text_fault = { parent_fault };
+
+    ghost spells = { λ text x. IsParentName x text };
+
+    fn parse_text(alloc: Global, text: &[u8]) -> Result<Parent, NameFault> {
+        Parent::parse(alloc, text)
+    }
+}
+
+impl Form for Parent {
+    ghost use Rattle.names_realms.specs.Parents.{parent_fault, IsParentName};
+
+    ghost fault = { a_text parent_fault };
+
+    ghost means = { IsText (λ text x. IsParentName x text) };
+
+    ghost empty = { empty_text };
+
+    fn is_empty(value: &Value) -> bool {
+        is_empty_text(value)
+    }
+
+    fn read(alloc: Global, value: &Value) -> Result<Parent, ReadFault> {
+        read_text(alloc, value)
+    }
+}
+
+impl Spelled for Moment {
+    ghost use Rattle.json_fields.specs.Texts.{moment_fault};
+    ghost use Rattle.moments_spans.specs.MomentGrammar.{IsMomentText};
+
+    ghost text_fault = { moment_fault };
+
+    ghost spells = { IsMomentText };
+
+    fn parse_text(alloc: Global, text: &[u8]) -> Result<Moment, NameFault> {
+        match Moment::parse(alloc, text) {
+            Ok(moment) => {
+                let _in_years = moment.micros();
+                Ok(moment)
+            }
+            Err(fault) => Err(fault),
+        }
+    }
+}
+
+impl Form for Moment {
+    ghost use Rattle.json_fields.specs.Texts.{moment_fault};
+    ghost use Rattle.moments_spans.specs.MomentGrammar.{IsMomentText};
+
+    ghost fault = { a_text moment_fault };
+
+    ghost means = { IsText IsMomentText };
+
+    ghost empty = { empty_text };
+
+    fn is_empty(value: &Value) -> bool {
+        is_empty_text(value)
+    }
+
+    fn read(alloc: Global, value: &Value) -> Result<Moment, ReadFault> {
+        read_text(alloc, value)
+    }
+}
+
+impl Spelled for Span {
+    ghost use Rattle.json_fields.specs.Texts.{span_fault};
+    ghost use Rattle.moments_spans.specs.SpanGrammar.{IsSpanText};
+
+    ghost text_fault = { span_fault };
+
+    ghost spells = { λ text s. IsSpanText text s.micros };
+
+    fn parse_text(alloc: Global, text: &[u8]) -> Result<Span, NameFault> {
+        Span::parse(alloc, text)
+    }
+}
+
+impl Form for Span {
+    ghost use Rattle.json_fields.specs.Texts.{span_fault};
+    ghost use Rattle.moments_spans.specs.SpanGrammar.{IsSpanText};
+
+    ghost fault = { a_text span_fault };
+
+    ghost means = { IsText (λ text s. IsSpanText text s.micros) };
+
+    ghost empty = { empty_text };
+
+    fn is_empty(value: &Value) -> bool {
+        is_empty_text(value)
+    }
+
+    fn read(alloc: Global, value: &Value) -> Result<Span, ReadFault> {
+        read_text(alloc, value)
+    }
+}
+
+impl SpelledOut for Moment {
+    ghost use Rattle.moments_spans.specs.Moments.{moment_text};
+
+    ghost spelling = { moment_text };
+
+    fn to_spelling(&self, alloc: Global) -> Result<String, AllocError> {
+        self.to_text(alloc)
+    }
+}
+
+/// An invocation by its name: `invocations/` and the id.
+#[derive(Debug, Drop)]
+pub struct InvocationName {
+    pub id: InvocationId,
+}
+
+impl Spelled for InvocationName {
+    ghost use Rattle.names_realms.specs.Names.{invocation_name_fault, IsInvocationName};
+
+    ghost text_fault = { invocation_name_fault };
+
+    ghost spells = { λ text x. IsInvocationName x.id text };
+
+    fn parse_text(alloc: Global, text: &[u8]) -> Result<InvocationName, NameFault> {
+        let id = InvocationId::parse_name(alloc, text)?;
+        Ok(InvocationName { id })
+    }
+}
+
+impl Form for InvocationName {
+    ghost use Rattle.names_realms.specs.Names.{invocation_name_fault, IsInvocationName};
+
+    ghost fault = { a_text invocation_name_fault };
+
+    ghost means = { IsText (λ text x. IsInvocationName x.id text) };
+
+    ghost empty = { empty_text };
+
+    fn is_empty(value: &Value) -> bool {
+        is_empty_text(value)
+    }
+
+    fn read(alloc: Global, value: &Value) -> Result<InvocationName, ReadFault> {
+        read_text(alloc, value)
+    }
+}
+
+/// The JSON text of a value with one text.
+pub fn write_text<T: SpelledOut>(alloc: Global, x: &T) -> Result<Value, AllocError>
+    ensures value { IfOk result (λ v. view v ≡ string (T.spelling x.now)) }
+    ensures again { IsWritten (a_text T.text_fault) (IsText T.spells) empty_text (λ _. false) x.now (string (T.spelling x.now)) }
+{
+    let text = x.to_spelling(alloc)?;
+    Ok(Value::String(text))
+}
+
+impl Written for InvocationId {
+    ghost json = { λ x. string x };
+
+    ghost blank = { λ _. false };
+
+    fn write(&self, alloc: Global) -> Result<Value, AllocError> {
+        write_text(alloc, self)
+    }
+}
+
+impl Written for Realm {
+    ghost json = { λ x. string x };
+
+    ghost blank = { λ _. false };
+
+    fn write(&self, alloc: Global) -> Result<Value, AllocError> {
+        write_text(alloc, self)
+    }
+}
+
+impl Written for TestId {
+    ghost json = { λ x. string x };
+
+    ghost blank = { λ _. false };
+
+    fn write(&self, alloc: Global) -> Result<Value, AllocError> {
+        write_text(alloc, self)
+    }
+}
+
+impl Written for ResultId {
+    ghost json = { λ x. string x };
+
+    ghost blank = { λ _. false };
+
+    fn write(&self, alloc: Global) -> Result<Value, AllocError> {
+        write_text(alloc, self)
+    }
+}
+
+impl Written for ArtifactId {
+    ghost json = { λ x. string x };
+
+    ghost blank = { λ _. false };
+
+    fn write(&self, alloc: Global) -> Result<Value, AllocError> {
+        write_text(alloc, self)
+    }
+}
+
+impl Written for Moment {
+    ghost use Rattle.moments_spans.specs.Moments.{moment_text};
+
+    ghost json = { λ m. string (moment_text m) };
+
+    ghost blank = { λ _. false };
+
+    fn write(&self, alloc: Global) -> Result<Value, AllocError> {
+        write_text(alloc, self)
+    }
+}
+
+impl SpelledOut for InvocationName {
+    ghost use Rattle.names_realms.specs.Names.{invocation_name};
+
+    ghost spelling = { λ x. invocation_name x.id };
+
+    fn to_spelling(&self, alloc: Global) -> Result<String, AllocError> {
+        let id = self.id.as_str();
+        format!(in alloc; "invocations/{id}")
+    }
+}
+
+impl Written for InvocationName {
+    ghost use Rattle.names_realms.specs.Names.{invocation_name};
+
+    ghost json = { λ x. string (invocation_name x.id) };
+
+    ghost blank = { λ _. false };
+
+    fn write(&self, alloc: Global) -> Result<Value, AllocError> {
+        write_text(alloc, self)
+    }
+}

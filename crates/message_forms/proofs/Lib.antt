@@ -1,0 +1,4 @@
+pub mod UserLaws
+pub mod RequestLaws
+pub mod FaultLaws
+pub mod TextLaws

@@ -1,0 +1,19 @@
+use Rattle.std.proofs.Common.{ℕ, List, [], ◌∷◌, ◌++◌, map, take, sym, ap, ◌∙◌, arith}
+use Rattle.std.proofs.lemmas.List.{take_all}
+use Rattle.serde_json.specs.Data.{Data, array}
+use Rattle.serde_json.specs.View.{items_of}
+use Rattle.serde_json.proofs.Views.{view-Array}
+use Rattle.message_forms.specs.Replies.{name_data}
+use Rattle.message_forms.proofs.TextLaws.{names_more}
+use Rattle.message_forms.proofs.replies.names_value.Goals as goal
+
+pub loop-id-preserved : goal.loop-id-preserved
+loop-id-preserved c =
+    c.in_ok-add_name.ensures ∙ ap (λ (ds : List Data). ds ++ name_data c.id-item.result ∷ []) c.loop-id.invariant
+    ∙ ap (λ (x : List ℕ). map name_data (take c.loop-id.id-index c.args.ids.now) ++ name_data x ∷ []) c.id-item.is
+    ∙ sym (names_more c.args.ids.now c.loop-id.id-index c.id-item.result c.loop-id-test.true)
+
+pub returns : goal.returns
+returns c =
+    view-Array c.loop-id.list
+    ∙ ap (λ (ds : List Data). array (items_of ds)) (c.loop-id.invariant ∙ ap (map name_data) (take_all c.loop-id.id-index c.args.ids.now (omega arith)))

@@ -1,0 +1,9 @@
+pub mod Names
+pub mod Methods
+pub mod Requests
+pub mod Reading
+pub mod Refusals
+pub mod Users
+pub mod Replies
+pub mod Writing
+pub mod Laws
