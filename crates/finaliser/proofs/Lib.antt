@@ -1,2 +1,3 @@
+pub mod LawLemmas
 pub mod MarkLemmas
 pub mod SettleLemmas

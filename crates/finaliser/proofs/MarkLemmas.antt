@@ -1,15 +1,15 @@
 -- Marks of what reaches an active node.
-use Rattle.std.proofs.Common.{◌≡◌, ◌≢◌, ◌⊎◌, ◌<◌, ◌≤◌, ◌+◌, ℕ, zero, suc, Bool, true, false, ◌||◌, List, [], ◌∷◌, ◌++◌, length, get_or, set, take, Contains, Some, None, refl, sym, ap, ◌∙◌, subst, inl, inr, arith}
+use Rattle.std.proofs.Common.{◌≡◌, ◌<◌, ◌+◌, ℕ, zero, suc, Bool, true, false, ◌||◌, List, [], ◌∷◌, ◌++◌, length, get_or, set, take, Contains, Some, refl, sym, ap, ◌∙◌, subst, inl, inr, arith}
 use Rattle.std.specs.List.{All, slice_get}
 use Rattle.std.proofs.lemmas.Bool.{cases_eq, cases_lt}
 use Rattle.std.proofs.lemmas.List.{get_or-set_other, get_or-set_same, get_or_past, length-set, take_more}
 use Rattle.std.proofs.lemmas.List.Elements.{All-append, All-contains, All-nil, All-cons}
-use Rattle.std.proofs.lemmas.Option.{same_Some, slice_get_within, slice_get_read}
+use Rattle.std.proofs.lemmas.Option.{same_Some, slice_get_within}
 use Rattle.names_realms.specs.declared.states.State.{State}
 use Rattle.names_realms.specs.declared.states.State.TheVariants.{Active}
 use Rattle.inclusion_graph.specs.declared.edge.Edge.{Edge}
 use Rattle.inclusion_graph.specs.Edges.{HasEdge}
-use Rattle.inclusion_graph.specs.Walks.{IsWalk, Leads, Reaches}
+use Rattle.inclusion_graph.specs.Walks.{Leads}
 use Rattle.inclusion_graph.proofs.WalkLemmas.{leads_cons, reaches_itself}
 use Rattle.finaliser.specs.Marks.{IsPulled, IsSound, IsTurned, Marks, unmarked}
 use Rattle.finaliser.specs.Settling.{IsIn, ReachesActive}

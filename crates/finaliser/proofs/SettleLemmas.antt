@@ -1,7 +1,7 @@
 -- What becomes final, node by node.
-use Rattle.std.proofs.Common.{◌≡◌, ◌≢◌, ◌⊎◌, ◌↔◌, ◌<◌, ◌≤◌, ◌+◌, ℕ, zero, suc, Bool, true, false, List, [], ◌∷◌, ◌++◌, length, get_or, set, Contains, Some, None, refl, sym, ap, ◌∙◌, subst, inl, inr, arith, append-nil}
-use Rattle.std.specs.List.{All, slice_get}
-use Rattle.std.proofs.lemmas.Bool.{cases_Bool, cases_eq, cases_lt}
+use Rattle.std.proofs.Common.{◌≡◌, ◌≢◌, ◌↔◌, ◌<◌, ◌+◌, ℕ, zero, suc, Bool, true, false, not, IsTrue, List, [], ◌∷◌, ◌++◌, length, get_or, set, Contains, Some, None, refl, sym, ap, ◌∙◌, subst, inl, inr, arith}
+use Rattle.std.specs.List.{All}
+use Rattle.std.proofs.lemmas.Bool.{cases_Bool, cases_lt}
 use Rattle.std.proofs.lemmas.List.{get_or_append_left, get_or_push, length-set, length_push}
 use Rattle.std.proofs.lemmas.List.Elements.{All-contains, All-nil, All-push, All-weaker, Contains-append_cases, Contains-append_left, Contains-push}
 use Rattle.std.proofs.lemmas.Option.{same_Some, slice_get_within}
@@ -9,8 +9,8 @@ use Rattle.names_realms.specs.declared.states.State.{State}
 use Rattle.names_realms.specs.declared.states.State.TheVariants.{Active, Finalizing, Finalized}
 use Rattle.inclusion_graph.specs.declared.edge.Edge.{Edge}
 use Rattle.inclusion_graph.proofs.ListLemmas.{at_set_other, at_set_same, in_one}
-use Rattle.finaliser.specs.Marks.{IsPulled, IsSettledBelow, IsSound, IsWithin, Marks, unfinal}
-use Rattle.finaliser.specs.Settling.{IsIn, ReachesActive, Settles}
+use Rattle.finaliser.specs.Marks.{IsPulled, IsSettledBelow, IsSound, IsWithin, unfinal}
+use Rattle.finaliser.specs.Settling.{IsIn, Settles}
 use Rattle.finaliser.proofs.MarkLemmas.{marked_if}
 
 pub settled_none : (marks : List Bool) (states : List State) → IsSettledBelow marks states states 0 []
@@ -130,3 +130,13 @@ unfinal_push (Finalized ∷ states) = unfinal_push states
 
 pub all_within : (n : ℕ) (edges : List Edge) → All (λ (e : Edge). e.from < n) edges → All (λ (e : Edge). e.to < n) edges → All (IsWithin n) edges
 all_within n edges f t k d low = (f k d low, t k d low)
+
+-- a state that is set and set back
+pub set_back : (states : List State) (n : ℕ) (other state : State) → IsIn state states n → set (set states n other) n state ≡ states
+set_back [] n other state e = refl
+set_back (s ∷ states) zero other state e = ap (λ x. x ∷ states) (sym (same_Some s state e))
+set_back (s ∷ states) (suc n) other state e = ap (λ xs. s ∷ xs) (set_back states n other state e)
+
+pub not_marked : (mark : Bool) (R : Type 0) → (mark ≡ true → R) → (R → mark ≡ true) → IsTrue (not mark) ↔ (¬ R)
+not_marked true R f g = (λ t r. let no : false ≡ true = t in cc, λ none. absurd (none (f refl)))
+not_marked false R f g = (λ t r. let no : false ≡ true = g r in cc, λ none. refl)

@@ -1,5 +1,5 @@
 -- The code's own words for marks of what reaches an active node.
-use Rattle.std.specs.Prelude.{◌≡◌, ℕ, suc, ◌+◌, ◌<◌, ◌≤◌, ◌↔◌, Bool, true, false, List, [], ◌∷◌, Contains, length, slice_get, slice_index_or, slice_set, Some}
+use Rattle.std.specs.Prelude.{◌≡◌, ℕ, suc, ◌+◌, ◌<◌, ◌≤◌, ◌↔◌, Bool, true, false, List, [], ◌∷◌, Contains, length, slice_get, slice_index_or}
 use Rattle.std.specs.List.{All}
 use Rattle.std.specs.List.Sorted.{IsStrictlyIncreasing}
 use Rattle.names_realms.specs.declared.states.State.{State}
@@ -60,3 +60,4 @@ pub record IsKept (graph : GraphState) (states : List State) (marks : ℕ) (fina
   pub few : length states ≤ 4_294_967_296
   pub left : length finals + unfinal states ≤ length states
   pub room_left : length states ≤ room
+  pub within : All (λ node. node < length states) finals

@@ -23,6 +23,11 @@ IsIn state states node = slice_get states node ≡ Some state
 abbrev pub ReachesActive : List Edge → List State → ℕ → Type 0
 ReachesActive edges states node = (other : ℕ) × Reaches edges node other × IsIn Active states other
 
+-- Nothing is left to settle: every finalizing node reaches an active one, and no final one does.
+pub record IsSettled (edges : List Edge) (states : List State) : Type 0 where
+  pub waits : (node : ℕ) → IsIn Finalizing states node → ReachesActive edges states node
+  pub done : (node : ℕ) → IsIn Finalized states node → ¬ ReachesActive edges states node
+
 -- Every node that is finalizing and reaches no active one becomes final, all at once, and all else stays. Those that
 -- become final are listed, ascending.
 pub record Settles (edges : List Edge) (old new : List State) (finals : List ℕ) : Type 0 where

@@ -2,7 +2,7 @@
 ghost use Rattle.std.specs.Prelude.{◌≡◌, ◌≤◌, ◌<◌, ◌+◌, ◌++◌, ◌∷◌, ◌↔◌, [], ℕ, List, All, IsTrue, IfOk, IfErr, OnOk, length, slice_set};
 ghost use Rattle.inclusion_graph.specs.Edges.{edges_from};
 ghost use Rattle.inclusion_graph.specs.Plans.{Fits, IsEdgeFault, IsElsewhere, new_targets};
-ghost use Rattle.finaliser.specs.Settling.{IsIn, Settles};
+ghost use Rattle.finaliser.specs.Settling.{IsIn, ReachesActive, Settles};
 
 use crate::settling::{mark_active, mark_all, settle_unmarked};
 use inclusion_graph::{EdgeFault, EdgePlan, Graph};
@@ -64,7 +64,8 @@ impl Finaliser {
 
     /// The nodes that are newly final.
     pub fn finals(&self) -> &[u32]
-        ensures { result.now ≡ self.now.finals }
+        ensures finals { result.now ≡ self.now.finals }
+        ensures within { All (λ node. node < length self.now.states) result.now }
     {
         self.finals.as_slice()
     }
@@ -170,6 +171,25 @@ impl Finaliser {
             self.new.graph.spare_edges + length plan.targets }
     {
         self.graph.add_edges(plan);
+    }
+
+    /// Whether an active node would become final at once, if it were retired now. It takes no memory,
+    /// and changes nothing.
+    pub fn would_be_final(&mut self, node: u32) -> bool
+        requires { IsIn State.Active self.old.states node }
+        ensures answer { IsTrue result ↔ ¬ ReachesActive self.old.graph.edges
+            (slice_set self.old.states node State.Finalizing) node }
+        ensures graph { self.new.graph ≡ self.old.graph }
+        ensures states { self.new.states ≡ self.old.states }
+        ensures finals { self.new.finals ≡ self.old.finals }
+        ensures spare { self.old.spare ≤ self.new.spare }
+    {
+        let place = node as usize;
+        self.states[place] = State::Finalizing;
+        mark_active(self.graph.edges(), self.states.as_slice(), &mut self.marks);
+        mark_all(self.graph.edges(), &mut self.marks);
+        self.states[place] = State::Active;
+        !self.marks[place]
     }
 
     /// Makes an active node finalizing. Then every finalizing node that reaches no active one becomes

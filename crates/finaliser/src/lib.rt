@@ -2,8 +2,10 @@
 #![tactic(auto)]
 
 mod finaliser;
+mod laws;
 mod settling;
 #[cfg(test)]
 mod tests;
 
 pub use finaliser::Finaliser;
+pub use laws::in_turn_is_at_once;

@@ -1,4 +1,4 @@
-use Rattle.std.proofs.Common.{◌≡◌, length, arith, rules}
+use Rattle.std.proofs.Common.{arith}
 use Rattle.finaliser.proofs.MarkLemmas.{sound_active}
 use Rattle.finaliser.proofs.settling.mark_active.Goals as goal
 

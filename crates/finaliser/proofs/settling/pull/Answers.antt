@@ -1,4 +1,4 @@
-use Rattle.std.proofs.Common.{◌≡◌, false, get_or, arith, rules, tests}
+use Rattle.std.proofs.Common.{◌≡◌, false, get_or, arith}
 use Rattle.std.proofs.lemmas.Grind.{common_steps}
 use Rattle.finaliser.specs.Marks.{Marks}
 use Rattle.finaliser.proofs.MarkLemmas.{sound_more, turned_one}

@@ -1,6 +1,5 @@
-use Rattle.std.proofs.Common.{◌≡◌, ◌+◌, ℕ, List, [], ◌∷◌, ◌++◌, ap, ◌∙◌, subst, sym, append_assoc, inl, inr}
+use Rattle.std.proofs.Common.{◌+◌, List, [], ◌∷◌, ◌++◌, ap, ◌∙◌, subst, sym, append_assoc, inl, inr}
 use Rattle.names_realms.specs.declared.states.State.{State}
-use Rattle.names_realms.specs.declared.states.State.TheVariants.{Finalizing, Finalized}
 use Rattle.finaliser.specs.Marks.{IsSettledBelow}
 use Rattle.finaliser.proofs.SettleLemmas.{settled_more, settled_stays}
 use Rattle.finaliser.proofs.settling.settle_unmarked.Goals as goal

@@ -1,9 +1,10 @@
-use Rattle.std.proofs.Common.{◌≡◌, ◌<◌, ◌+◌, List, [], ◌∷◌, ◌++◌, length, sym, ap, ◌∙◌, subst, arith, ◌^◌, vec_len, vec_capacity}
+use Rattle.std.proofs.Common.{◌<◌, List, [], ◌∷◌, ◌++◌, length, sym, subst, arith, ◌^◌, vec_len, vec_capacity}
 use Rattle.std.proofs.lemmas.List.{length_push}
+use Rattle.std.proofs.lemmas.List.Elements.{All-weaker}
 use Rattle.names_realms.specs.declared.states.State.{State}
 use Rattle.names_realms.specs.declared.states.State.TheVariants.{Active}
 use Rattle.finaliser.specs.Settling.{FinaliserState}
-use Rattle.finaliser.specs.Marks.{IsKept, unfinal}
+use Rattle.finaliser.specs.Marks.{IsKept}
 use Rattle.finaliser.proofs.SettleLemmas.{unfinal_push}
 use Rattle.finaliser.proofs.finaliser.Finaliser.add_active.Goals as goal
 
@@ -22,4 +23,5 @@ invariant_of-self c =
       few = omega (arith, more, low, c.add_node.ensures.number, kept.nodes);
       left = omega (arith, kept.left, more, unfinal_push states);
       room_left = omega (arith, more, room, c.self.inside.states.ok.0);
+      within = All-weaker (λ n. n < length states) (λ n. n < length (states ++ Active ∷ [])) (λ n lt. omega (arith, more)) c.self.inside.finals.items kept.within;
     })

@@ -1,8 +1,8 @@
-use Rattle.std.proofs.Common.{◌≡◌, Bool, ◌++◌, ℕ, List, length, set, sym, ap, ◌∙◌, subst, arith, rules}
+use Rattle.std.proofs.Common.{◌≡◌, ◌<◌, Bool, ◌++◌, ℕ, List, length, set, sym, ap, subst, arith}
 use Rattle.std.specs.List.{All}
 use Rattle.inclusion_graph.specs.declared.edge.Edge.{Edge}
 use Rattle.std.proofs.lemmas.List.{length-append, length-set}
-use Rattle.std.proofs.lemmas.Option.{slice_get_within}
+use Rattle.std.proofs.lemmas.List.Elements.{All-append, All-weaker}
 use Rattle.names_realms.specs.declared.states.State.{State}
 use Rattle.names_realms.specs.declared.states.State.TheVariants.{Active, Finalizing}
 use Rattle.finaliser.specs.Settling.{FinaliserState, IsIn, Settles}
@@ -41,6 +41,10 @@ invariant_of-self c =
       few = omega (arith, kept.few, below.count, same);
       left = omega (arith, kept.left, below.left, below.count, same, finals, more, was);
       room_left = omega (arith, kept.room_left, below.count, same, c.settle_unmarked.ensures.capacity);
+      within = subst (All (λ n. n < length c.settle_unmarked.new.states.items)) (sym settled.1)
+          (All-append (λ n. n < length c.settle_unmarked.new.states.items) c.self.inside.finals.items settled.0
+          (All-weaker (λ n. n < length states) (λ n. n < length c.settle_unmarked.new.states.items) (λ n lt. omega (arith, below.count, same)) c.self.inside.finals.items kept.within)
+          (All-weaker (λ n. n < length (set states c.args.node Finalizing)) (λ n. n < length c.settle_unmarked.new.states.items) (λ n lt. omega (arith, below.count)) settled.0 below.low));
     }
 
 pub returns-clause-settled : goal.returns-clause-settled
