@@ -11,10 +11,10 @@ use Rattle.inclusion_graph.specs.Edges.{HasEdge, edges_from, target_from, target
 use Rattle.inclusion_graph.specs.Searches.{IsListed}
 use Rattle.inclusion_graph.proofs.ListLemmas.{at_either, at_set_other, at_set_same, in_one}
 
-eqb_same : (m n : ℕ) → m ≡ n → nat_eq m n ≡ true
+pub eqb_same : (m n : ℕ) → m ≡ n → nat_eq m n ≡ true
 eqb_same m n e = (Decides-eqb m n).1 e
 
-eqb_other : (m n : ℕ) → m ≢ n → nat_eq m n ≡ false
+pub eqb_other : (m n : ℕ) → m ≢ n → nat_eq m n ≡ false
 eqb_other m n other = elim (cases_Bool (nat_eq m n)) [ inl same ↦ absurd (other ((Decides-eqb m n).0 same)) | inr no_ ↦ no_ ]
 
 own : (edge : Edge) (edges : List Edge) (node : ℕ) → edge.from ≡ node → targets_of (edge ∷ edges) node ≡ edge.to ∷ targets_of edges node
@@ -34,14 +34,14 @@ targets_within (x ∷ xs) node n h =
       | inr no_ ↦ subst (All (λ t. t < n)) (sym (other x xs node no_)) rest
     ]
 
-first_or_rest : {X : Type 0} (x y : X) (xs : List X) (k : ℕ) → k < length (x ∷ xs) → get_or (x ∷ xs) k y ≡ y → (x ≡ y) ⊎ Contains xs y
+pub first_or_rest : {X : Type 0} (x y : X) (xs : List X) (k : ℕ) → k < length (x ∷ xs) → get_or (x ∷ xs) k y ≡ y → (x ≡ y) ⊎ Contains xs y
 first_or_rest x y xs zero within e = inl e
 first_or_rest x y xs (suc k) within e = inr (k, omega arith, e)
 
-in_rest : {X : Type 0} (x y : X) (xs : List X) → Contains xs y → Contains (x ∷ xs) y
+pub in_rest : {X : Type 0} (x y : X) (xs : List X) → Contains xs y → Contains (x ∷ xs) y
 in_rest x y xs held = (suc held.0, omega (arith, held.1), held.2)
 
-same_edge : (x : Edge) (a b : ℕ) → x.from ≡ a → x.to ≡ b → x ≡ record { from = a; to = b }
+pub same_edge : (x : Edge) (a b : ℕ) → x.from ≡ a → x.to ≡ b → x ≡ record { from = a; to = b }
 same_edge x a b e f =
     let at : ℕ → Edge = λ m. record { from = m; to = x.to } in
     let to : ℕ → Edge = λ m. record { from = a; to = m } in

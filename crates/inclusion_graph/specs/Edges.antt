@@ -1,5 +1,5 @@
 -- Edges between numbered nodes.
-use Rattle.std.specs.Prelude.{ℕ, Bool, List, [], ◌∷◌, ◌++◌, Option, Some, None, map, ◌==◌, Contains, if◌then◌else◌}
+use Rattle.std.specs.Prelude.{◌≡◌, ℕ, ◌+◌, ◌≤◌, Bool, List, [], ◌∷◌, ◌++◌, Option, Some, None, drop, map, slice_get, ◌==◌, Contains, if◌then◌else◌}
 use Rattle.std.specs.List.{filter_map, list_any}
 use Rattle.inclusion_graph.specs.declared.edge.Edge.{Edge}
 
@@ -21,6 +21,21 @@ target_from node edge = if edge.from == node then Some edge.to else None
 -- The targets of a node, in order of arrival.
 abbrev pub targets_of : List Edge → ℕ → List ℕ
 targets_of edges node = filter_map (target_from node) edges
+
+-- where an edge begins, if it leads to this node
+abbrev pub source_to : ℕ → Edge → Option ℕ
+source_to node edge = if edge.to == node then Some edge.from else None
+
+-- The sources of a node, in order of arrival: the nodes that have an edge to it.
+abbrev pub sources_of : List Edge → ℕ → List ℕ
+sources_of edges node = filter_map (source_to node) edges
+
+-- Of the edges from a place on, none leads to the node; or the first that does is at that place, and the others follow.
+abbrev pub IsFirstTo : List Edge → ℕ → ℕ → Option ℕ → Type 0
+IsFirstTo edges node start None = sources_of (drop start edges) node ≡ []
+IsFirstTo edges node start (Some at) =
+    (start ≤ at) × ((source : ℕ) × ((slice_get edges at ≡ Some (record { from = source; to = node }))
+    × (sources_of (drop start edges) node ≡ source ∷ sources_of (drop (at + 1) edges) node)))
 
 -- whether the list has the number
 abbrev pub has : List ℕ → ℕ → Bool

@@ -1,12 +1,14 @@
 //! The graph of inclusions.
 ghost use Rattle.std.specs.Prelude.{◌≡◌, ◌+◌, ◌-◌, ◌<◌, ◌≤◌, ◌^◌, ◌++◌, ◌↔◌, ℕ, ◌∷◌, [], Some, List, IfOk, IfErr, OnOk, MatchOption, All, Contains, length, slice_get, vec_len, vec_capacity};
 ghost use Rattle.std.specs.List.Sorted.{IsStrictlyIncreasing};
-ghost use Rattle.inclusion_graph.specs.Edges.{edges_from, targets_of};
+ghost use Rattle.inclusion_graph.specs.declared.edge.Edge.{Edge};
+ghost use Rattle.inclusion_graph.specs.Edges.{IsFirstTo, edges_from, targets_of};
 ghost use Rattle.inclusion_graph.specs.Plans.{Fits, IsEdgeFault, IsElsewhere, new_targets};
 ghost use Rattle.inclusion_graph.specs.Searches.{IsListed, IsRooted, IsSearched, nodes_of};
 ghost use Rattle.inclusion_graph.specs.Walks.{IsReached, Leads, Reaches};
 
 use crate::edge::Edge;
+use crate::edge_list::EdgeList;
 use crate::plan::{EdgeFault, EdgePlan, joined, place_of};
 use crate::search::Search;
 use std::alloc::{AllocError, Global};
@@ -21,12 +23,12 @@ const MOST_NODES: usize = 4_294_967_295;
 /// Nodes, which are numbered from 0, and the edges between them, at most 262,144.
 #[derive(Drop)]
 pub struct Graph {
-    edges: Vec<Edge>,
+    edges: EdgeList,
     targets: Vec<Vec<u32>>,
 }
 
 impl Model for Graph {
-    ghost use Rattle.std.specs.Prelude.{◌-◌, min, length, vec_len, vec_capacity};
+    ghost use Rattle.std.specs.Prelude.{◌≡◌, ◌-◌, min, length, vec_len, vec_capacity};
     ghost use Rattle.inclusion_graph.specs.Edges.{GraphState};
     ghost use Rattle.inclusion_graph.specs.Searches.{IsListed};
 
@@ -34,12 +36,14 @@ impl Model for Graph {
 
     ghost view = { λ g. record {
       nodes = length g.targets.items;
-      edges = g.edges.items;
-      spare_nodes = min (vec_capacity g.targets) 4_294_967_295 - vec_len g.targets;
-      spare_edges = vec_capacity g.edges - vec_len g.edges;
+      edges = g.edges.edges;
+      spare_nodes = min (min (vec_capacity g.targets) 4_294_967_295 - vec_len g.targets)
+          g.edges.spare_nodes;
+      spare_edges = g.edges.spare_edges;
     } };
 
-    ghost invariant = { λ g. IsListed g.edges.items g.targets.items };
+    ghost invariant = { λ g. IsListed g.edges.edges g.targets.items
+        × (g.edges.nodes ≡ length g.targets.items) };
 }
 
 impl Graph {
@@ -49,7 +53,7 @@ impl Graph {
         ensures edges { IfOk result (λ graph. graph.edges ≡ []) }
     {
         Ok(Graph {
-            edges: Vec::new(alloc),
+            edges: EdgeList::new(alloc),
             targets: Vec::new(alloc),
         })
     }
@@ -88,6 +92,23 @@ impl Graph {
         self.targets(node).get(k as usize).copied()
     }
 
+    /// The place of the first edge to a node, among the edges in order of arrival, or none.
+    pub fn first_edge_to(&self, node: u32) -> Option<u32>
+        requires { node < self.now.nodes }
+        ensures { IsFirstTo self.now.edges node 0 result }
+    {
+        self.edges.first_to(node)
+    }
+
+    /// The place of the next edge to the node to which the edge at this place leads, or none.
+    pub fn next_edge_to(&self, place: u32) -> Option<u32>
+        requires { place < length self.now.edges }
+        ensures { (edge : Edge) → slice_get self.now.edges place ≡ Some edge →
+            IsFirstTo self.now.edges edge.to (place + 1) result }
+    {
+        self.edges.next_to(place)
+    }
+
     /// Makes room for this many nodes and edges more. `Err` where there is no memory for them.
     pub fn reserve(&mut self, alloc: Global, nodes: u32, edges: u32) -> Result<(), AllocError>
         ensures nodes { self.new.nodes ≡ self.old.nodes }
@@ -102,7 +123,7 @@ impl Graph {
             return Err(AllocError);
         }
         self.targets.reserve(nodes as usize)?;
-        self.edges.reserve(edges as usize)?;
+        self.edges.reserve(nodes as usize, edges as usize)?;
         Ok(())
     }
 
@@ -116,8 +137,9 @@ impl Graph {
         ensures spare_edges { self.old.spare_edges ≤ self.new.spare_edges }
     {
         let number = self.targets.len() as u32;
-        let none = Vec::new(*self.edges.allocator());
+        let none = Vec::new(*self.targets.allocator());
         self.targets.push_reserved(none);
+        self.edges.add_node();
         number
     }
 
@@ -154,7 +176,7 @@ impl Graph {
                 count: self.edges.len() as u32,
             });
         }
-        self.edges.reserve(all.len() - count)?;
+        self.edges.reserve(0, all.len() - count)?;
         Ok(EdgePlan {
             from,
             held: count,
@@ -246,13 +268,16 @@ impl Graph {
 }
 
 /// Appends edges from a node to each of these, for which there is room.
-fn add_from(edges: &mut Vec<Edge>, from: u32, targets: &[u32])
-    requires { vec_len edges.old + length targets.now ≤ vec_capacity edges.old }
-    ensures edges { edges.new.items ≡ edges.old.items ++ edges_from from targets.now }
-    ensures len { vec_len edges.new ≡ vec_len edges.old + length targets.now }
-    ensures capacity { vec_capacity edges.new ≡ vec_capacity edges.old }
+fn add_from(edges: &mut EdgeList, from: u32, targets: &[u32])
+    requires targets { All (λ target. target < edges.old.nodes) targets.now }
+    requires few { length edges.old.edges + length targets.now ≤ 262_144 }
+    requires room { length targets.now ≤ edges.old.spare_edges }
+    ensures nodes { edges.new.nodes ≡ edges.old.nodes }
+    ensures edges { edges.new.edges ≡ edges.old.edges ++ edges_from from targets.now }
+    ensures spare_nodes { edges.old.spare_nodes ≤ edges.new.spare_nodes }
+    ensures spare_edges { edges.old.spare_edges ≤ edges.new.spare_edges + length targets.now }
 {
     for to in targets {
-        edges.push_reserved(Edge { from, to: *to });
+        edges.push(Edge { from, to: *to });
     }
 }

@@ -2,6 +2,7 @@
 #![tactic(auto)]
 
 mod edge;
+mod edge_list;
 mod graph;
 mod plan;
 mod search;

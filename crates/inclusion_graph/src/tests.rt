@@ -58,6 +58,38 @@ fn by_turns(alloc: Global, graph: &Graph, roots: &[u32]) -> Result<Vec<u32>, All
     Ok(found)
 }
 
+/// The sources of a node, from edge to edge.
+fn by_links(alloc: Global, graph: &Graph, node: u32) -> Result<Vec<u32>, AllocError> {
+    let mut sources = Vec::new(alloc);
+    if node >= graph.nodes() {
+        return Ok(sources);
+    }
+    let edges = graph.edges();
+    let mut next = graph.first_edge_to(node);
+    for _ in edges {
+        let Some(place) = next else {
+            break;
+        };
+        if place as usize >= edges.len() {
+            break;
+        }
+        sources.push(edges[place as usize].from)?;
+        next = graph.next_edge_to(place);
+    }
+    Ok(sources)
+}
+
+/// The sources of a node, by a pass over all edges.
+fn by_pass(alloc: Global, graph: &Graph, node: u32) -> Result<Vec<u32>, AllocError> {
+    let mut sources = Vec::new(alloc);
+    for edge in graph.edges() {
+        if edge.to == node {
+            sources.push(edge.from)?;
+        }
+    }
+    Ok(sources)
+}
+
 /// Whether each two neighbours are an edge.
 fn is_walk(edges: &[Edge], walk: &[u32]) -> bool {
     walk.windows(2).all(|pair| {
@@ -103,7 +135,16 @@ fn walks_and_reach(rt: HostRuntime) -> Result<(), Fail> {
         assert_eq!(rt; graph.reach(alloc, roots)?.as_slice(), nodes);
         assert_eq!(rt; by_turns(alloc, &graph, roots)?.as_slice(), nodes);
     }
+    assert_eq!(rt; by_links(alloc, &graph, 2)?.as_slice(), [0, 1].as_slice());
+    assert_eq!(rt; by_links(alloc, &graph, 4)?.as_slice(), [0].as_slice());
+    assert!(rt; by_links(alloc, &graph, 7)?.is_empty());
     for a in 0u32..8 {
+        let links = by_links(alloc, &graph, a)?;
+        assert_eq!(rt;
+            links.as_slice(),
+            by_pass(alloc, &graph, a)?.as_slice(),
+            "{a}"
+        );
         let reached = by_turns(alloc, &graph, [a].as_slice())?;
         for b in 0u32..8 {
             match graph.walk_to(alloc, a, b)? {

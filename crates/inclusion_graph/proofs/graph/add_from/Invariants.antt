@@ -1,10 +1,11 @@
-use Rattle.std.proofs.Common.{◌≡◌, ◌+◌, ◌++◌, take, vec_len, vec_capacity}
+use Rattle.std.proofs.Common.{◌≡◌, ◌≤◌, ◌+◌, ◌++◌, take}
 use Rattle.inclusion_graph.specs.Edges.{edges_from}
 use Rattle.inclusion_graph.proofs.graph.add_from.Given as goal
 
 abbrev pub invariant-loop-to : goal.invariant-loop-to
 invariant-loop-to l = record {
-  edges : l.edges.items ≡ l.initial.edges.items ++ edges_from l.from (take l.to-index l.targets);
-  count : vec_len l.edges ≡ vec_len l.initial.edges + l.to-index;
-  capacity : vec_capacity l.edges ≡ vec_capacity l.initial.edges;
+  nodes : l.edges.nodes ≡ l.initial.edges.nodes;
+  edges : l.edges.edges ≡ l.initial.edges.edges ++ edges_from l.from (take l.to-index l.targets);
+  spare_nodes : l.initial.edges.spare_nodes ≤ l.edges.spare_nodes;
+  spare_edges : l.initial.edges.spare_edges ≤ l.edges.spare_edges + l.to-index;
 }

@@ -8,7 +8,7 @@ use Rattle.inclusion_graph.proofs.graph.Graph.prepare_edges.Goals as goal
 
 pub returns-clause-fits : goal.returns-clause-fits
 returns-clause-fits c =
-    let edges = c.self.inside.edges.items in
+    let edges = c.self.inside.edges.edges in
     let lists = c.self.inside.targets.items in
     let held = c.targets-held.result.now in
     let all = c.in_ok-all.all.items in
@@ -19,12 +19,12 @@ returns-clause-fits c =
     let back : drop (length held) all ≡ new = ap (drop (length held)) c.in_ok-all.ensures ∙ drop_at held new (length held) refl in
     let targets = subst (λ n. All (λ t. t < n) c.args.targets.now) (sym nodes) c.requires.targets in
     let count : length (drop (length held) all) + length edges ≤ 262_144 =
-    omega (arith, length-drop (length held) all, c.self.invariant.few, c.self.inside.edges.ok.0, c.in_ok-all.all.ok.0) in
+    omega (arith, length-drop (length held) all, c.self.invariant.0.few, c.in_ok-all.all.ok.0) in
     record {
       from = subst (λ n. c.args.from < n) (sym nodes) c.requires.from;
       held = front ∙ c.targets-held.ensures.targets
-          ∙ ap (λ (es : List Edge). targets_of es c.args.from) (sym edges_are ∙ sym c.reserve.ensures.items);
+          ∙ ap (λ (es : List Edge). targets_of es c.args.from) (sym edges_are ∙ sym c.reserve.ensures.edges);
       targets = subst (All (λ t. t < length lists)) (sym back) (fresh_within (λ t. t < length lists) held c.args.targets.now targets);
-      few = rw c.reserve.ensures.items (omega arith);
-      room = omega (arith, length-drop (length held) all, c.in_ok-reserve.ensures.ok, c.in_ok-all.all.ok.0);
+      few = rw c.reserve.ensures.edges (omega arith);
+      room = omega (arith, length-drop (length held) all, c.in_ok-reserve.ensures.room_for_edges, c.in_ok-all.all.ok.0);
     }

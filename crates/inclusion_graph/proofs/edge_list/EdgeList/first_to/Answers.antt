@@ -1,0 +1,24 @@
+use Rattle.std.proofs.Common.{◌≡◌, ◌<◌, List, Option, Some, None, length, refl, sym, ap, ◌∙◌, subst}
+use Rattle.std.specs.List.{slice_get}
+use Rattle.std.proofs.lemmas.Option.{slice_get_read}
+use Rattle.inclusion_graph.specs.declared.edge.Edge.{Edge}
+use Rattle.inclusion_graph.specs.declared.edge_list.Ends.{Ends}
+use Rattle.inclusion_graph.specs.Edges.{GraphState, IsFirstTo}
+use Rattle.inclusion_graph.specs.Links.{HasEnds}
+use Rattle.inclusion_graph.proofs.edge_list.EdgeList.first_to.Goals as goal
+
+pub returns-in-Some : goal.returns-in-Some
+returns-in-Some c =
+    let lists = c.self.inside.ends.items in
+    let within : c.args.node < length lists = subst (λ (g : GraphState). c.args.node < g.nodes) (sym c.self.view_is) c.requires in
+    let at = slice_get_read lists (length lists) c.args.node c.index.result.now refl within c.index.ensures in
+    let has = subst (HasEnds c.self.inside.edges.items c.args.node) c.in-Some.is (c.self.invariant.ends_are c.args.node c.index.result.now at) in
+    subst (λ (g : GraphState). IsFirstTo g.edges c.args.node 0 (Some c.in-Some.ends.first)) c.self.view_is has.0
+
+pub returns-in-None : goal.returns-in-None
+returns-in-None c =
+    let lists = c.self.inside.ends.items in
+    let within : c.args.node < length lists = subst (λ (g : GraphState). c.args.node < g.nodes) (sym c.self.view_is) c.requires in
+    let at = slice_get_read lists (length lists) c.args.node c.index.result.now refl within c.index.ensures in
+    let has = subst (HasEnds c.self.inside.edges.items c.args.node) c.in-None.is (c.self.invariant.ends_are c.args.node c.index.result.now at) in
+    subst (λ (g : GraphState). IsFirstTo g.edges c.args.node 0 None) c.self.view_is has
