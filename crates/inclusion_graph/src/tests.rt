@@ -5,6 +5,12 @@ use crate::{Edge, EdgeFault, Graph};
 use std::alloc::{AllocError, Global};
 use std::test::Fail;
 
+/// Edges that are added in turn, from a node to its targets.
+const INCLUSIONS: [(u32, &[u32]); 5] = [(2, &[1, 0]), (0, &[1]), (1, &[2]), (3, &[1]), (0, &[2])];
+
+/// The sources of each node then.
+const SOURCES: [(u32, &[u32]); 4] = [(0, &[2]), (1, &[2, 0, 3]), (2, &[1, 0]), (3, &[])];
+
 /// A graph of so many nodes.
 fn graph_of(alloc: Global, nodes: u32) -> Result<Graph, AllocError> {
     let mut graph = Graph::new(alloc)?;
@@ -135,16 +141,7 @@ fn walks_and_reach(rt: HostRuntime) -> Result<(), Fail> {
         assert_eq!(rt; graph.reach(alloc, roots)?.as_slice(), nodes);
         assert_eq!(rt; by_turns(alloc, &graph, roots)?.as_slice(), nodes);
     }
-    assert_eq!(rt; by_links(alloc, &graph, 2)?.as_slice(), [0, 1].as_slice());
-    assert_eq!(rt; by_links(alloc, &graph, 4)?.as_slice(), [0].as_slice());
-    assert!(rt; by_links(alloc, &graph, 7)?.is_empty());
     for a in 0u32..8 {
-        let links = by_links(alloc, &graph, a)?;
-        assert_eq!(rt;
-            links.as_slice(),
-            by_pass(alloc, &graph, a)?.as_slice(),
-            "{a}"
-        );
         let reached = by_turns(alloc, &graph, [a].as_slice())?;
         for b in 0u32..8 {
             match graph.walk_to(alloc, a, b)? {
@@ -158,6 +155,31 @@ fn walks_and_reach(rt: HostRuntime) -> Result<(), Fail> {
                 None => assert!(rt; !reached.contains(&b), "{a} {b}"),
             }
         }
+    }
+    Ok(())
+}
+
+/// Whether a node has these sources, from edge to edge and by a pass over all edges.
+fn has_sources(
+    alloc: Global,
+    graph: &Graph,
+    node: u32,
+    sources: &[u32],
+) -> Result<bool, AllocError> {
+    let links = by_links(alloc, graph, node)?;
+    let pass = by_pass(alloc, graph, node)?;
+    Ok(links.as_slice() == sources && pass.as_slice() == sources)
+}
+
+#[test]
+fn sources_in_order_of_arrival(rt: HostRuntime) -> Result<(), Fail> {
+    let alloc = rt.alloc();
+    let mut graph = graph_of(alloc, 4)?;
+    for (from, targets) in INCLUSIONS {
+        let _ = add(alloc, &mut graph, from, targets)?;
+    }
+    for (node, sources) in SOURCES {
+        assert!(rt; has_sources(alloc, &graph, node, sources)?, "{node}");
     }
     Ok(())
 }
