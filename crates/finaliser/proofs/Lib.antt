@@ -1,3 +1,6 @@
+pub mod CandidateLemmas
+pub mod HoldingLemmas
 pub mod LawLemmas
 pub mod MarkLemmas
+pub mod NodeLemmas
 pub mod SettleLemmas

@@ -24,7 +24,7 @@ settled_none marks states = record {
   left = omega arith;
 }
 
-unfinal_set : (states : List State) (n : ℕ) → IsIn Finalizing states n → unfinal (set states n Finalized) + 1 ≡ unfinal states
+pub unfinal_set : (states : List State) (n : ℕ) → IsIn Finalizing states n → unfinal (set states n Finalized) + 1 ≡ unfinal states
 unfinal_set [] n e = let no : None ≡ Some Finalizing = e in cc
 unfinal_set (s ∷ states) zero e = subst (λ x. unfinal states + 1 ≡ unfinal (x ∷ states)) (sym (same_Some s Finalizing e)) (omega arith)
 unfinal_set (Active ∷ states) (suc n) e = let more = unfinal_set states n e in omega arith

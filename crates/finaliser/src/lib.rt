@@ -1,8 +1,10 @@
 //! The states of invocations, and when those that are finalizing become final.
 #![tactic(auto)]
 
+mod candidates;
 mod finaliser;
 mod laws;
+mod node_set;
 mod settling;
 #[cfg(test)]
 mod tests;
