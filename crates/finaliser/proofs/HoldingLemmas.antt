@@ -1,20 +1,25 @@
 -- What a retirement can make final, and what it leaves settled.
-use Rattle.std.proofs.Common.{◌≡◌, ◌≢◌, ◌⊎◌, ◌↔◌, ◌<◌, ◌≤◌, ◌+◌, ℕ, zero, suc, List, [], ◌∷◌, ◌++◌, length, set, Contains, Some, None, refl, sym, ap, ◌∙◌, subst, inl, inr, arith}
-use Rattle.std.specs.List.{All, slice_get}
-use Rattle.std.proofs.lemmas.Bool.{cases_eq, cases_lt}
+use Rattle.std.proofs.Common.{◌≡◌, ◌≢◌, ◌⊎◌, ◌↔◌, ◌<◌, ◌≤◌, ◌+◌, ℕ, zero, suc, Bool, true, false, not, IsTrue, List, [], ◌∷◌, ◌++◌, length, set, Contains, Some, None, refl, sym, ap, ◌∙◌, subst, inl, inr, arith}
+use Rattle.std.specs.List.{All, filter, slice_get}
+use Rattle.std.specs.List.Sorted.{IsPermutation, IsStrictlyIncreasing}
+use Rattle.std.proofs.lemmas.Bool.{cases_Bool, cases_eq}
 use Rattle.std.proofs.lemmas.List.Elements.{All-contains, Contains-append_cases, Contains-append_left}
-use Rattle.std.proofs.lemmas.Option.{same_Some, slice_get_within, slice_get_past}
+use Rattle.std.proofs.lemmas.List.Kept.{IsStrictlyIncreasing-filter}
+use Rattle.std.proofs.lemmas.List.Sorted.{All-permutation, Contains-permutation, IsPermutation-sym}
+use Rattle.std.proofs.lemmas.Option.{same_Some, slice_get_within}
 use Rattle.names_realms.specs.declared.states.State.{State}
 use Rattle.names_realms.specs.declared.states.State.TheVariants.{Active, Finalizing, Finalized}
 use Rattle.inclusion_graph.specs.declared.edge.Edge.{Edge}
-use Rattle.inclusion_graph.specs.Edges.{HasEdge}
+use Rattle.inclusion_graph.specs.Edges.{HasEdge, has}
 use Rattle.inclusion_graph.specs.Walks.{IsWalk, Leads, Reaches}
-use Rattle.inclusion_graph.proofs.ListLemmas.{at_either, at_left, at_set_other, at_set_same, in_one}
+use Rattle.inclusion_graph.proofs.ListLemmas.{at_either, at_left, at_set_other, at_set_same, has_from, held_from, in_one}
 use Rattle.inclusion_graph.proofs.WalkLemmas.{along, reaches_itself}
-use Rattle.finaliser.specs.Holding.{AreFound, AreHeld, Holds}
+use Rattle.finaliser.specs.Holding.{AreFound, AreFreed, AreHeld, AreWithin, Holds, IsHeldUp, is_free}
 use Rattle.finaliser.specs.Settling.{IsIn, IsSettled, ReachesActive, Settles}
 use Rattle.finaliser.proofs.LawLemmas.{active_finalized, active_finalizing, cases_held, fewer_active, finalizing_finalized}
+use Rattle.finaliser.proofs.CandidateLemmas.{filter_holds}
 use Rattle.finaliser.proofs.MarkLemmas.{reaches_back}
+use Rattle.finaliser.proofs.SettleLemmas.{not_marked}
 
 state_at : (states : List State) (n : ℕ) → n < length states → (state : State) × IsIn state states n
 state_at [] n within = absurd (omega arith)
@@ -29,11 +34,6 @@ one_of states n Finalized e = inr (inr e)
 -- the state of a node
 pub cases_state : (states : List State) (n : ℕ) → n < length states → IsIn Active states n ⊎ (IsIn Finalizing states n ⊎ IsIn Finalized states n)
 cases_state states n within = let at = state_at states n within in one_of states n at.0 at.1
-
--- all edges join nodes that have a state
-pub record AreWithin (edges : List Edge) (n : ℕ) : Type 0 where
-  pub from : All (λ (e : Edge). e.from < n) edges
-  pub to : All (λ (e : Edge). e.to < n) edges
 
 -- a node begins, the states are settled but for that, and these are found and held
 pub record IsRetiring (edges : List Edge) (old : List State) (node : ℕ) (found held : List ℕ) : Type 0 where
@@ -265,3 +265,64 @@ settled_none edges = record {
   waits = λ k is. let no : None ≡ Some Finalizing = is in cc;
   done = λ k is r. let no : None ≡ Some Finalized = is in cc;
 }
+
+-- the found nodes in another order
+pub found_moved : (edges : List Edge) (states : List State) (node : ℕ) (found moved : List ℕ) → IsPermutation found moved
+    → AreFound edges states node found → AreFound edges states node moved
+found_moved edges states node found moved p h = record {
+  begun = Contains-permutation found moved node p h.begun;
+  finalizing = All-permutation (IsIn Finalizing states) found moved p h.finalizing;
+  closed = λ a b e held is. Contains-permutation found moved a p (h.closed a b e (Contains-permutation moved found b (IsPermutation-sym found moved p) held) is);
+}
+
+holds_moved : (states : List State) (found moved : List ℕ) (n : ℕ) → IsPermutation found moved → Holds states found n → Holds states moved n
+holds_moved states found moved n p (inl active) = inl active
+holds_moved states found moved n p (inr waits) =
+    inr (waits.0, λ held. waits.1 (Contains-permutation moved found n (IsPermutation-sym found moved p) held))
+
+pub held_moved : (edges : List Edge) (states : List State) (found moved held : List ℕ) → IsPermutation found moved
+    → AreHeld edges states found held → AreHeld edges states moved held
+held_moved edges states found moved held p h = let back = IsPermutation-sym found moved p in record {
+  begun = λ n held_n up. h.begun n (Contains-permutation moved found n back held_n) (up.0, (up.1.0, holds_moved states moved found up.0 back up.1.1));
+  closed = h.closed;
+  sound = λ n held_n. let why = h.sound n held_n in (why.0, (why.1.0, holds_moved states found moved why.0 p why.1.1));
+}
+
+free_says : (held : List ℕ) (n : ℕ) → (is_free held n ≡ true) ↔ (¬ Contains held n)
+free_says held n =
+    elim (cases_Bool (has held n)) [
+      | inl yes_ ↦ (
+        λ e. let no : false ≡ true = ap not (sym yes_) ∙ e in cc,
+        λ none. absurd (none (held_from held n yes_)),
+      )
+      | inr no_ ↦ (
+        λ e is. let no : true ≡ false = sym (has_from held n is) ∙ no_ in cc,
+        λ none. ap not no_,
+      )
+    ]
+
+-- the found nodes that aren't held up, ascending, are what settles
+pub settles_freed : (edges : List Edge) (old : List State) (node : ℕ) (found held : List ℕ) (new : List State) → IsRetiring edges old node found held
+    → IsStrictlyIncreasing found → AreFreed (filter (is_free held) found) (set old node Finalizing) new
+    → Settles edges (set old node Finalizing) new (filter (is_free held) found)
+settles_freed edges old node found held new h rising freed = record {
+  rising = IsStrictlyIncreasing-filter (is_free held) found rising;
+  all = λ k. (
+    λ is. let both = (filter_holds (is_free held) found k).0 is in (free_are edges old node found held h k).0 (both.0, (free_says held k).0 both.1),
+    λ both. let free = (free_are edges old node found held h k).1 both in (filter_holds (is_free held) found k).1 (free.0, (free_says held k).1 free.1),
+  );
+  final = freed.final;
+  others = freed.others;
+  count = freed.count;
+}
+
+-- whether the node that begins is held up
+pub not_held : (edges : List Edge) (old : List State) (node : ℕ) (found held : List ℕ) (waits : Bool) → IsRetiring edges old node found held
+    → (waits ≡ true) ↔ Contains held node → IsTrue (not waits) ↔ (¬ ReachesActive edges (set old node Finalizing) node)
+not_held edges old node found held waits h says =
+    not_marked waits (ReachesActive edges (set old node Finalizing) node)
+    (λ e. held_reaches edges old node found held h node (says.0 e))
+    (λ r. elim (cases_held held node) [
+      | inl is ↦ says.1 is
+      | inr free ↦ absurd (free_reaches edges old node found held h node h.found_are.begun free r)
+    ])

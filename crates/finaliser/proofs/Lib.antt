@@ -1,5 +1,6 @@
 pub mod CandidateLemmas
 pub mod HoldingLemmas
+pub mod KeptLemmas
 pub mod LawLemmas
 pub mod MarkLemmas
 pub mod NodeLemmas

@@ -1,14 +1,14 @@
 -- The code's own words for what a retirement can make final: nodes that are found, and those of them that are held up.
-use Rattle.std.specs.Prelude.{◌≡◌, ℕ, ◌+◌, ◌-◌, ◌<◌, ◌≤◌, ◌⊎◌, nat_eq, Bool, not, List, ◌++◌, Option, Some, None, drop, Contains, length, slice_get}
+use Rattle.std.specs.Prelude.{◌≡◌, ℕ, ◌+◌, ◌-◌, ◌<◌, ◌≤◌, ◌⊎◌, nat_eq, Bool, not, List, [], ◌++◌, Option, Some, None, drop, Contains, length, slice_get}
 use Rattle.std.specs.List.{All, IsDistinct}
 use Rattle.names_realms.specs.declared.states.State.{State}
 use Rattle.names_realms.specs.declared.states.State.TheVariants.{Active, Finalizing, Finalized}
 use Rattle.inclusion_graph.specs.declared.edge.Edge.{Edge}
-use Rattle.inclusion_graph.specs.Edges.{HasEdge, IsFirstTo, has, sources_of}
+use Rattle.inclusion_graph.specs.Edges.{GraphState, HasEdge, IsFirstTo, has, sources_of}
 use Rattle.inclusion_graph.specs.Searches.{HasMarks}
 use Rattle.inclusion_graph.specs.Walks.{Reaches}
 use Rattle.finaliser.specs.Marks.{unfinal, unmarked}
-use Rattle.finaliser.specs.Settling.{IsIn}
+use Rattle.finaliser.specs.Settling.{IsIn, IsSettled}
 
 -- a set of nodes, in the order in which they were added, out of those below a number, and for how many more nodes there is
 -- room
@@ -93,3 +93,22 @@ pub record AreFreed (more : List ℕ) (old new : List State) : Type 0 where
   pub others : (node : ℕ) → (¬ Contains more node) → slice_get new node ≡ slice_get old node
   pub count : length new ≡ length old
   pub left : unfinal new + length more ≡ unfinal old
+
+-- all edges join nodes below this
+pub record AreWithin (edges : List Edge) (nodes : ℕ) : Type 0 where
+  pub from : All (λ edge. edge.from < nodes) edges
+  pub to : All (λ edge. edge.to < nodes) edges
+
+-- what a finaliser keeps between calls: a state for each node, nothing left to settle, two empty sets, and room for all
+-- finals to come
+pub record IsKept (graph : GraphState) (states : List State) (found held : NodeSetState) (finals : List ℕ) (room : ℕ) : Type 0 where
+  pub nodes : graph.nodes ≡ length states
+  pub joined : AreWithin graph.edges (length states)
+  pub settled : IsSettled graph.edges states
+  pub found_none : found.nodes ≡ []
+  pub found_below : found.below ≡ length states
+  pub held_none : held.nodes ≡ []
+  pub held_below : held.below ≡ length states
+  pub left : length finals + unfinal states ≤ length states
+  pub room_left : length states ≤ room
+  pub within : All (λ node. node < length states) finals

@@ -5,7 +5,6 @@ use Rattle.std.specs.List.Sorted.{IsStrictlyIncreasing}
 use Rattle.names_realms.specs.declared.states.State.{State}
 use Rattle.names_realms.specs.declared.states.State.TheVariants.{Active, Finalizing, Finalized}
 use Rattle.inclusion_graph.specs.declared.edge.Edge.{Edge}
-use Rattle.inclusion_graph.specs.Edges.{GraphState}
 use Rattle.finaliser.specs.Settling.{IsIn, ReachesActive}
 
 abbrev pub Marks : List Bool → ℕ → Type 0
@@ -52,12 +51,3 @@ pub record IsSettledBelow (marks : List Bool) (old new : List State) (below : �
   pub others : (node : ℕ) → (¬ Contains finals node) → slice_get new node ≡ slice_get old node
   pub count : length new ≡ length old
   pub left : unfinal new + length finals ≡ unfinal old
-
--- what a finaliser keeps between calls: a node for each state and mark, and room for all finals to come
-pub record IsKept (graph : GraphState) (states : List State) (marks : ℕ) (finals : List ℕ) (room : ℕ) : Type 0 where
-  pub nodes : graph.nodes ≡ length states
-  pub marked : marks ≡ length states
-  pub few : length states ≤ 4_294_967_296
-  pub left : length finals + unfinal states ≤ length states
-  pub room_left : length states ≤ room
-  pub within : All (λ node. node < length states) finals

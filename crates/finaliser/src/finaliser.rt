@@ -2,9 +2,10 @@
 ghost use Rattle.std.specs.Prelude.{◌≡◌, ◌≤◌, ◌<◌, ◌+◌, ◌++◌, ◌∷◌, ◌↔◌, [], ℕ, List, All, IsTrue, IfOk, IfErr, OnOk, length, slice_set};
 ghost use Rattle.inclusion_graph.specs.Edges.{edges_from};
 ghost use Rattle.inclusion_graph.specs.Plans.{Fits, IsEdgeFault, IsElsewhere, new_targets};
-ghost use Rattle.finaliser.specs.Settling.{IsIn, ReachesActive, Settles};
+ghost use Rattle.finaliser.specs.Settling.{IsIn, IsSettled, ReachesActive, Settles};
 
-use crate::settling::{mark_active, mark_all, settle_unmarked};
+use crate::candidates::{find_held, settle_free};
+use crate::node_set::NodeSet;
 use inclusion_graph::{EdgeFault, EdgePlan, Graph};
 use names_realms::State;
 use std::alloc::{AllocError, Global};
@@ -15,14 +16,15 @@ use std::marker::Model;
 pub struct Finaliser {
     graph: Graph,
     states: Vec<State>,
-    marks: Vec<bool>,
+    found: NodeSet,
+    held: NodeSet,
     finals: Vec<u32>,
 }
 
 impl Model for Finaliser {
     ghost use Rattle.std.specs.Prelude.{◌-◌, min, vec_len, vec_capacity};
     ghost use Rattle.finaliser.specs.Settling.{FinaliserState};
-    ghost use Rattle.finaliser.specs.Marks.{IsKept};
+    ghost use Rattle.finaliser.specs.Holding.{IsKept};
 
     ghost Value = { FinaliserState };
 
@@ -31,11 +33,11 @@ impl Model for Finaliser {
       states = f.states.items;
       finals = f.finals.items;
       spare = min (min f.graph.spare_nodes (vec_capacity f.states - vec_len f.states))
-          (min (vec_capacity f.marks - vec_len f.marks) (vec_capacity f.finals - vec_len f.states));
+          (min (min f.found.spare f.held.spare) (vec_capacity f.finals - vec_len f.states));
     } };
 
     ghost invariant = { λ f.
-        IsKept f.graph f.states.items (vec_len f.marks) f.finals.items (vec_capacity f.finals) };
+        IsKept f.graph f.states.items f.found f.held f.finals.items (vec_capacity f.finals) };
 }
 
 impl Finaliser {
@@ -49,15 +51,17 @@ impl Finaliser {
         Ok(Finaliser {
             graph,
             states: Vec::new(alloc),
-            marks: Vec::new(alloc),
+            found: NodeSet::new(alloc),
+            held: NodeSet::new(alloc),
             finals: Vec::new(alloc),
         })
     }
 
-    /// The graph, which has a node for each state.
+    /// The graph, which has a node for each state. Nothing is left to settle.
     pub fn graph(&self) -> &Graph
         ensures graph { result.now ≡ self.now.graph }
         ensures nodes { self.now.graph.nodes ≡ length self.now.states }
+        ensures settled { IsSettled self.now.graph.edges self.now.states }
     {
         &self.graph
     }
@@ -109,7 +113,8 @@ impl Finaliser {
     {
         self.graph.reserve(alloc, 1, 0)?;
         self.states.reserve(1)?;
-        self.marks.reserve(1)?;
+        self.found.reserve()?;
+        self.held.reserve()?;
         self.finals.reserve(self.states.len() + 1)?;
         Ok(())
     }
@@ -126,7 +131,8 @@ impl Finaliser {
         ensures spare_edges { self.old.graph.spare_edges ≤ self.new.graph.spare_edges }
     {
         self.states.push_reserved(State::Active);
-        self.marks.push_reserved(false);
+        self.found.add_node();
+        self.held.add_node();
         self.graph.add_node()
     }
 
@@ -186,10 +192,18 @@ impl Finaliser {
     {
         let place = node as usize;
         self.states[place] = State::Finalizing;
-        mark_active(self.graph.edges(), self.states.as_slice(), &mut self.marks);
-        mark_all(self.graph.edges(), &mut self.marks);
+        find_held(
+            &self.graph,
+            self.states.as_slice(),
+            node,
+            &mut self.found,
+            &mut self.held,
+        );
         self.states[place] = State::Active;
-        !self.marks[place]
+        let waits = self.held.has(node);
+        self.found.clear();
+        self.held.clear();
+        !waits
     }
 
     /// Makes an active node finalizing. Then every finalizing node that reaches no active one becomes
@@ -203,8 +217,21 @@ impl Finaliser {
         ensures spare { self.old.spare ≤ self.new.spare }
     {
         self.states[node as usize] = State::Finalizing;
-        mark_active(self.graph.edges(), self.states.as_slice(), &mut self.marks);
-        mark_all(self.graph.edges(), &mut self.marks);
-        settle_unmarked(self.marks.as_slice(), &mut self.states, &mut self.finals);
+        find_held(
+            &self.graph,
+            self.states.as_slice(),
+            node,
+            &mut self.found,
+            &mut self.held,
+        );
+        self.found.sort();
+        settle_free(
+            &self.found,
+            &self.held,
+            &mut self.states,
+            &mut self.finals,
+        );
+        self.found.clear();
+        self.held.clear();
     }
 }

@@ -1,27 +1,19 @@
-use Rattle.std.proofs.Common.{◌<◌, List, [], ◌∷◌, ◌++◌, length, sym, subst, arith, ◌^◌, vec_len, vec_capacity}
-use Rattle.std.proofs.lemmas.List.{length_push}
-use Rattle.std.proofs.lemmas.List.Elements.{All-weaker}
+use Rattle.std.proofs.Common.{◌≡◌, ◌<◌, List, [], ◌∷◌, ◌++◌, length, sym, ◌∙◌, subst, arith}
 use Rattle.names_realms.specs.declared.states.State.{State}
 use Rattle.names_realms.specs.declared.states.State.TheVariants.{Active}
 use Rattle.finaliser.specs.Settling.{FinaliserState}
-use Rattle.finaliser.specs.Marks.{IsKept}
-use Rattle.finaliser.proofs.SettleLemmas.{unfinal_push}
+use Rattle.finaliser.specs.Holding.{IsKept}
+use Rattle.finaliser.proofs.KeptLemmas.{kept_node}
 use Rattle.finaliser.proofs.finaliser.Finaliser.add_active.Goals as goal
 
 pub invariant_of-self : goal.invariant_of-self
 invariant_of-self c =
-    let states = c.self.inside.states.items in
-    let room = subst (λ (f : FinaliserState). 0 < f.spare) (sym c.self.view_is) c.requires in
-    let more = length_push states Active in
+    let f = c.self.inside in
     let kept = c.self.invariant in
-    let low : c.add_node.result < 2 ^ 32 = omega arith in
-    subst (λ (ss : List State). IsKept c.add_node.new.self ss (vec_len c.push_reserved-2.new.self) c.self.inside.finals.items (vec_capacity c.self.inside.finals))
-    (sym c.push_reserved.ensures.items)
-    (record {
-      nodes = omega (arith, c.add_node.ensures.nodes, kept.nodes, more);
-      marked = omega (arith, c.push_reserved-2.ensures.len, kept.marked, more);
-      few = omega (arith, more, low, c.add_node.ensures.number, kept.nodes);
-      left = omega (arith, kept.left, more, unfinal_push states);
-      room_left = omega (arith, more, room, c.self.inside.states.ok.0);
-      within = All-weaker (λ n. n < length states) (λ n. n < length (states ++ Active ∷ [])) (λ n lt. omega (arith, more)) c.self.inside.finals.items kept.within;
-    })
+    let room = subst (λ (s : FinaliserState). 0 < s.spare) (sym c.self.view_is) c.requires in
+    subst (λ (ss : List State). IsKept c.add_node-3.new.self ss c.add_node.new.self c.add_node-2.new.self f.finals.items f.finals.cap) (sym c.push_reserved.ensures.items)
+    (kept_node f.graph c.add_node-3.new.self f.states.items f.found f.held c.add_node.new.self c.add_node-2.new.self f.finals.items f.finals.cap kept
+    c.add_node-3.ensures.nodes c.add_node-3.ensures.edges
+    (record { nodes = c.add_node.ensures.nodes ∙ kept.found_none; is_below = c.add_node.ensures.below })
+    (record { nodes = c.add_node-2.ensures.nodes ∙ kept.held_none; is_below = c.add_node-2.ensures.below })
+    (omega (arith, room, f.states.ok.0)))
