@@ -1,5 +1,5 @@
 -- Sets of nodes that grow along edges.
-use Rattle.std.proofs.Common.{◌≡◌, ◌≢◌, ◌⊎◌, ◌↔◌, ◌<◌, ◌≤◌, ◌+◌, ◌-◌, ℕ, zero, suc, Bool, true, false, not, filter, List, [], ◌∷◌, ◌++◌, Option, Some, None, length, get_or, set, take, drop, Contains, refl, sym, ap, ◌∙◌, subst, inl, inr, arith, append_assoc, append-nil}
+use Rattle.std.proofs.Common.{◌≡◌, ◌≢◌, ◌⊎◌, ◌↔◌, ◌<◌, ◌≤◌, ◌+◌, ◌-◌, ℕ, zero, Bool, true, false, filter, List, [], ◌∷◌, ◌++◌, Option, Some, None, length, get_or, set, take, drop, Contains, refl, sym, ap, ◌∙◌, subst, inl, inr, arith, append_assoc, append-nil}
 use Rattle.std.specs.List.{All, slice_get}
 use Rattle.std.specs.List.Sorted.{IsStrictlyIncreasing}
 use Rattle.std.proofs.lemmas.Bool.{cases_Bool, cases_eq, cases_lt, cond-true, cond-false}
@@ -8,10 +8,9 @@ use Rattle.std.proofs.lemmas.Map.Keys.{below_from_sorted, sorted_from_strictly_i
 use Rattle.std.proofs.lemmas.List.Elements.{All-append, All-contains, All-nil, All-weaker, Contains-append_cases, Contains-append_left, Contains-get_or, Contains-push}
 use Rattle.std.proofs.lemmas.Option.{get_or_from_slice_get, same_Some, slice_get_within, slice_get-get_or}
 use Rattle.names_realms.specs.declared.states.State.{State}
-use Rattle.names_realms.specs.declared.states.State.TheVariants.{Active, Finalizing, Finalized}
+use Rattle.names_realms.specs.declared.states.State.TheVariants.{Finalizing, Finalized}
 use Rattle.inclusion_graph.specs.declared.edge.Edge.{Edge}
-use Rattle.inclusion_graph.specs.Edges.{HasEdge, IsFirstTo, fresh, has, sources_of, targets_of}
-use Rattle.inclusion_graph.specs.Walks.{Reaches}
+use Rattle.inclusion_graph.specs.Edges.{HasEdge, IsFirstTo, fresh, sources_of, targets_of}
 use Rattle.inclusion_graph.proofs.EdgeLemmas.{first_or_rest, in_rest, targets_are}
 use Rattle.inclusion_graph.proofs.LinkLemmas.{sources_are}
 use Rattle.inclusion_graph.proofs.ListLemmas.{at_left, at_set_other, at_set_same, contained, in_one, place_held}

@@ -1,6 +1,6 @@
 -- What a retirement can make final, and what it leaves settled.
-use Rattle.std.proofs.Common.{◌≡◌, ◌≢◌, ◌⊎◌, ◌↔◌, ◌<◌, ◌≤◌, ◌+◌, ℕ, zero, suc, Bool, true, false, not, IsTrue, List, [], ◌∷◌, ◌++◌, length, set, Contains, Some, None, refl, sym, ap, ◌∙◌, subst, inl, inr, arith}
-use Rattle.std.specs.List.{All, filter, slice_get}
+use Rattle.std.proofs.Common.{◌≡◌, ◌≢◌, ◌⊎◌, ◌↔◌, ◌<◌, ℕ, zero, suc, Bool, true, false, not, IsTrue, List, [], ◌∷◌, ◌++◌, length, set, Contains, Some, None, refl, sym, ap, ◌∙◌, subst, inl, inr, arith}
+use Rattle.std.specs.List.{All, filter}
 use Rattle.std.specs.List.Sorted.{IsPermutation, IsStrictlyIncreasing}
 use Rattle.std.proofs.lemmas.Bool.{cases_Bool, cases_eq}
 use Rattle.std.proofs.lemmas.List.Elements.{All-contains, Contains-append_cases, Contains-append_left}
@@ -11,10 +11,10 @@ use Rattle.names_realms.specs.declared.states.State.{State}
 use Rattle.names_realms.specs.declared.states.State.TheVariants.{Active, Finalizing, Finalized}
 use Rattle.inclusion_graph.specs.declared.edge.Edge.{Edge}
 use Rattle.inclusion_graph.specs.Edges.{HasEdge, has}
-use Rattle.inclusion_graph.specs.Walks.{IsWalk, Leads, Reaches}
+use Rattle.inclusion_graph.specs.Walks.{IsWalk, Leads}
 use Rattle.inclusion_graph.proofs.ListLemmas.{at_either, at_left, at_set_other, at_set_same, has_from, held_from, in_one}
 use Rattle.inclusion_graph.proofs.WalkLemmas.{along, reaches_itself}
-use Rattle.finaliser.specs.Holding.{AreFound, AreFreed, AreHeld, AreWithin, Holds, IsHeldUp, is_free}
+use Rattle.finaliser.specs.Holding.{AreFound, AreFreed, AreHeld, AreWithin, Holds, is_free}
 use Rattle.finaliser.specs.Settling.{IsIn, IsSettled, ReachesActive, Settles}
 use Rattle.finaliser.proofs.LawLemmas.{active_finalized, active_finalizing, cases_held, fewer_active, finalizing_finalized}
 use Rattle.finaliser.proofs.CandidateLemmas.{filter_holds}

@@ -1,10 +1,10 @@
 -- Sets of nodes by marks and a list.
-use Rattle.std.proofs.Common.{◌≡◌, ◌≢◌, ◌⊎◌, ◌↔◌, ◌<◌, ◌≤◌, ◌+◌, ℕ, zero, suc, nat_eq, Bool, true, false, List, [], ◌∷◌, ◌++◌, length, get_or, set, drop, Contains, refl, sym, ap, ◌∙◌, subst, inl, inr, arith}
+use Rattle.std.proofs.Common.{◌≡◌, ◌⊎◌, ◌↔◌, ◌<◌, ◌+◌, ℕ, zero, suc, nat_eq, Bool, true, false, List, [], ◌∷◌, ◌++◌, length, get_or, set, Contains, refl, sym, ap, ◌∙◌, subst, inl, inr, arith}
 use Rattle.std.specs.List.{All, IsDistinct}
 use Rattle.std.specs.List.Sorted.{IsPermutation}
-use Rattle.std.proofs.lemmas.Bool.{cases_Bool, cases_eq, cases_lt, cond-true, cond-false}
+use Rattle.std.proofs.lemmas.Bool.{cases_Bool, cases_lt}
 use Rattle.std.proofs.lemmas.Cmp.{nat_eq_equiv}
-use Rattle.std.proofs.lemmas.List.{append-nil, drop_more, get_or_append_left, get_or_past, get_or_push, get_or-set_other, get_or-set_same, length-set, length_push}
+use Rattle.std.proofs.lemmas.List.{append-nil, get_or_append_left, get_or_push, length-set, length_push}
 use Rattle.std.proofs.lemmas.List.Elements.{All-contains, All-nil, All-push, All-weaker, Contains-append_cases, Contains-append_left, Contains-push}
 use Rattle.std.proofs.lemmas.List.Sorted.{All-permutation, length_permutation, list_any-IsPermutation}
 use Rattle.std.proofs.lemmas.Map.Keys.{IsDistinct-IsPermutation, IsDistinct-push}
@@ -51,12 +51,15 @@ set_empty marks nodes room e f =
 
 pub set_node : (marks : List Bool) (nodes : List ℕ) (room : ℕ) → length marks < room → IsNodeSet marks nodes room → IsNodeSet (marks ++ false ∷ []) nodes room
 set_node marks nodes room low h = record {
-  says = (refl, λ n within. elim (cases_lt n (length marks)) [
-    | inl below ↦ get_or_append_left marks (false ∷ []) false n below ∙ h.says.1 n below
-    | inr past ↦
-        let at : n ≡ length marks = omega (arith, length_push marks false) in
-        get_or_push marks false false n (sym at) ∙ sym (subst (λ k. has nodes k ≡ false) (sym at) (not_has nodes (length marks) h.low))
-  ]);
+  says = (
+    refl,
+    λ n within. elim (cases_lt n (length marks)) [
+      | inl below ↦ get_or_append_left marks (false ∷ []) false n below ∙ h.says.1 n below
+      | inr past ↦
+          let at : n ≡ length marks = omega (arith, length_push marks false) in
+          get_or_push marks false false n (sym at) ∙ sym (subst (λ k. has nodes k ≡ false) (sym at) (not_has nodes (length marks) h.low))
+    ],
+  );
   low = All-weaker (λ n. n < length marks) (λ n. n < length (marks ++ false ∷ [])) (λ n lt. omega (arith, length_push marks false)) nodes h.low;
   count = omega (arith, h.count, unmarked_push marks, length_push marks false);
   distinct = h.distinct;
@@ -110,10 +113,13 @@ pub left_all : (marks : List Bool) (nodes : List ℕ) → HasMarks marks (length
 left_all marks nodes says n e = held_from nodes n (sym (says.1 n (marked_within marks n e)) ∙ e)
 
 pub left_none : (marks : List Bool) (below : ℕ) → length marks ≡ below → ((n : ℕ) → Marks marks n → Contains [] n) → HasMarks marks below []
-left_none marks below count h = (count, λ n within. elim (cases_Bool (get_or marks n false)) [
-  | inl yes_ ↦ absurd (omega (arith, (h n yes_).1))
-  | inr no_ ↦ no_
-])
+left_none marks below count h = (
+  count,
+  λ n within. elim (cases_Bool (get_or marks n false)) [
+    | inl yes_ ↦ absurd (omega (arith, (h n yes_).1))
+    | inr no_ ↦ no_
+  ],
+)
 
 -- what a set has that a node was added to
 pub added : (nodes : List ℕ) (node n : ℕ) → Contains (nodes ++ fresh nodes (node ∷ [])) n ↔ (Contains nodes n ⊎ (n ≡ node))

@@ -1,5 +1,5 @@
 -- What becomes final, node by node.
-use Rattle.std.proofs.Common.{◌≡◌, ◌≢◌, ◌↔◌, ◌<◌, ◌+◌, ℕ, zero, suc, Bool, true, false, not, IsTrue, List, [], ◌∷◌, ◌++◌, length, get_or, set, Contains, Some, None, refl, sym, ap, ◌∙◌, subst, inl, inr, arith}
+use Rattle.std.proofs.Common.{◌≡◌, ◌≢◌, ◌↔◌, ◌<◌, ◌≤◌, ◌+◌, ℕ, zero, suc, Bool, true, false, not, IsTrue, List, [], ◌∷◌, ◌++◌, length, get_or, set, Contains, Some, None, refl, sym, ap, ◌∙◌, subst, inl, inr, arith}
 use Rattle.std.specs.List.{All}
 use Rattle.std.proofs.lemmas.Bool.{cases_Bool, cases_lt}
 use Rattle.std.proofs.lemmas.List.{get_or_append_left, get_or_push, length-set, length_push}
@@ -140,3 +140,9 @@ set_back (s ∷ states) (suc n) other state e = ap (λ xs. s ∷ xs) (set_back s
 pub not_marked : (mark : Bool) (R : Type 0) → (mark ≡ true → R) → (R → mark ≡ true) → IsTrue (not mark) ↔ (¬ R)
 not_marked true R f g = (λ t r. let no : false ≡ true = t in cc, λ none. absurd (none (f refl)))
 not_marked false R f g = (λ t r. let no : false ≡ true = g r in cc, λ none. refl)
+
+pub unfinal_few : (states : List State) → unfinal states ≤ length states
+unfinal_few [] = omega arith
+unfinal_few (Active ∷ states) = let more = unfinal_few states in omega arith
+unfinal_few (Finalizing ∷ states) = let more = unfinal_few states in omega arith
+unfinal_few (Finalized ∷ states) = let more = unfinal_few states in omega arith

@@ -225,12 +225,7 @@ impl Finaliser {
             &mut self.held,
         );
         self.found.sort();
-        settle_free(
-            &self.found,
-            &self.held,
-            &mut self.states,
-            &mut self.finals,
-        );
+        settle_free(&self.found, &self.held, &mut self.states, &mut self.finals);
         self.found.clear();
         self.held.clear();
     }

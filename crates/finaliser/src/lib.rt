@@ -11,3 +11,4 @@ mod tests;
 
 pub use finaliser::Finaliser;
 pub use laws::in_turn_is_at_once;
+pub use settling::plain_settle;

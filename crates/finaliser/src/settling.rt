@@ -1,12 +1,35 @@
-//! Marks of what reaches an active node, by turns over the edges, and what becomes final by them.
-ghost use Rattle.std.specs.Prelude.{◌≡◌, ◌≤◌, ◌<◌, ◌+◌, ◌++◌, ◌⊎◌, ◌↔◌, IsTrue, ◌∷◌, [], ℕ, true, false, List, All, Contains, length, slice_index_or, slice_set, vec_len, vec_capacity};
+//! What becomes final, by turns over all edges: the plain program, beside which the finaliser's own is tested.
+ghost use Rattle.std.specs.Prelude.{◌≡◌, ◌≤◌, ◌<◌, ◌+◌, ◌++◌, ◌⊎◌, ◌↔◌, IsTrue, IfOk, OnErr, ◌∷◌, [], ℕ, true, false, List, All, Contains, length, slice_index_or, slice_set, vec_len, vec_capacity};
 ghost use Rattle.finaliser.specs.Marks.{IsPulled, IsSettledBelow, IsSound, IsTurned, IsWithin, unfinal};
-ghost use Rattle.finaliser.specs.Settling.{IsIn};
+ghost use Rattle.finaliser.specs.Settling.{IsIn, Settles};
 ghost use Rattle.names_realms.specs.declared.states.State.{State};
 ghost use Rattle.inclusion_graph.specs.declared.edge.Edge.{Edge};
 
 use inclusion_graph::Edge;
 use names_realms::State;
+use std::alloc::{AllocError, Global};
+
+/// Makes every finalizing node final that reaches no active one, and lists them, ascending. It goes
+/// over all edges until a turn makes no mark. `Err` where there is no memory; the states stay then.
+pub fn plain_settle(
+    alloc: Global,
+    edges: &[Edge],
+    states: &mut Vec<State>,
+) -> Result<Vec<u32>, AllocError>
+    requires from { All (λ edge. edge.from < length states.old.items) edges.now }
+    requires to { All (λ edge. edge.to < length states.old.items) edges.now }
+    requires few { length states.old.items ≤ 4_294_967_296 }
+    ensures settled { IfOk result
+        (λ finals. Settles edges.now states.old.items states.new.items finals.items) }
+    ensures stays { OnErr result (states.new.items ≡ states.old.items) }
+{
+    let mut marks = vec![in alloc; false; states.len()]?;
+    let mut finals = Vec::with_capacity(alloc, states.len())?;
+    mark_active(edges, states.as_slice(), &mut marks);
+    mark_all(edges, &mut marks);
+    settle_unmarked(marks.as_slice(), states, &mut finals);
+    Ok(finals)
+}
 
 /// Whether a state is the active one.
 fn is_active(state: State) -> bool
@@ -16,7 +39,7 @@ fn is_active(state: State) -> bool
 }
 
 /// Marks the active nodes alone.
-pub(crate) fn mark_active(edges: &[Edge], states: &[State], marks: &mut Vec<bool>)
+fn mark_active(edges: &[Edge], states: &[State], marks: &mut Vec<bool>)
     requires { length marks.old.items ≡ length states.now }
     ensures sound { IsSound edges.now states.now marks.new.items }
     ensures capacity { vec_capacity marks.new ≡ vec_capacity marks.old }
@@ -61,7 +84,7 @@ fn turn(edges: &[Edge], marks: &mut Vec<bool>) -> bool
 }
 
 /// Marks all that reach an active node.
-pub(crate) fn mark_all(edges: &[Edge], marks: &mut Vec<bool>)
+fn mark_all(edges: &[Edge], marks: &mut Vec<bool>)
     requires { All (IsWithin (length marks.old.items)) edges.now }
     ensures pulled { All (IsPulled marks.new.items) edges.now }
     ensures count { length marks.new.items ≡ length marks.old.items }
@@ -74,7 +97,7 @@ pub(crate) fn mark_all(edges: &[Edge], marks: &mut Vec<bool>)
 
 /// Makes the finalizing nodes final that aren't marked, and lists them behind the others, for which
 /// there is room.
-pub(crate) fn settle_unmarked(marks: &[bool], states: &mut Vec<State>, finals: &mut Vec<u32>)
+fn settle_unmarked(marks: &[bool], states: &mut Vec<State>, finals: &mut Vec<u32>)
     requires count { length marks.now ≡ length states.old.items }
     requires few { length states.old.items ≤ 4_294_967_296 }
     requires room { vec_len finals.old + unfinal states.old.items ≤ vec_capacity finals.old }

@@ -1,7 +1,9 @@
-//! Retirements one after the other, beside what the graph says is reached.
+//! Retirements one after the other, beside the plain program and what the graph says is reached.
 ghost use Rattle.std.specs.Prelude.{ℕ, ◌<◌, IsTrue, All};
 
-use crate::Finaliser;
+use crate::{Finaliser, plain_settle};
+use inclusion_graph::Graph;
+use names_realms::State;
 use std::alloc::{AllocError, Global};
 use std::test::Fail;
 
@@ -56,58 +58,131 @@ fn is_settled(alloc: Global, finaliser: &Finaliser) -> Result<bool, AllocError> 
     Ok(true)
 }
 
+/// What is retired in turn, and what is newly final then.
+type Turns<'a> = &'a [(u32, &'a [u32])];
+
+/// Inclusions among five nodes, and what is retired in turn, each with what is newly final then.
+const ROWS: [(&[(u32, u32)], &[(u32, &[u32])]); 7] = [
+    // A cycle.
+    (
+        &[(0, 1), (1, 2), (2, 0)],
+        &[(0, &[]), (1, &[]), (2, &[0, 1, 2]), (3, &[3])],
+    ),
+    // A chain.
+    (
+        &[(0, 1), (1, 2), (2, 3)],
+        &[(0, &[]), (1, &[]), (2, &[]), (3, &[0, 1, 2, 3])],
+    ),
+    // A star.
+    (
+        &[(0, 1), (0, 2), (0, 3)],
+        &[(3, &[3]), (0, &[]), (1, &[1]), (2, &[0, 2])],
+    ),
+    // Two cycles, of which the one includes the other.
+    (
+        &[(0, 1), (1, 0), (1, 2), (2, 3), (3, 2)],
+        &[(0, &[]), (2, &[]), (1, &[]), (3, &[0, 1, 2, 3])],
+    ),
+    // One that is held up by an active node, beside one that isn't.
+    (
+        &[(0, 2), (1, 2), (1, 3)],
+        &[(0, &[]), (1, &[]), (2, &[0, 2]), (3, &[1, 3])],
+    ),
+    // One that is held up by a finalizing node, and one by it in turn.
+    (
+        &[(0, 1), (0, 2), (2, 3), (4, 0)],
+        &[(4, &[]), (0, &[]), (2, &[]), (1, &[1]), (3, &[0, 2, 3, 4])],
+    ),
+    // A cycle that is left by two ways.
+    (
+        &[(0, 1), (1, 0), (0, 2), (1, 3)],
+        &[(0, &[]), (1, &[]), (3, &[3]), (4, &[4]), (2, &[0, 1, 2])],
+    ),
+];
+
+/// Retires a node by the plain program. What is newly final.
+fn retire_plainly(
+    alloc: Global,
+    graph: &Graph,
+    states: &mut Vec<State>,
+    node: u32,
+) -> Result<Vec<u32>, AllocError> {
+    if states.len() != graph.nodes() as usize || node >= graph.nodes() {
+        return Ok(Vec::new(alloc));
+    }
+    states[node as usize] = State::Finalizing;
+    plain_settle(alloc, graph.edges(), states)
+}
+
+/// Whether each node has this state in the finaliser too.
+fn are_states(finaliser: &Finaliser, states: &[State]) -> bool {
+    for node in 0..finaliser.graph().nodes() {
+        let Some(state) = states.get(node as usize) else {
+            return false;
+        };
+        if finaliser.is_active(node) != (*state == State::Active)
+            || finaliser.is_final(node) != (*state == State::Finalized)
+        {
+            return false;
+        }
+    }
+    true
+}
+
+/// Whether a node would be final, if it is active.
+fn would_be_final(finaliser: &mut Finaliser, node: u32) -> bool {
+    node < finaliser.graph().nodes() && finaliser.is_active(node) && finaliser.would_be_final(node)
+}
+
+/// Whether a retirement does what the plain program does, and what is said before, and leaves what
+/// the graph says.
+fn turns_alike(
+    alloc: Global,
+    finaliser: &mut Finaliser,
+    states: &mut Vec<State>,
+    node: u32,
+    finals: &[u32],
+) -> Result<bool, AllocError> {
+    let would = would_be_final(finaliser, node);
+    if !retire(finaliser, node) || retire(finaliser, node) {
+        return Ok(false);
+    }
+    let plain = retire_plainly(alloc, finaliser.graph(), states, node)?;
+    Ok(
+        would == finals.contains(&node)
+            && finaliser.finals() == finals
+            && plain.as_slice() == finals
+            && are_states(finaliser, states.as_slice())
+            && is_settled(alloc, finaliser)?,
+    )
+}
+
+/// Whether all turns of a row are as it says.
+fn row_holds(alloc: Global, edges: &[(u32, u32)], turns: Turns) -> Result<bool, AllocError> {
+    let mut finaliser = finaliser_of(alloc, 5)?;
+    let mut states = vec![in alloc; State::Active; 5]?;
+    for (from, target) in edges {
+        if !include(alloc, &mut finaliser, *from, *target) {
+            return Ok(false);
+        }
+    }
+    for (node, finals) in turns {
+        if !turns_alike(alloc, &mut finaliser, &mut states, *node, finals)? {
+            return Ok(false);
+        }
+        if include(alloc, &mut finaliser, *node, 4) {
+            return Ok(false);
+        }
+        finaliser.clear_finals();
+    }
+    Ok(finaliser.finals().is_empty())
+}
+
 #[test]
 fn what_reaches_no_active_node_is_final(rt: HostRuntime) -> Result<(), Fail> {
     let alloc = rt.alloc();
-    // Inclusions, and the nodes that are retired in turn, each with what is newly final by then.
-    let cycle = [(0, 1), (1, 2), (2, 0)];
-    let chain = [(0, 1), (1, 2), (2, 3)];
-    let star = [(0, 1), (0, 2), (0, 3)];
-    let none = [].as_slice();
-    let rows = [
-        (
-            cycle,
-            [
-                (0, none),
-                (1, none),
-                (2, [0, 1, 2].as_slice()),
-                (3, [0, 1, 2, 3].as_slice()),
-            ],
-        ),
-        (
-            chain,
-            [
-                (0, none),
-                (1, none),
-                (2, none),
-                (3, [0, 1, 2, 3].as_slice()),
-            ],
-        ),
-        (
-            star,
-            [
-                (3, [3].as_slice()),
-                (0, [3].as_slice()),
-                (1, [3, 1].as_slice()),
-                (2, [3, 1, 0, 2].as_slice()),
-            ],
-        ),
-    ];
-    for (edges, turns) in rows {
-        let mut finaliser = finaliser_of(alloc, 4)?;
-        for (from, target) in edges {
-            assert!(rt; include(alloc, &mut finaliser, from, target), "{from}");
-        }
-        assert!(rt; is_settled(alloc, &finaliser)?);
-        for (node, finals) in turns {
-            assert!(rt; retire(&mut finaliser, node), "{node}");
-            assert!(rt; !retire(&mut finaliser, node), "{node}");
-            assert_eq!(rt; finaliser.finals(), finals, "{node}");
-            assert!(rt; is_settled(alloc, &finaliser)?, "{node}");
-        }
-        assert!(rt; !include(alloc, &mut finaliser, 3, 0));
-        finaliser.clear_finals();
-        assert!(rt; finaliser.finals().is_empty());
+    for (edges, turns) in ROWS {
+        assert!(rt; row_holds(alloc, edges, turns)?, "{}", edges.len());
     }
     Ok(())
 }

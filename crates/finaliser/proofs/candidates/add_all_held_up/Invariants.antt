@@ -1,6 +1,6 @@
 use Rattle.std.proofs.Common.{take}
 use Rattle.std.specs.List.{All}
-use Rattle.std.proofs.Common.{ℕ, Contains}
+use Rattle.std.proofs.Common.{Contains}
 use Rattle.finaliser.specs.Holding.{IsGrown, IsHeldUp}
 use Rattle.finaliser.proofs.candidates.add_all_held_up.Given as goal
 

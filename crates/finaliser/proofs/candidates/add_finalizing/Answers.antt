@@ -1,4 +1,4 @@
-use Rattle.std.proofs.Common.{◌≡◌, ℕ, List, Contains, refl, sym, subst, inr, rules, tests, true, false}
+use Rattle.std.proofs.Common.{◌≡◌, ℕ, List, Contains, refl, sym, subst, inr, true, false}
 use Rattle.finaliser.proofs.NodeLemmas.{added}
 use Rattle.finaliser.proofs.candidates.add_finalizing.Goals as goal
 

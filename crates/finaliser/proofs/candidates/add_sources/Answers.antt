@@ -1,10 +1,10 @@
-use Rattle.std.proofs.Common.{◌≡◌, ◌<◌, ℕ, List, Some, None, Contains, get_or, refl, sym, ap, ◌∙◌, subst, arith}
+use Rattle.std.proofs.Common.{◌≡◌, ℕ, List, Contains, get_or, sym, subst}
 use Rattle.names_realms.specs.declared.states.State.TheVariants.{Finalizing}
 use Rattle.inclusion_graph.specs.declared.edge.Edge.{Edge}
 use Rattle.inclusion_graph.specs.Edges.{HasEdge}
 use Rattle.finaliser.specs.Holding.{ArePassed, IsGrown, IsSource}
 use Rattle.finaliser.specs.Settling.{IsIn}
-use Rattle.finaliser.proofs.CandidateLemmas.{fewer_left, grown_more, passed_all, passed_at, passed_more}
+use Rattle.finaliser.proofs.CandidateLemmas.{grown_more, passed_all, passed_at, passed_more}
 use Rattle.finaliser.proofs.candidates.add_sources.Goals as goal
 
 pub sources-preserved : goal.sources-preserved

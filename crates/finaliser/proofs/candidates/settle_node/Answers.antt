@@ -1,4 +1,4 @@
-use Rattle.std.proofs.Common.{◌≡◌, ◌<◌, true, false, not, length, refl, ap, inl, inr, arith}
+use Rattle.std.proofs.Common.{◌≡◌, true, false, not, refl, ap, inl, inr, arith}
 use Rattle.std.proofs.lemmas.Option.{slice_get_within}
 use Rattle.std.proofs.lemmas.Bool.{cases_Bool}
 use Rattle.names_realms.specs.declared.states.State.TheVariants.{Finalizing}

@@ -1,4 +1,4 @@
-use Rattle.std.proofs.Common.{◌≡◌, refl}
+use Rattle.std.proofs.Common.{refl}
 use Rattle.finaliser.proofs.NodeLemmas.{left_all}
 use Rattle.finaliser.proofs.node_set.unmark.Goals as goal
 

@@ -1,4 +1,4 @@
-use Rattle.std.proofs.Common.{◌≡◌, ◌<◌, ℕ, length, drop, Contains, vec_capacity}
+use Rattle.std.proofs.Common.{◌≡◌, ℕ, length, drop, Contains, vec_capacity}
 use Rattle.finaliser.specs.Marks.{Marks}
 use Rattle.finaliser.proofs.node_set.unmark.Given as goal
 

@@ -1,6 +1,5 @@
-use Rattle.std.proofs.Common.{◌≡◌, ◌<◌, List, [], ◌∷◌, ◌++◌, length, sym, ◌∙◌, subst, arith}
+use Rattle.std.proofs.Common.{◌<◌, List, sym, ◌∙◌, subst, arith}
 use Rattle.names_realms.specs.declared.states.State.{State}
-use Rattle.names_realms.specs.declared.states.State.TheVariants.{Active}
 use Rattle.finaliser.specs.Settling.{FinaliserState}
 use Rattle.finaliser.specs.Holding.{IsKept}
 use Rattle.finaliser.proofs.KeptLemmas.{kept_node}

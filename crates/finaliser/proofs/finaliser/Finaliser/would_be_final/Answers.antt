@@ -1,5 +1,4 @@
-use Rattle.std.proofs.Common.{◌≡◌, ◌↔◌, true, not, IsTrue, List, length, set, Contains, sym, ap, ◌∙◌, subst}
-use Rattle.std.proofs.lemmas.List.{length-set}
+use Rattle.std.proofs.Common.{◌↔◌, not, IsTrue, List, set, sym, ap, ◌∙◌, subst}
 use Rattle.names_realms.specs.declared.states.State.{State}
 use Rattle.names_realms.specs.declared.states.State.TheVariants.{Active, Finalizing}
 use Rattle.finaliser.specs.Settling.{FinaliserState, IsIn, ReachesActive}

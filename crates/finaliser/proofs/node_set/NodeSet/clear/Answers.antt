@@ -1,5 +1,4 @@
-use Rattle.std.proofs.Common.{◌≡◌, ℕ, List, [], length, sym, subst}
-use Rattle.inclusion_graph.specs.Searches.{HasMarks}
+use Rattle.std.proofs.Common.{ℕ, List, sym, subst}
 use Rattle.finaliser.specs.Holding.{IsNodeSet}
 use Rattle.finaliser.proofs.NodeLemmas.{set_cleared}
 use Rattle.finaliser.proofs.node_set.NodeSet.clear.Goals as goal
