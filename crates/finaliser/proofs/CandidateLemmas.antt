@@ -1,5 +1,5 @@
 -- Sets of nodes that grow along edges.
-use Rattle.std.proofs.Common.{◌≡◌, ◌≢◌, ◌⊎◌, ◌↔◌, ◌<◌, ◌≤◌, ◌+◌, ◌-◌, ℕ, zero, Bool, true, false, filter, List, [], ◌∷◌, ◌++◌, Option, Some, None, length, get_or, set, take, drop, Contains, refl, sym, ap, ◌∙◌, subst, inl, inr, arith, append_assoc, append-nil}
+use Rattle.std.proofs.Common.{◌≡◌, ◌≢◌, ◌⊎◌, ◌↔◌, ◌<◌, ◌≤◌, ◌+◌, ℕ, zero, Bool, true, false, filter, List, [], ◌∷◌, ◌++◌, Option, Some, None, length, get_or, set, take, drop, Contains, refl, sym, ap, ◌∙◌, subst, inl, inr, arith, append_assoc, append-nil}
 use Rattle.std.specs.List.{All, slice_get}
 use Rattle.std.specs.List.Sorted.{IsStrictlyIncreasing}
 use Rattle.std.proofs.lemmas.Bool.{cases_Bool, cases_eq, cases_lt, cond-true, cond-false}
@@ -10,14 +10,13 @@ use Rattle.std.proofs.lemmas.Option.{get_or_from_slice_get, same_Some, slice_get
 use Rattle.names_realms.specs.declared.states.State.{State}
 use Rattle.names_realms.specs.declared.states.State.TheVariants.{Finalizing, Finalized}
 use Rattle.inclusion_graph.specs.declared.edge.Edge.{Edge}
-use Rattle.inclusion_graph.specs.Edges.{HasEdge, IsFirstTo, fresh, sources_of, targets_of}
+use Rattle.inclusion_graph.specs.Edges.{HasEdge, IsFirstTo, sources_of, targets_of}
 use Rattle.inclusion_graph.proofs.EdgeLemmas.{first_or_rest, in_rest, targets_are}
 use Rattle.inclusion_graph.proofs.LinkLemmas.{sources_are}
 use Rattle.inclusion_graph.proofs.ListLemmas.{at_left, at_set_other, at_set_same, contained, in_one, place_held}
 use Rattle.inclusion_graph.proofs.WalkLemmas.{leads_cons, leads_one, reaches_itself, reaches_more}
-use Rattle.finaliser.specs.Holding.{AreFound, AreFreed, AreHeld, ArePassed, Comes, Holds, IsClosed, IsClosedBelow, IsGrown, IsHeldUp, IsSource, NodeSetState, edges_left}
+use Rattle.finaliser.specs.Holding.{AreFreed, AreHeld, ArePassed, Comes, Holds, IsClosed, IsClosedBelow, IsGrown, IsHeldUp, IsSource, NodeSetState}
 use Rattle.finaliser.specs.Settling.{IsIn}
-use Rattle.finaliser.proofs.NodeLemmas.{added}
 use Rattle.finaliser.proofs.SettleLemmas.{unfinal_set}
 
 pub grown_none : (P : ℕ → Type 0) (s : NodeSetState) → IsGrown P s s
@@ -52,17 +51,6 @@ grown_at : (P : ℕ → Type 0) (a b : NodeSetState) → IsGrown P a b → (plac
     → slice_get a.nodes place ≡ Some x
 grown_at P a b h place x low e = sym (at_left a.nodes h.more place low) ∙ subst (λ xs. slice_get xs place ≡ Some x) h.is e
 
--- at the first edge to the node
-pub passed_first : (edges : List Edge) (states : List State) (node : ℕ) (nodes : List ℕ) (next : Option ℕ) → IsFirstTo edges node 0 next
-    → ArePassed edges states node nodes next
-passed_first edges states node nodes next h = record {
-  start = 0;
-  done = [];
-  first = h;
-  sources = refl;
-  all = λ source held is. absurd (omega (arith, held.1));
-}
-
 -- the edge that stands at a place from which the next one leads to the node
 pub passed_at : (edges : List Edge) (states : List State) (node : ℕ) (nodes : List ℕ) (place : ℕ) (d : Edge) → ArePassed edges states node nodes (Some place)
     → (slice_get edges place ≡ Some (record { from = (get_or edges place d).from; to = node })) × HasEdge edges (get_or edges place d).from node
@@ -71,10 +59,6 @@ passed_at edges states node nodes place d h =
     let read : get_or edges place d ≡ is = get_or_from_slice_get edges place is d h.first.1.1.0 in
     let at = subst (λ m. slice_get edges place ≡ Some (record { from = m; to = node })) (sym (ap (λ (e : Edge). e.from) read)) h.first.1.1.0 in
     (at, contained edges place (record { from = (get_or edges place d).from; to = node }) at)
-
-pub passed_within : (edges : List Edge) (states : List State) (node : ℕ) (nodes : List ℕ) (place : ℕ) → ArePassed edges states node nodes (Some place)
-    → place < length edges
-passed_within edges states node nodes place h = slice_get_within edges place (record { from = h.first.1.0; to = node }) h.first.1.1.0
 
 -- past one edge more
 pub passed_more : (edges : List Edge) (states : List State) (node : ℕ) (P : ℕ → Type 0) (old new : NodeSetState) (place : ℕ) (d : Edge) (next : Option ℕ)
@@ -106,13 +90,6 @@ passed_all edges states node nodes next e h source edge is =
     let none = subst (IsFirstTo edges node h.start) e h.first in
     let all : sources_of edges node ≡ h.done = h.sources ∙ ap (λ xs. h.done ++ xs) none ∙ append-nil h.done in
     h.all source (subst (λ xs. Contains xs source) all ((sources_are edges node source).1 edge)) is
-
-pub fewer_left : (edges : List Edge) (states : List State) (node : ℕ) (nodes : List ℕ) (place : ℕ) (now next : Option ℕ) → now ≡ Some place → place < length edges
-    → ArePassed edges states node nodes next → (h : IsFirstTo edges node (place + 1) next) → edges_left edges next < edges_left edges now
-fewer_left edges states node nodes place now None e low passed h = subst (λ o. 0 < edges_left edges o) (sym e) (omega arith)
-fewer_left edges states node nodes place now (Some at) e low passed h =
-    let within = slice_get_within edges at (record { from = h.1.0; to = node }) h.1.1.0 in
-    subst (λ o. length edges - at < edges_left edges o) (sym e) (omega (arith, h.0))
 
 -- what comes to the nodes that a set has by now comes to those that it began with
 pub comes_from : (edges : List Edge) (states : List State) (old new : NodeSetState) → IsGrown (Comes edges states old.nodes) old new → (node source : ℕ)
@@ -155,26 +132,6 @@ pub not_held_up : (edges : List Edge) (states : List State) (found targets : Lis
     → All (λ t. ¬ Holds states found t) targets → IsHeldUp edges states found node → ⊥
 not_held_up edges states found targets node e none up =
     All-contains (λ t. ¬ Holds states found t) targets up.0 none (subst (λ xs. Contains xs up.0) (sym e) ((targets_are edges node up.0).1 up.1.0)) up.1.1
-
--- the nodes that are found, from the one that begins
-pub found_are : (edges : List Edge) (states : List State) (node : ℕ) (none one all : NodeSetState) → none.nodes ≡ [] → IsIn Finalizing states node
-    → one.nodes ≡ none.nodes ++ fresh none.nodes (node ∷ []) → IsGrown (Comes edges states one.nodes) one all → IsClosed edges states all.nodes
-    → AreFound edges states node all.nodes
-found_are edges states node none one all e is added_one grown closed =
-    let start : (n : ℕ) → Contains one.nodes n → n ≡ node = λ n held.
-    elim ((added none.nodes node n).0 (subst (λ (xs : List ℕ). Contains xs n) added_one held)) [
-      | inl old ↦ let no : Contains [] n = subst (λ (xs : List ℕ). Contains xs n) e old in absurd (omega (arith, no.1))
-      | inr same ↦ same
-    ] in
-    let here : Contains one.nodes node = subst (λ (xs : List ℕ). Contains xs node) (sym added_one) ((added none.nodes node node).1 (inr refl)) in
-    record {
-      begun = grown_stays (Comes edges states one.nodes) one all grown node here;
-      finalizing = all_if (IsIn Finalizing states) all.nodes (λ n held. elim (grown_cases (Comes edges states one.nodes) one all grown n held) [
-        | inl old ↦ subst (IsIn Finalizing states) (sym (start n old)) is
-        | inr comes ↦ comes.0
-      ]);
-      closed = closed;
-    }
 
 -- the nodes that are held up, from those that include one that holds them up
 pub held_are : (edges : List Edge) (states : List State) (found : List ℕ) (none one all : NodeSetState) → none.nodes ≡ []
@@ -223,9 +180,6 @@ filter_holds p (x ∷ xs) n =
           )
     ]
 
-pub any_default : (xs : List ℕ) (i d e : ℕ) → i < length xs → get_or xs i d ≡ get_or xs i e
-any_default xs i d e within = same_Some (get_or xs i d) (get_or xs i e) (sym (slice_get-get_or xs i d within) ∙ slice_get-get_or xs i e within)
-
 -- the next of the ascending nodes isn't among those before it
 pub not_before : (p : ℕ → Bool) (nodes : List ℕ) (i : ℕ) → IsStrictlyIncreasing nodes → i < length nodes → ¬ Contains (filter p (take i nodes)) (get_or nodes i 0)
 not_before p nodes i rising within = λ held.
@@ -237,14 +191,6 @@ not_before p nodes i rising within = λ held.
     subst (λ xs. slice_get xs front.0 ≡ Some x) (take-append-drop i nodes) (at_left (take i nodes) (drop i nodes) front.0 front.1 ∙ place) in
     let same : get_or nodes front.0 0 ≡ x = get_or_from_slice_get nodes front.0 x 0 there in
     omega (arith, below_from_sorted nodes front.0 i 0 (sorted_from_strictly_increasing nodes rising) low within, same)
-
-pub freed_none : (states : List State) → AreFreed [] states states
-freed_none states = record {
-  final = λ n held. absurd (omega (arith, held.1));
-  others = λ n not. refl;
-  count = refl;
-  left = omega arith;
-}
 
 pub freed_more : (more : List ℕ) (old new : List State) (x : ℕ) → AreFreed more old new → IsIn Finalizing new x → AreFreed (more ++ x ∷ []) old (set new x Finalized)
 freed_more more old new x h is =

@@ -112,15 +112,6 @@ has_says marks nodes n r says within e = (
 pub left_all : (marks : List Bool) (nodes : List ℕ) → HasMarks marks (length marks) nodes → (n : ℕ) → Marks marks n → Contains nodes n
 left_all marks nodes says n e = held_from nodes n (sym (says.1 n (marked_within marks n e)) ∙ e)
 
-pub left_none : (marks : List Bool) (below : ℕ) → length marks ≡ below → ((n : ℕ) → Marks marks n → Contains [] n) → HasMarks marks below []
-left_none marks below count h = (
-  count,
-  λ n within. elim (cases_Bool (get_or marks n false)) [
-    | inl yes_ ↦ absurd (omega (arith, (h n yes_).1))
-    | inr no_ ↦ no_
-  ],
-)
-
 -- what a set has that a node was added to
 pub added : (nodes : List ℕ) (node n : ℕ) → Contains (nodes ++ fresh nodes (node ∷ [])) n ↔ (Contains nodes n ⊎ (n ≡ node))
 added nodes node n =

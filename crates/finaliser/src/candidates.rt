@@ -98,7 +98,8 @@ fn add_held_up(graph: &Graph, states: &[State], found: &NodeSet, node: u32, held
     requires below { found.now.below ≡ length states.now }
     requires below_held { held.old.below ≡ length states.now }
     requires node { node < length states.now }
-    ensures grown { IsGrown (IsHeldUp graph.now.edges states.now found.now.nodes) held.old held.new }
+    ensures grown { IsGrown (IsHeldUp graph.now.edges states.now found.now.nodes)
+        held.old held.new }
     ensures there { IsHeldUp graph.now.edges states.now found.now.nodes node →
         Contains held.new.nodes node }
 {
@@ -112,7 +113,8 @@ fn add_all_held_up(graph: &Graph, states: &[State], found: &NodeSet, held: &mut 
     requires count { graph.now.nodes ≡ length states.now }
     requires below { found.now.below ≡ length states.now }
     requires below_held { held.old.below ≡ length states.now }
-    ensures grown { IsGrown (IsHeldUp graph.now.edges states.now found.now.nodes) held.old held.new }
+    ensures grown { IsGrown (IsHeldUp graph.now.edges states.now found.now.nodes)
+        held.old held.new }
     ensures there { (node : ℕ) → Contains found.now.nodes node →
         IsHeldUp graph.now.edges states.now found.now.nodes node → Contains held.new.nodes node }
 {

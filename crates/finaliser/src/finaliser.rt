@@ -179,8 +179,8 @@ impl Finaliser {
         self.graph.add_edges(plan);
     }
 
-    /// Whether an active node would become final at once, if it were retired now. It takes no memory,
-    /// and changes nothing.
+    /// Whether an active node would become final at once, if it were retired now. It takes no
+    /// memory, and changes nothing.
     pub fn would_be_final(&mut self, node: u32) -> bool
         requires { IsIn State.Active self.old.states node }
         ensures answer { IsTrue result ↔ ¬ ReachesActive self.old.graph.edges
@@ -206,8 +206,9 @@ impl Finaliser {
         !waits
     }
 
-    /// Makes an active node finalizing. Then every finalizing node that reaches no active one becomes
-    /// final, all at once, and is listed with the newly final ones, ascending. It takes no memory.
+    /// Makes an active node finalizing. Then every finalizing node that reaches no active one
+    /// becomes final, all at once, and is listed with the newly final ones, ascending. It takes no
+    /// memory.
     pub fn retire(&mut self, node: u32)
         requires { IsIn State.Active self.old.states node }
         ensures settled { (more : List ℕ) × (self.new.finals ≡ self.old.finals ++ more)

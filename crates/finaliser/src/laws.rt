@@ -1,4 +1,4 @@
-//! A law of the definitions that the contracts cite. The function changes nothing: what it ensures is the law.
+//! A law of the definitions. The function changes nothing: what it ensures is the law.
 ghost use Rattle.finaliser.specs.Laws.{InTurnIsAtOnce};
 
 /// Nodes that are retired in turn leave what is left where all of them are retired at once.

@@ -3,15 +3,15 @@ use Rattle.std.proofs.Common.{◌≡◌, ◌≢◌, ◌⊎◌, ◌↔◌, ◌<�
 use Rattle.std.specs.List.{All, cons_option, slice_get}
 use Rattle.std.specs.Option.{ForSome}
 use Rattle.std.proofs.lemmas.Bool.{cases_eq, cases_lt, cond-true, cond-false}
-use Rattle.std.proofs.lemmas.List.{append-nil, drop-append-le, drop_all, length-append, length-set, length_push}
-use Rattle.std.proofs.lemmas.List.Elements.{All-append, All-cons, All-head, All-nil, All-push, All-tail, All-weaker, filter_map-append}
+use Rattle.std.proofs.lemmas.List.{append-nil, drop-append-le, drop_all, length-set, length_push}
+use Rattle.std.proofs.lemmas.List.Elements.{All-head, All-push, All-tail, All-weaker, filter_map-append}
 use Rattle.std.proofs.lemmas.Option.{same_Some, slice_get_within}
 use Rattle.inclusion_graph.specs.declared.edge.Edge.{Edge}
 use Rattle.inclusion_graph.specs.declared.edge_list.Ends.{Ends}
 use Rattle.inclusion_graph.specs.Edges.{HasEdge, IsFirstTo, source_to, sources_of}
 use Rattle.inclusion_graph.specs.Links.{AreLinked, HasEnds, ends_with}
 use Rattle.inclusion_graph.proofs.EdgeLemmas.{eqb_other, eqb_same, first_or_rest, in_rest, same_edge}
-use Rattle.inclusion_graph.proofs.ListLemmas.{at_either, at_left, at_set_other, at_set_same}
+use Rattle.inclusion_graph.proofs.ListLemmas.{at_left, at_set_other, at_set_same}
 
 to_node : (edge : Edge) (edges : List Edge) (node : ℕ) → edge.to ≡ node → sources_of (edge ∷ edges) node ≡ edge.from ∷ sources_of edges node
 to_node edge edges node e =
@@ -119,14 +119,6 @@ not_none (x ∷ xs) node zero (suc place) edge low at same none =
     ]
 not_none (x ∷ xs) node (suc start) zero edge low at same none = absurd (omega arith)
 not_none (x ∷ xs) node (suc start) (suc place) edge low at same none = not_none xs node start place edge (omega arith) at same none
-
-pub linked_none : (next : List (Option ℕ)) (ends : List (Option Ends)) → next ≡ [] → ends ≡ [] → AreLinked [] next ends
-linked_none next ends e f = record {
-  count = ap (λ xs. length xs) e;
-  within = All-nil (λ (edge : Edge). edge.to < length ends);
-  ends_are = λ node is at. let no : None ≡ Some is = subst (λ xs. slice_get xs node ≡ Some is) f at in cc;
-  next_are = λ place edge is at link. let no : None ≡ Some edge = at in cc;
-}
 
 no_source : (edges : List Edge) (n : ℕ) → All (λ (e : Edge). e.to < n) edges → sources_of edges n ≡ []
 no_source [] n h = refl

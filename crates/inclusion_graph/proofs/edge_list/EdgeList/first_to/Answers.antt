@@ -1,8 +1,5 @@
-use Rattle.std.proofs.Common.{◌≡◌, ◌<◌, List, Option, Some, None, length, refl, sym, ap, ◌∙◌, subst}
-use Rattle.std.specs.List.{slice_get}
+use Rattle.std.proofs.Common.{◌<◌, Some, None, length, refl, sym, subst}
 use Rattle.std.proofs.lemmas.Option.{slice_get_read}
-use Rattle.inclusion_graph.specs.declared.edge.Edge.{Edge}
-use Rattle.inclusion_graph.specs.declared.edge_list.Ends.{Ends}
 use Rattle.inclusion_graph.specs.Edges.{GraphState, IsFirstTo}
 use Rattle.inclusion_graph.specs.Links.{HasEnds}
 use Rattle.inclusion_graph.proofs.edge_list.EdgeList.first_to.Goals as goal
