@@ -1,10 +1,12 @@
 -- Nodes that are retired in turn, beside all of them at once.
-use Rattle.std.proofs.Common.{◌≡◌, ◌≢◌, ◌⊎◌, ◌↔◌, ◌<◌, ◌+◌, ℕ, zero, suc, Bool, true, false, ◌||◌, cond, List, [], ◌∷◌, ◌++◌, length, get_or, set, Contains, Some, None, refl, sym, ap, ◌∙◌, subst, inl, inr, arith}
+use Rattle.std.proofs.Common.{◌≡◌, ◌≢◌, ◌⊎◌, ◌↔◌, ◌<◌, ◌≤◌, ◌+◌, ℕ, zero, suc, Bool, true, false, ◌||◌, cond, List, [], ◌∷◌, ◌++◌, length, get_or, set, Contains, Some, None, refl, sym, ap, ◌∙◌, subst, inl, inr, arith}
 use Rattle.std.specs.List.{All, slice_get}
-use Rattle.std.specs.List.Sorted.{IsStrictlyIncreasing}
+use Rattle.std.specs.List.Sorted.{IsStrictlyIncreasing, IsStrictlySortedBy}
+use Rattle.std.specs.Ordering.{nat_cmp}
 use Rattle.std.proofs.lemmas.Bool.{cases_Bool, cases_eq, cases_lt, cond-true, cond-false}
 use Rattle.std.proofs.lemmas.List.{get_or_append_left, get_or_push, length-set, length_push}
-use Rattle.std.proofs.lemmas.List.Elements.{All-nil, All-push, All-weaker, Contains-append_cases, Contains-append_left, Contains-append_right, Contains-push}
+use Rattle.std.proofs.lemmas.List.Elements.{All-contains, All-nil, All-push, All-weaker, Contains-append_cases, Contains-append_left, Contains-append_right, Contains-push}
+use Rattle.std.proofs.lemmas.Map.Keys.{below_from_sorted, sorted_from_strictly_increasing, sorted_tail}
 use Rattle.std.proofs.lemmas.Option.{same_Some, slice_get_within}
 use Rattle.names_realms.specs.declared.states.State.{State}
 use Rattle.names_realms.specs.declared.states.State.TheVariants.{Active, Finalizing, Finalized}
@@ -12,7 +14,7 @@ use Rattle.inclusion_graph.specs.declared.edge.Edge.{Edge}
 use Rattle.inclusion_graph.specs.Edges.{has}
 use Rattle.inclusion_graph.proofs.ListLemmas.{at_set_other, at_set_same, has_from, held_from, in_one}
 use Rattle.finaliser.specs.Settling.{IsIn, IsSettled, ReachesActive, Settles}
-use Rattle.finaliser.specs.Laws.{Begins, InTurnIsAtOnce, RetiresInTurn}
+use Rattle.finaliser.specs.Laws.{Begins, InTurnIsAtOnce, RetiresInTurn, SettlesInOneWay}
 
 -- a list in which a number stands behind smaller ones
 pub rising_push : (xs : List ℕ) (x : ℕ) → IsStrictlyIncreasing xs → All (λ y. y < x) xs → IsStrictlyIncreasing (xs ++ x ∷ [])
@@ -362,4 +364,54 @@ in_turn_is_at_once edges old begun new nodes finals settled begins turns =
           λ held. (all.1.1 k).1 (inr held),
         ),
       ),
+    )
+
+-- each number is below all later ones
+Rises : List ℕ → Type 0
+Rises [] = Unit {0}
+Rises (x ∷ xs) = All (λ y. x < y) xs × Rises xs
+
+rises_from : (xs : List ℕ) → IsStrictlySortedBy nat_cmp xs → Rises xs
+unfolding Rises
+rises_from [] h = tt
+rises_from (x ∷ xs) h = (
+  λ k d low. below_from_sorted (x ∷ xs) 0 (suc k) d h (omega arith) (omega arith),
+  rises_from xs (sorted_tail nat_cmp x xs h),
+)
+
+head_below : (x y : ℕ) (ys : List ℕ) → All (λ z. y < z) ys → Contains (y ∷ ys) x → y ≤ x
+head_below x y ys low held = elim (Contains-append_cases (y ∷ []) ys x held) [
+  | inl here ↦ let same : y ≡ x = in_one y x here in omega arith
+  | inr rest ↦ let lt : y < x = All-contains (λ z. y < z) ys x low rest in omega arith
+]
+
+tail_from : (x y z : ℕ) (ys : List ℕ) → x ≡ y → x < z → Contains (y ∷ ys) z → Contains ys z
+tail_from x y z ys same lt held = elim (Contains-append_cases (y ∷ []) ys z held) [
+  | inl here ↦ let is : y ≡ z = in_one y z here in absurd (omega arith)
+  | inr rest ↦ rest
+]
+
+-- ascending lists with the same numbers are one
+rising_same : (xs ys : List ℕ) → Rises xs → Rises ys → ((n : ℕ) → Contains xs n ↔ Contains ys n) → xs ≡ ys
+unfolding Rises
+rising_same [] [] h k same = refl
+rising_same [] (y ∷ ys) h k same = absurd (none_held y ((same y).1 (Contains-append_left (y ∷ []) ys y (Contains-push [] y))))
+rising_same (x ∷ xs) [] h k same = absurd (none_held x ((same x).0 (Contains-append_left (x ∷ []) xs x (Contains-push [] x))))
+rising_same (x ∷ xs) (y ∷ ys) h k same =
+    let one = head_below x y ys k.0 ((same x).0 (Contains-append_left (x ∷ []) xs x (Contains-push [] x))) in
+    let two = head_below y x xs h.0 ((same y).1 (Contains-append_left (y ∷ []) ys y (Contains-push [] y))) in
+    let heads : x ≡ y = omega arith in
+    let tails : xs ≡ ys = rising_same xs ys h.1 k.1 (λ n. (
+      λ held. tail_from x y n ys heads (All-contains (λ z. x < z) xs n h.0 held) ((same n).0 (Contains-append_right (x ∷ []) xs n held)),
+      λ held. tail_from y x n xs (sym heads) (All-contains (λ z. y < z) ys n k.0 held) ((same n).1 (Contains-append_right (y ∷ []) ys n held)),
+    )) in cc
+
+pub settles_in_one_way : SettlesInOneWay
+settles_in_one_way edges old one other finals others h k =
+    let same : (n : ℕ) → Contains finals n ↔ Contains others n = λ n. (λ held. (k.all n).1 ((h.all n).0 held), λ held. (h.all n).1 ((k.all n).0 held)) in (
+      same_lists one other (λ n. elim (cases_held finals n) [
+        | inl held ↦ h.final n held ∙ sym (k.final n ((same n).0 held))
+        | inr not ↦ h.others n not ∙ sym (k.others n (λ held. not ((same n).1 held)))
+      ]),
+      rising_same finals others (rises_from finals (sorted_from_strictly_increasing finals h.rising)) (rises_from others (sorted_from_strictly_increasing others k.rising)) same,
     )

@@ -25,3 +25,9 @@ InTurnIsAtOnce =
     (edges : List Edge) (old begun new : List State) (nodes finals : List ℕ) → IsSettled edges old → Begins nodes old begun
     → RetiresInTurn edges old nodes new finals
     → (all : List ℕ) × (Settles edges begun new all × ((node : ℕ) → Contains all node ↔ Contains finals node))
+
+-- States settle in one way.
+abbrev pub SettlesInOneWay : Type 0
+SettlesInOneWay =
+    (edges : List Edge) (old one other : List State) (finals others : List ℕ) → Settles edges old one finals → Settles edges old other others
+    → (one ≡ other) × (finals ≡ others)

@@ -10,5 +10,5 @@ mod settling;
 mod tests;
 
 pub use finaliser::Finaliser;
-pub use laws::in_turn_is_at_once;
+pub use laws::{in_turn_is_at_once, settles_in_one_way};
 pub use settling::plain_settle;
