@@ -1,0 +1,67 @@
+-- Laws of the world.
+use Rattle.std.specs.Prelude.{◌≡◌, ◌≢◌, ◌↔◌, ◌≤ℤ◌, ◌<ℤ◌, ◌<◌, ◌≤◌, ◌+◌, ℕ, ℤ, Bool, true, List, Option, Some, All, ForSome, length, slice_get}
+use Rattle.names_realms.specs.declared.pairs.Pair.{Pair}
+use Rattle.names_realms.specs.declared.states.State.TheVariants.{Active, Finalized}
+use Rattle.inclusion_graph.specs.Edges.{fresh, targets_of}
+use Rattle.inclusion_graph.specs.Walks.{Reaches}
+use Rattle.invocations.specs.declared.invocation.Invocation.{Invocation}
+use Rattle.invocations.specs.Faults.{CanAdd}
+use Rattle.invocations.specs.Rows.{IsInState}
+use Rattle.invocation_world.specs.World.{World, IsCallMoment, IsPair, IsRow, IsValid, latest_deadline, with_row}
+use Rattle.invocation_world.specs.Settling.{Settles}
+use Rattle.invocation_world.specs.Changes.{is_update, updated, with_begun, with_inclusions, with_update}
+use Rattle.invocation_world.specs.Advancing.{Advances, IsQuiet}
+
+-- A world settles in one way at most.
+abbrev pub SettlesOnce : Type 0
+SettlesOnce = (moment : ℤ) (w v x : World) → Settles moment w v → Settles moment w x → v ≡ x
+
+-- A valid world settles into itself.
+abbrev pub ValidIsSettled : Type 0
+ValidIsSettled = (moment : ℤ) (w : World) → IsValid w → Settles moment w w
+
+-- What is due is carried out in one way at most.
+abbrev pub AdvancesOnce : Type 0
+AdvancesOnce = (moment : ℤ) (w v x : World) → Advances w moment v → Advances w moment x → v ≡ x
+
+-- It can be carried out in each world.
+abbrev pub HasAdvance : Type 0
+HasAdvance = (moment : ℤ) (w : World) → (after : World) × Advances w moment after
+
+-- In a valid world, at the moment of a call that isn't before the last change, this gives a valid one, in which nothing
+-- is due any more.
+abbrev pub AdvanceKeepsValid : Type 0
+AdvanceKeepsValid =
+    (moment : ℤ) (w after : World) → IsValid w → IsCallMoment moment → w.last ≤ℤ moment → Advances w moment after
+    → IsValid after × IsQuiet after moment
+
+-- The rows that are final stay as they are, and what they include and reach stays.
+pub record KeepsFinal (w after : World) : Type 0 where
+  pub rows : (place : ℕ) (row : Invocation) → slice_get w.invocations place ≡ Some row → row.state ≡ Finalized
+      → slice_get after.invocations place ≡ Some row
+  pub included : (place : ℕ) → IsInState Finalized w.invocations place
+      → targets_of after.inclusions place ≡ targets_of w.inclusions place
+  pub reached : (place other : ℕ) → IsInState Finalized w.invocations place
+      → Reaches after.inclusions place other ↔ Reaches w.inclusions place other
+
+abbrev pub AdvanceKeepsFinal : Type 0
+AdvanceKeepsFinal = (moment : ℤ) (w after : World) → Advances w moment after → KeepsFinal w after
+
+abbrev pub SettlingKeepsFinal : Type 0
+SettlingKeepsFinal = (moment : ℤ) (w after : World) → Settles moment w after → KeepsFinal w after
+
+-- So it is with each change of a valid world: of an active row, or by a new one.
+abbrev pub ChangesKeepFinal : Type 0
+ChangesKeepFinal =
+    (moment : ℤ) (w : World) (place : ℕ) → IsValid w
+    → ((row : Invocation) → KeepsFinal w (with_row w row))
+    × (IsInState Active w.invocations place → KeepsFinal w (with_begun moment place w))
+    × ((deadline : Option ℤ) (tags : Option (List Pair)) → IsInState Active w.invocations place
+    → KeepsFinal w (with_update moment place deadline tags w))
+    × ((targets : List ℕ) → IsInState Active w.invocations place → KeepsFinal w (with_inclusions moment place targets w))
+
+-- An update is said to change a row just where the row is another one afterwards.
+abbrev pub UpdateIsTold : Type 0
+UpdateIsTold =
+    (deadline : Option ℤ) (tags : Option (List Pair)) (row : Invocation)
+    → (is_update deadline tags row ≡ true) ↔ (updated deadline tags row ≢ row)

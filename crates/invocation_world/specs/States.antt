@@ -1,0 +1,33 @@
+-- What the world in memory and its plans show of themselves.
+use Rattle.std.specs.Prelude.{◌≡◌, ◌≢◌, ℕ, ◌+◌, ◌<◌, ◌≤◌, length, All}
+use Rattle.names_realms.specs.declared.states.State.TheVariants.{Active}
+use Rattle.inclusion_graph.specs.Edges.{GraphState, fresh, targets_of}
+use Rattle.inclusion_graph.specs.Plans.{PlanState}
+use Rattle.invocations.specs.Rows.{IsInState}
+use Rattle.invocation_world.specs.World.{World}
+
+-- The world, and for how many more rows and inclusions there is room.
+pub record WorldState : Type 0 where
+  pub world : World
+  pub spare_rows : ℕ
+  pub spare_inclusions : ℕ
+
+-- the graph of the inclusions, with as much room
+abbrev pub graph_of : WorldState → GraphState
+graph_of state = record {
+  nodes = length state.world.invocations;
+  edges = state.world.inclusions;
+  spare_nodes = state.spare_rows;
+  spare_edges = state.spare_inclusions;
+}
+
+-- The plan fits the world: its row is active, the targets are other rows that are there, which it doesn't include yet,
+-- each once, and there is room for them.
+pub record Fits (state : WorldState) (plan : PlanState) : Type 0 where
+  pub active : IsInState Active state.world.invocations plan.from
+  pub held : plan.held ≡ targets_of state.world.inclusions plan.from
+  pub new : fresh plan.held plan.targets ≡ plan.targets
+  pub there : All (λ target. target < length state.world.invocations) plan.targets
+  pub elsewhere : All (λ target. target ≢ plan.from) plan.targets
+  pub few : length state.world.inclusions + length plan.targets ≤ 262_144
+  pub room : length plan.targets ≤ state.spare_inclusions

@@ -1,0 +1,1 @@
+//! Worlds with cycles, chains and deadlines.
