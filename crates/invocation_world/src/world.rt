@@ -220,6 +220,19 @@ impl InvocationWorld {
         }
     }
 
+    /// Whether an active row would be final at once, if it were retired now. It takes no memory, and
+    /// changes nothing.
+    pub fn would_be_final(&mut self, place: u32) -> bool
+        requires { IsInState State.Active self.old.world.invocations place }
+        ensures answer { (moment : ℤ) → IsTrue result
+            ↔ ¬ ReachesActive (with_begun moment place self.old.world) place }
+        ensures world { self.new.world ≡ self.old.world }
+        ensures spare_rows { self.old.spare_rows ≤ self.new.spare_rows }
+        ensures spare_inclusions { self.old.spare_inclusions ≤ self.new.spare_inclusions }
+    {
+        self.finaliser.would_be_final(place)
+    }
+
     /// Begins the finalization of an active row. Then each finalizing row that reaches no active one
     /// is ended, all at once. It takes no memory.
     pub fn retire(&mut self, place: u32, moment: Moment)
