@@ -1,0 +1,6 @@
+pub mod BegunFacts
+pub mod ReachFacts
+pub mod RowFacts
+pub mod SettleFacts
+pub mod TurnFacts
+pub mod WorldFacts
