@@ -3,4 +3,5 @@ pub mod ReachFacts
 pub mod RowFacts
 pub mod SettleFacts
 pub mod TurnFacts
+pub mod ValidFacts
 pub mod WorldFacts
