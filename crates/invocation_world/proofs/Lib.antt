@@ -1,4 +1,6 @@
+pub mod AdvanceFacts
 pub mod BegunFacts
+pub mod ChangeFacts
 pub mod ReachFacts
 pub mod RowFacts
 pub mod SettleFacts
