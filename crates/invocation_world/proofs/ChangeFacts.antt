@@ -211,7 +211,7 @@ once_more_edges edges p (n ∷ ns) once =
           (subst (AllPairs (λ (a b : Edge). a ≢ b)) (append_assoc edges (edge ∷ []) (edges_from p (fresh (held ++ n ∷ []) ns))) rest)
     ]
 
-edges_all_from : (p : ℕ) (ts : List ℕ) → All (λ (e : Edge). e.from ≡ p) (edges_from p ts)
+pub edges_all_from : (p : ℕ) (ts : List ℕ) → All (λ (e : Edge). e.from ≡ p) (edges_from p ts)
 edges_all_from p ts = All-map (λ (e : Edge). e.from ≡ p) (λ t. record { from = p; to = t }) ts (λ k d low. refl)
 
 included_ended : (w : World) (p : ℕ) (ts : List ℕ) → IsValid w → IsInState Active w.invocations p → (q : ℕ)

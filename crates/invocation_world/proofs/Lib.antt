@@ -1,9 +1,11 @@
 pub mod AdvanceFacts
 pub mod BegunFacts
 pub mod ChangeFacts
+pub mod FinalFacts
 pub mod ReachFacts
 pub mod RowFacts
 pub mod SettleFacts
 pub mod TurnFacts
+pub mod UpdateFacts
 pub mod ValidFacts
 pub mod WorldFacts

@@ -1,0 +1,119 @@
+-- Rows that are final stay as they are.
+use Rattle.std.proofs.Common.{◌≡◌, ◌≢◌, ◌⊎◌, ◌↔◌, ℕ, ℤ, Bool, true, false, cond, List, [], ◌∷◌, ◌++◌, Option, Some, None, refl, sym, ap, ◌∙◌, subst, inl, inr}
+use Rattle.std.specs.List.{slice_get}
+use Rattle.std.proofs.lemmas.Bool.{cases_Bool, cond-true, cond-false}
+use Rattle.std.proofs.lemmas.List.{append-nil}
+use Rattle.names_realms.specs.declared.pairs.Pair.{Pair}
+use Rattle.names_realms.specs.declared.states.State.TheVariants.{Active, Finalizing, Finalized}
+use Rattle.inclusion_graph.specs.declared.edge.Edge.{Edge}
+use Rattle.inclusion_graph.specs.Edges.{edges_from, fresh, targets_of}
+use Rattle.inclusion_graph.specs.Walks.{Reaches}
+use Rattle.invocations.specs.declared.invocation.Invocation.{Invocation}
+use Rattle.invocations.specs.Rows.{IsInState, begun, with_changed}
+use Rattle.invocations.proofs.RowLemmas.{at_front}
+use Rattle.invocation_world.specs.World.{World, IsValid, with_row}
+use Rattle.invocation_world.specs.Advancing.{Advances, CarriesOut, after_deadlines, all_begun}
+use Rattle.invocation_world.specs.Changes.{is_update, updated, with_begun, with_edges, with_inclusions, with_row_updated, with_update}
+use Rattle.invocation_world.specs.Laws.{KeepsFinal}
+use Rattle.invocation_world.specs.Settling.{Settles, SettlesRows}
+use Rattle.invocation_world.proofs.BegunFacts.{all_begun_at, not_begun}
+use Rattle.invocation_world.proofs.ChangeFacts.{edges_all_from, targets_elsewhere}
+use Rattle.invocation_world.proofs.ReachFacts.{reaches_appended, reaches_split}
+use Rattle.invocation_world.proofs.RowFacts.{row_in, state_is, apart, active≢finalized, finalizing≢finalized, changed_other}
+use Rattle.invocation_world.proofs.SettleFacts.{row_stays}
+
+abbrev FinalStay : List Invocation → List Invocation → Type 0
+FinalStay old new = (p : ℕ) (row : Invocation) → slice_get old p ≡ Some row → row.state ≡ Finalized → slice_get new p ≡ Some row
+
+-- where the inclusions are the same, it is enough that the rows stay
+same_inclusions : (w after : World) → after.inclusions ≡ w.inclusions → FinalStay w.invocations after.invocations → KeepsFinal w after
+same_inclusions w after same rows = record {
+  rows = rows;
+  included = λ p is. ap (λ (edges : List Edge). targets_of edges p) same;
+  reached = λ p other is.
+      (λ h. subst (λ (edges : List Edge). Reaches edges p other) same h, λ h. subst (λ (edges : List Edge). Reaches edges p other) (sym same) h);
+}
+
+settled_final : (moment : ℤ) (edges : List Edge) (old new : List Invocation) → SettlesRows moment edges old new → FinalStay old new
+settled_final moment edges old new s = λ p row e is.
+    row_stays moment edges old new s p row e (λ other. finalizing≢finalized (sym other ∙ is))
+
+begun_final : (d : ℤ) (rows : List Invocation) → FinalStay rows (all_begun d rows)
+begun_final d rows = λ p row e is.
+    all_begun_at d rows p row e
+    ∙ ap (λ (r : Invocation). Some r) (not_begun d row (λ active due. absurd (active≢finalized (sym active ∙ is))))
+
+carried_final : (edges : List Edge) (moment : ℤ) (rows : List Invocation) (ds : List ℤ) (after : List Invocation)
+    → CarriesOut edges moment rows ds after → FinalStay rows after
+carried_final edges moment rows [] after h = λ p row e is. subst (λ (rs : List Invocation). slice_get rs p ≡ Some row) (sym h.1) e
+carried_final edges moment rows (d ∷ ds) after h = λ p row e is.
+    carried_final edges moment h.1.0 ds after h.1.2 p row
+    (settled_final d edges (all_begun d rows) h.1.0 h.1.1 p row (begun_final d rows p row e is) is) is
+
+advanced_final : (moment : ℤ) (w after : World) (ds : List ℤ) (rows : List Invocation)
+    → CarriesOut w.inclusions moment w.invocations ds rows → after ≡ after_deadlines moment ds rows w → KeepsFinal w after
+advanced_final moment w after [] rows h is = subst (KeepsFinal w) (sym is) (same_inclusions w w refl (λ p row e state. e))
+advanced_final moment w after (d ∷ ds) rows h is =
+    subst (KeepsFinal w) (sym is)
+    (same_inclusions w (after_deadlines moment (d ∷ ds) rows w) refl (carried_final w.inclusions moment w.invocations (d ∷ ds) rows h))
+
+pub advance_final : (moment : ℤ) (w after : World) → Advances w moment after → KeepsFinal w after
+advance_final moment w after h = advanced_final moment w after h.deadlines h.rows h.carried h.after_is
+
+pub settling_final : (moment : ℤ) (w after : World) → Settles moment w after → KeepsFinal w after
+settling_final moment w after s =
+    same_inclusions w after s.inclusions (settled_final moment w.inclusions w.invocations after.invocations s.rows)
+
+-- a final row isn't the active one that is changed
+changed_final : (change : Invocation → Invocation) (rows : List Invocation) (p : ℕ) → IsInState Active rows p
+    → FinalStay rows (with_changed change rows p)
+changed_final change rows p active = λ q row e is.
+    changed_other change rows p q
+    (λ same. apart Active Finalized rows p active≢finalized active (subst (IsInState Finalized rows) same (state_is Finalized rows q row e is)))
+    ∙ e
+
+pub row_final : (w : World) (row : Invocation) → KeepsFinal w (with_row w row)
+row_final w row = same_inclusions w (with_row w row) refl (λ p other e is. at_front w.invocations row other p e)
+
+pub begin_final : (moment : ℤ) (w : World) (p : ℕ) → IsInState Active w.invocations p → KeepsFinal w (with_begun moment p w)
+begin_final moment w p active =
+    same_inclusions w (with_begun moment p w) refl (changed_final (begun moment) w.invocations p active)
+
+pub update_final : (moment : ℤ) (w : World) (p : ℕ) (deadline : Option ℤ) (tags : Option (List Pair)) → IsInState Active w.invocations p
+    → KeepsFinal w (with_update moment p deadline tags w)
+update_final moment w p deadline tags active =
+    let here = row_in Active w.invocations p active in
+    let moved : World = record {
+      invocations = with_changed (updated deadline tags) w.invocations p;
+      inclusions = w.inclusions;
+      last = moment;
+    } in
+    let is : with_update moment p deadline tags w ≡ cond (is_update deadline tags here.0) moved w =
+        ap (with_row_updated moment p deadline tags w) here.1 in
+    elim (cases_Bool (is_update deadline tags here.0)) [
+      | inl yes_ ↦ subst (KeepsFinal w) (sym (is ∙ cond-true (is_update deadline tags here.0) moved w yes_))
+          (same_inclusions w moved refl (changed_final (updated deadline tags) w.invocations p active))
+      | inr no_ ↦ subst (KeepsFinal w) (sym (is ∙ cond-false (is_update deadline tags here.0) moved w no_))
+          (same_inclusions w w refl (λ q row e state. e))
+    ]
+
+edges_final : (moment : ℤ) (w : World) (p : ℕ) (ts : List ℕ) → IsValid w → IsInState Active w.invocations p
+    → KeepsFinal w (with_edges moment (edges_from p ts) w)
+edges_final moment w p [] valid active = same_inclusions w w refl (λ q row e state. e)
+edges_final moment w p (t ∷ ts) valid active = record {
+  rows = λ q row e is. e;
+  included = λ q is. targets_elsewhere w.inclusions p q (t ∷ ts)
+      (λ same. apart Active Finalized w.invocations q active≢finalized (subst (IsInState Active w.invocations) same active) is);
+  reached = λ q other is. (
+    λ h. elim (reaches_split w.inclusions (edges_from p (t ∷ ts)) p (edges_all_from p (t ∷ ts)) q other h) [
+      | inl walk ↦ walk
+      | inr walk ↦ absurd (valid.ended q is (p, walk, active))
+    ],
+    λ h. reaches_appended w.inclusions (edges_from p (t ∷ ts)) q other h,
+  );
+}
+
+pub inclusions_final : (moment : ℤ) (w : World) (p : ℕ) (targets : List ℕ) → IsValid w → IsInState Active w.invocations p
+    → KeepsFinal w (with_inclusions moment p targets w)
+inclusions_final moment w p targets valid active =
+    edges_final moment w p (fresh (targets_of w.inclusions p) targets) valid active
