@@ -103,3 +103,17 @@ changed_same change rows others p q e =
       ]
       | inr other ↦ changed_other change rows p q other ∙ e ∙ sym (changed_other change others p q other)
     ]
+
+-- a change that changes no row
+pub changed_nothing : (change : Invocation → Invocation) → ((row : Invocation) → change row ≡ row) → (rows : List Invocation)
+    (p : ℕ) → with_changed change rows p ≡ rows
+changed_nothing change same [] p = refl
+changed_nothing change same (x ∷ rows) zero = ap (λ r. r ∷ rows) (same x)
+changed_nothing change same (x ∷ rows) (suc p) = ap (λ rs. x ∷ rs) (changed_nothing change same rows p)
+
+-- one change and then another
+pub changed_twice : (first second both : Invocation → Invocation) → ((row : Invocation) → second (first row) ≡ both row)
+    → (rows : List Invocation) (p : ℕ) → with_changed second (with_changed first rows p) p ≡ with_changed both rows p
+changed_twice first second both same [] p = refl
+changed_twice first second both same (x ∷ rows) zero = ap (λ r. r ∷ rows) (same x)
+changed_twice first second both same (x ∷ rows) (suc p) = ap (λ rs. x ∷ rs) (changed_twice first second both same rows p)

@@ -1,5 +1,7 @@
 -- The code's own words: rows retired one after the other.
-use Rattle.std.specs.Prelude.{◌≡◌, ℕ, ℤ, List, [], ◌∷◌}
+use Rattle.std.specs.Prelude.{◌≡◌, ℕ, suc, ℤ, List, [], ◌∷◌}
+use Rattle.names_realms.specs.declared.states.State.{State}
+use Rattle.names_realms.specs.declared.states.State.TheVariants.{Active, Finalizing, Finalized}
 use Rattle.inclusion_graph.specs.declared.edge.Edge.{Edge}
 use Rattle.invocations.specs.declared.invocation.Invocation.{Invocation}
 use Rattle.invocations.specs.Due.{IsNextDue}
@@ -20,3 +22,10 @@ RetiresInTurn inclusions moment rows (place ∷ places) after =
 -- some places lead there in turn
 abbrev pub RunsTo : List Edge → ℤ → List Invocation → List Invocation → Type 0
 RunsTo inclusions moment rows after = (places : List ℕ) × RetiresInTurn inclusions moment rows places after
+
+-- how many are active
+abbrev pub active_count : List State → ℕ
+active_count [] = 0
+active_count (Active ∷ states) = suc (active_count states)
+active_count (Finalizing ∷ states) = active_count states
+active_count (Finalized ∷ states) = active_count states

@@ -1,0 +1,13 @@
+use Rattle.std.proofs.Common.{Bool, MatchBool, sym, subst}
+use Rattle.invocation_world.specs.Advancing.{IsDueAt, IsQuiet}
+use Rattle.invocation_world.specs.States.{WorldState}
+use Rattle.invocation_world.proofs.CodeFacts.{due_or_quiet}
+use Rattle.invocation_world.proofs.world.InvocationWorld.is_due.Goals as goal
+
+pub returns : goal.returns
+returns c =
+    let rows = c.self.inside.table.rows in
+    let moment = c.args.moment in
+    let told = due_or_quiet rows moment c.next_due.result c.next_due.ensures in
+    subst (λ (s : WorldState). MatchBool c.is_some.result (IsDueAt s.world moment) (IsQuiet s.world moment)) c.self.view_is
+    (subst (λ (b : Bool). MatchBool b _ _) (sym c.is_some.ensures) told)
