@@ -230,3 +230,23 @@ fits_world state graph place targets plan h =
       few = subst (λ (es : List Edge). length es + length plan.targets ≤ 262_144) h.edges h.fits.few;
       room = subst (λ n. length plan.targets ≤ n) h.room h.fits.room;
     }
+
+pub fits_result : (state : WorldState) (graph : GraphState) (place : ℕ) (targets : List ℕ) (result : Result PlanState EdgeFault)
+    → IsInState Active state.world.invocations place → All (λ target. target < length state.world.invocations) targets
+    → graph.edges ≡ state.world.inclusions → graph.spare_edges ≡ state.spare_inclusions
+    → IfOk result (plans.Fits graph) → IfOk result (λ plan. plan.from ≡ place)
+    → IfOk result (λ plan. plan.targets ≡ fresh (targets_of state.world.inclusions place) targets)
+    → OnOk result (IsElsewhere place targets) → IfOk result (Fits state)
+fits_result state graph place targets (Ok plan) active there edges room fits from targets_are elsewhere =
+    fits_world state graph place targets plan
+    (record {
+      active = active;
+      there = there;
+      edges = edges;
+      room = room;
+      fits = fits;
+      from = from;
+      targets_are = targets_are;
+      elsewhere = elsewhere;
+    })
+fits_result state graph place targets (Err fault) active there edges room fits from targets_are elsewhere = tt

@@ -32,11 +32,11 @@ fn are_same(a: &[Pair], b: &[Pair]) -> bool
 }
 
 /// Whether a deadline is given, and another one stands.
-fn is_other_deadline(deadline: Option<Moment>, stands: Moment) -> bool
-    ensures { result ≡ changes.is_other_deadline deadline stands }
+fn is_other_deadline(deadline: &Option<Moment>, stands: Moment) -> bool
+    ensures { result ≡ changes.is_other_deadline deadline.now stands }
 {
     match deadline {
-        Some(given) => given != stands,
+        Some(given) => *given != stands,
         None => false,
     }
 }
@@ -54,10 +54,10 @@ fn are_other_tags(tags: &Option<Listed<Pair>>, stand: &[Pair]) -> bool
 /// Whether an update changes a row.
 pub(crate) fn is_update(
     row: &Invocation,
-    deadline: Option<Moment>,
+    deadline: &Option<Moment>,
     tags: &Option<Listed<Pair>>,
 ) -> bool
-    ensures { result ≡ changes.is_update deadline tags.now row.now }
+    ensures { result ≡ changes.is_update deadline.now tags.now row.now }
 {
     is_other_deadline(deadline, row.deadline) || are_other_tags(tags, row.tags.as_slice())
 }

@@ -268,7 +268,7 @@ impl InvocationWorld {
         ensures spare_rows { self.old.spare_rows ≤ self.new.spare_rows }
         ensures spare_inclusions { self.old.spare_inclusions ≤ self.new.spare_inclusions }
     {
-        if !is_update(self.table.row(place), deadline, &tags) {
+        if !is_update(self.table.row(place), &deadline, &tags) {
             return;
         }
         set_deadline(&mut self.table, place, deadline);
