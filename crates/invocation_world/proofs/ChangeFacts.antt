@@ -90,7 +90,7 @@ valid_added w row valid can is active call later quiet = record {
 }
 
 -- states stay where a change leaves them
-states_stay : (change : Invocation → Invocation) → ((row : Invocation) → (change row).state ≡ row.state)
+pub states_stay : (change : Invocation → Invocation) → ((row : Invocation) → (change row).state ≡ row.state)
     → (rows : List Invocation) (p : ℕ) → states_of (with_changed change rows p) ≡ states_of rows
 states_stay change same [] p = refl
 states_stay change same (x ∷ rows) zero = ap (λ s. s ∷ states_of rows) (same x)

@@ -2,12 +2,13 @@
 use Rattle.std.proofs.Common.{◌≡◌, ◌≢◌, ◌⊎◌, ◌↔◌, ◌<◌, ◌≤◌, ◌+◌, ℕ, zero, suc, ℤ, ◌≤ℤ◌, Bool, true, false, min, List, [], ◌∷◌, ◌++◌, length, get_or, set, take, Contains, Option, Some, None, Result, Ok, Err, IfOk, OnOk, MatchBool, is_some, refl, sym, ap, ◌∙◌, subst, inl, inr, arith}
 use Rattle.std.specs.List.{All, Any, slice_get}
 use Rattle.std.specs.List.Sorted.{IsStrictlyIncreasing}
-use Rattle.std.proofs.lemmas.Bool.{cases_Bool}
+use Rattle.std.proofs.lemmas.Bool.{cases_Bool, cond-true}
 use Rattle.std.proofs.lemmas.List.{get_or-take, get_or_default, length-take}
 use Rattle.std.proofs.lemmas.List.Elements.{Contains-get_or}
 use Rattle.std.proofs.lemmas.List.Kept.{AllPairs-from_increasing}
 use Rattle.std.proofs.lemmas.Option.{same_Some, none-some, slice_get_within, get_or_from_slice_get, slice_get-map}
 use Rattle.std.proofs.Common.{option_map}
+use Rattle.names_realms.specs.declared.pairs.Pair.{Pair}
 use Rattle.names_realms.specs.declared.states.State.{State}
 use Rattle.names_realms.specs.declared.states.State.TheVariants.{Active, Finalizing, Finalized}
 use Rattle.inclusion_graph.specs.declared.edge.Edge.{Edge}
@@ -24,13 +25,14 @@ use Rattle.invocations.specs.Faults.{CanAdd}
 use Rattle.invocations.specs.Rows.{IsInState, TableState, begun, ended, states_of, with_changed}
 use Rattle.invocation_world.specs.World.{World, IsCallMoment, IsRow, IsValid}
 use Rattle.invocation_world.specs.Advancing.{Advances, AreQuiet, CarriesOut}
+use Rattle.invocation_world.specs.Changes.{is_update, updated, with_row_updated, with_update}
 use Rattle.invocation_world.specs.Parts.{AreLinked, IsKept, world_of}
 use Rattle.invocation_world.specs.Settling.{AreEnded, SettlesRows}
 use Rattle.invocation_world.specs.States.{WorldState, Fits}
 use Rattle.invocation_world.specs.Turns.{RunsTo, active_count}
 use Rattle.invocation_world.proofs.AdvanceFacts.{carried_quiet, carried_valid}
 use Rattle.invocation_world.proofs.ChangeFacts.{valid_added}
-use Rattle.invocation_world.proofs.RowFacts.{same_lists, all_at, held_or_not, row_in, state_at, state_is}
+use Rattle.invocation_world.proofs.RowFacts.{changed_twice, same_lists, all_at, held_or_not, row_in, state_at, state_is}
 use Rattle.invocation_world.proofs.SettleFacts.{active_before}
 use Rattle.invocation_world.proofs.TurnFacts.{turns_carry_out}
 use Rattle.invocation_world.proofs.ValidFacts.{valid_retired}
@@ -250,3 +252,20 @@ fits_result state graph place targets (Ok plan) active there edges room fits fro
       elsewhere = elsewhere;
     })
 fits_result state graph place targets (Err fault) active there edges room fits from targets_are elsewhere = tt
+
+-- a deadline that is set, and then tags
+pub updated_twice : (deadline : Option ℤ) (tags : Option (List Pair)) (old mid new : List Invocation) (p : ℕ)
+    → mid ≡ with_changed (updated deadline None) old p → new ≡ with_changed (updated None tags) mid p
+    → new ≡ with_changed (updated deadline tags) old p
+updated_twice deadline tags old mid new p first second =
+    second ∙ ap (λ (rs : List Invocation). with_changed (updated None tags) rs p) first
+    ∙ changed_twice (updated deadline None) (updated None tags) (updated deadline tags) (λ row. refl) old p
+
+pub update_is : (moment : ℤ) (p : ℕ) (deadline : Option ℤ) (tags : Option (List Pair)) (w : World) (row : Invocation)
+    (new : List Invocation) → slice_get w.invocations p ≡ Some row → is_update deadline tags row ≡ true
+    → new ≡ with_changed (updated deadline tags) w.invocations p
+    → record { invocations = new; inclusions = w.inclusions; last = moment } ≡ with_update moment p deadline tags w
+update_is moment p deadline tags w row new at told is =
+    let moved : List Invocation → World = λ rs. record { invocations = rs; inclusions = w.inclusions; last = moment } in
+    let made = moved (with_changed (updated deadline tags) w.invocations p) in
+    ap moved is ∙ sym (cond-true (is_update deadline tags row) made w told) ∙ ap (with_row_updated moment p deadline tags w) (sym at)
