@@ -17,14 +17,14 @@ use Rattle.invocation_world.proofs.SettleFacts.{settled_once}
 use Rattle.invocation_world.proofs.ValidFacts.{all_begin, valid_later, valid_settled}
 
 -- the row that has the least deadline
-record LeastRow (rows : List Invocation) (moment d : ℤ) : Type 0 where
+pub record LeastRow (rows : List Invocation) (moment d : ℤ) : Type 0 where
   pub place : ℕ
   pub row : Invocation
   pub stands : slice_get rows place ≡ Some row
   pub due : IsDue moment row
   pub deadline : row.deadline ≡ d
 
-least_row : (rows : List Invocation) (moment d : ℤ) → IsLeast rows moment d → LeastRow rows moment d
+pub least_row : (rows : List Invocation) (moment d : ℤ) → IsLeast rows moment d → LeastRow rows moment d
 least_row rows moment d h = record {
   place = h.due.0;
   row = h.due.1;

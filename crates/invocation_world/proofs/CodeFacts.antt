@@ -102,7 +102,7 @@ finals_wait moment edges rows p states new_states more linked settles =
     λ k d low. ((s.all (get_or more k d)).0 (Contains-get_or more k d low)).0
 
 -- how many rows are active
-active_le : (xs ys : List State) → ((q : ℕ) → IsIn Active ys q → IsIn Active xs q) → active_count ys ≤ active_count xs
+pub active_le : (xs ys : List State) → ((q : ℕ) → IsIn Active ys q → IsIn Active xs q) → active_count ys ≤ active_count xs
 active_le xs [] h = omega arith
 active_le [] (Active ∷ ys) h = absurd (none-some Active (h zero refl))
 active_le [] (Finalizing ∷ ys) h = active_le [] ys (λ q is. h (suc q) is)
@@ -117,7 +117,7 @@ active_le (Finalized ∷ xs) (Active ∷ ys) h = let no : Finalized ≡ Active =
 active_le (Finalized ∷ xs) (Finalizing ∷ ys) h = active_le xs ys (λ q is. h (suc q) is)
 active_le (Finalized ∷ xs) (Finalized ∷ ys) h = active_le xs ys (λ q is. h (suc q) is)
 
-one_less : (states : List State) (p : ℕ) → IsIn Active states p → active_count (set states p Finalizing) + 1 ≡ active_count states
+pub one_less : (states : List State) (p : ℕ) → IsIn Active states p → active_count (set states p Finalizing) + 1 ≡ active_count states
 one_less [] p e = absurd (none-some Active e)
 one_less (s ∷ states) zero e =
     subst (λ x. active_count states + 1 ≡ active_count (x ∷ states)) (sym (same_Some s Active e)) (omega arith)

@@ -2,6 +2,7 @@ pub mod AdvanceFacts
 pub mod BegunFacts
 pub mod ChangeFacts
 pub mod CodeFacts
+pub mod ExistFacts
 pub mod FinalFacts
 pub mod ReachFacts
 pub mod RowFacts
