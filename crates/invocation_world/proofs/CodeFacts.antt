@@ -192,7 +192,7 @@ carried_advances moment table finaliser last new new_finaliser h found some next
     (by_deadlines (world_of table finaliser last) moment new.rows carried.0 (due_at_next table.rows moment found some next) carried.1)
 
 -- what is fresh stays so
-fresh_twice : (held ts : List ℕ) → fresh held (fresh held ts) ≡ fresh held ts
+pub fresh_twice : (held ts : List ℕ) → fresh held (fresh held ts) ≡ fresh held ts
 fresh_twice held [] = refl
 fresh_twice held (n ∷ ns) =
     elim (cases_Bool (has held n)) [

@@ -15,7 +15,7 @@ use Rattle.invocations.specs.Due.{IsDue}
 use Rattle.invocations.specs.Rows.{IsInState, begun, ended, states_of, with_changed}
 use Rattle.invocation_world.specs.World.{World}
 use Rattle.invocation_world.specs.Advancing.{Advances, AreQuiet, CarriesOut, IsLeast, after_deadlines, all_begun, is_active}
-use Rattle.invocation_world.specs.Settling.{AreEnded, SettlesRows}
+use Rattle.invocation_world.specs.Settling.{AreEnded, Settles, SettlesRows}
 use Rattle.invocation_world.specs.Turns.{active_count}
 use Rattle.invocation_world.proofs.AdvanceFacts.{least_row}
 use Rattle.invocation_world.proofs.BegunFacts.{active_is, all_begun_at, due_begun, is_of_active}
@@ -206,4 +206,11 @@ advance_there moment w =
     let h = carried_there w.inclusions moment (suc (active_count (states_of w.invocations))) w.invocations (omega arith) in (
       after_deadlines moment h.0 h.1 w,
       record { deadlines = h.0; rows = h.1; carried = h.2; after_is = refl },
+    )
+
+pub settling_there : (moment : ℤ) (w : World) → (after : World) × Settles moment w after
+settling_there moment w =
+    let h = settled_there moment w.inclusions w.invocations in (
+      record { invocations = h.0; inclusions = w.inclusions; last = w.last },
+      record { rows = h.1; inclusions = refl; last = refl },
     )

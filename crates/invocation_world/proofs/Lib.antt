@@ -4,6 +4,7 @@ pub mod ChangeFacts
 pub mod CodeFacts
 pub mod ExistFacts
 pub mod FinalFacts
+pub mod KeepFacts
 pub mod ReachFacts
 pub mod RowFacts
 pub mod SettleFacts

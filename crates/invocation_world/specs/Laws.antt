@@ -1,5 +1,6 @@
 -- Laws of the world.
 use Rattle.std.specs.Prelude.{◌≡◌, ◌≢◌, ◌↔◌, ◌≤ℤ◌, ◌<ℤ◌, ◌<◌, ◌≤◌, ◌+◌, ℕ, ℤ, Bool, true, List, Option, Some, All, length, slice_get}
+use Rattle.std.specs.Option.{ForSome}
 use Rattle.names_realms.specs.declared.pairs.Pair.{Pair}
 use Rattle.names_realms.specs.declared.states.State.TheVariants.{Active, Finalized}
 use Rattle.inclusion_graph.specs.Edges.{fresh, targets_of}
@@ -15,6 +16,10 @@ use Rattle.invocation_world.specs.Advancing.{Advances, IsQuiet}
 -- A world settles in one way at most.
 abbrev pub SettlesOnce : Type 0
 SettlesOnce = (moment : ℤ) (w v x : World) → Settles moment w v → Settles moment w x → v ≡ x
+
+-- Each world settles.
+abbrev pub HasSettling : Type 0
+HasSettling = (moment : ℤ) (w : World) → (after : World) × Settles moment w after
 
 -- A valid world settles into itself.
 abbrev pub ValidIsSettled : Type 0
@@ -34,6 +39,24 @@ abbrev pub AdvanceKeepsValid : Type 0
 AdvanceKeepsValid =
     (moment : ℤ) (w after : World) → IsValid w → IsCallMoment moment → w.last ≤ℤ moment → Advances w moment after
     → IsValid after × IsQuiet after moment
+
+-- So does each change at the moment of a call that isn't before the last change, at which nothing is due: a new row; the
+-- retirement of an active row, once the rows settled; an update of an active row to a deadline that is still to come; and
+-- inclusions in an active row of other rows that are there.
+abbrev pub ChangesKeepValid : Type 0
+ChangesKeepValid =
+    (moment : ℤ) (w : World) (place : ℕ) → IsValid w → IsCallMoment moment → w.last ≤ℤ moment → IsQuiet w moment
+    → ((row : Invocation) → CanAdd w.invocations row.id → IsRow moment row → row.state ≡ Active → row.created ≡ moment
+    → IsValid (with_row w row))
+    × ((after : World) → IsInState Active w.invocations place → Settles moment (with_begun moment place w) after
+    → IsValid after)
+    × ((deadline : Option ℤ) (tags : Option (List Pair)) → IsInState Active w.invocations place
+    → ForSome deadline (λ given. (moment <ℤ given) × (given ≤ℤ latest_deadline)) → ForSome tags (All IsPair)
+    → IsValid (with_update moment place deadline tags w))
+    × ((targets : List ℕ) → IsInState Active w.invocations place
+    → All (λ target. (target < length w.invocations) × (target ≢ place)) targets
+    → length w.inclusions + length (fresh (targets_of w.inclusions place) targets) ≤ 262_144
+    → IsValid (with_inclusions moment place targets w))
 
 -- The rows that are final stay as they are, and what they include and reach stays.
 pub record KeepsFinal (w after : World) : Type 0 where

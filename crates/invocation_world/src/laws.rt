@@ -1,9 +1,14 @@
 //! Laws of the definitions that the contracts cite. These functions do nothing: what each of them ensures is the law.
-ghost use Rattle.invocation_world.specs.Laws.{AdvanceKeepsFinal, AdvanceKeepsValid, AdvancesOnce, ChangesKeepFinal, HasAdvance, SettlesOnce, SettlingKeepsFinal, UpdateIsTold, ValidIsSettled};
+ghost use Rattle.invocation_world.specs.Laws.{AdvanceKeepsFinal, AdvanceKeepsValid, AdvancesOnce, ChangesKeepFinal, ChangesKeepValid, HasAdvance, HasSettling, SettlesOnce, SettlingKeepsFinal, UpdateIsTold, ValidIsSettled};
 
 /// A world settles in one way at most.
 pub fn settles_once()
     ensures { SettlesOnce }
+{}
+
+/// Each world settles.
+pub fn a_settling_is_there()
+    ensures { HasSettling }
 {}
 
 /// A valid world settles into itself.
@@ -24,6 +29,11 @@ pub fn an_advance_is_there()
 /// Where it is carried out in a valid world, a valid one comes of it, in which nothing is due.
 pub fn advance_keeps_valid()
     ensures { AdvanceKeepsValid }
+{}
+
+/// Each change of a valid world gives a valid one.
+pub fn changes_keep_valid()
+    ensures { ChangesKeepValid }
 {}
 
 /// No deadline that is carried out alters a row that is final, or what it includes and reaches.
