@@ -1,15 +1,15 @@
 -- What carrying out deadlines does.
-use Rattle.std.proofs.Common.{◌≡◌, ◌≢◌, ◌⊎◌, ◌<◌, ℕ, zero, suc, ℤ, pos, ◌≤ℤ◌, ◌<ℤ◌, List, [], ◌∷◌, length, get_or, Some, None, refl, sym, ap, ◌∙◌, subst, inl, inr, arith}
-use Rattle.std.specs.List.{All, Any, slice_get}
+use Rattle.std.proofs.Common.{◌≡◌, ℕ, ℤ, ◌≤ℤ◌, ◌<ℤ◌, List, [], ◌∷◌, Some, refl, sym, ap, ◌∙◌, subst, inl, inr, arith}
+use Rattle.std.specs.List.{slice_get}
 use Rattle.std.proofs.lemmas.Int.{ints, by_lt_z}
 use Rattle.std.proofs.lemmas.Option.{same_Some, slice_get-get_or}
-use Rattle.names_realms.specs.declared.states.State.TheVariants.{Active, Finalizing, Finalized}
+use Rattle.names_realms.specs.declared.states.State.TheVariants.{Active, Finalizing}
 use Rattle.inclusion_graph.specs.declared.edge.Edge.{Edge}
 use Rattle.invocations.specs.declared.invocation.Invocation.{Invocation}
 use Rattle.invocations.specs.Due.{IsDue}
 use Rattle.invocations.specs.Rows.{begun}
 use Rattle.invocation_world.specs.World.{World, IsCallMoment, IsRow, IsStage, IsValid}
-use Rattle.invocation_world.specs.Advancing.{Advances, AreQuiet, CarriesOut, IsLeast, IsQuiet, after_deadlines, all_begun, begun_if_due}
+use Rattle.invocation_world.specs.Advancing.{Advances, AreQuiet, CarriesOut, IsLeast, IsQuiet, after_deadlines, all_begun}
 use Rattle.invocation_world.specs.Settling.{SettlesRows}
 use Rattle.invocation_world.proofs.BegunFacts.{all_begun_at, due_begun}
 use Rattle.invocation_world.proofs.RowFacts.{all_at, active≢finalizing}
@@ -56,7 +56,7 @@ carried_once edges moment rows (d ∷ ds) (e ∷ es) v x this that =
     let moved = subst (λ t. SettlesRows t edges (all_begun t rows) this.1.0) same this.1.1 in
     let between : this.1.0 ≡ that.1.0 = settled_once e edges (all_begun e rows) this.1.0 that.1.0 moved that.1.1 in
     let rest = carried_once edges moment that.1.0 ds es v x
-        (subst (λ rs. CarriesOut edges moment rs ds v) between this.1.2) that.1.2 in
+    (subst (λ rs. CarriesOut edges moment rs ds v) between this.1.2) that.1.2 in
     (ap (λ t. t ∷ ds) same ∙ ap (λ ts. e ∷ ts) rest.0, rest.1)
 
 pub advanced_once : (moment : ℤ) (w v x : World) → Advances w moment v → Advances w moment x → v ≡ x
@@ -83,12 +83,12 @@ ahead_of_least moment d rows least le p row e active =
           let stood : slice_get rows p ≡ Some row = sym same ∙ e in
           by_lt_z d row.deadline (λ lt. lt)
           (λ not_later.
-            let low : d ≤ℤ row.deadline = all_at (λ r. IsDue moment r → d ≤ℤ r.deadline) rows p row least.least stood (active, omega (arith, ints, le, not_later)) in
-            let is : row.deadline ≡ d = omega (arith, ints, low, not_later) in
-            let begins : row ≡ begun d row = same_Some row (begun d row)
-                (sym e ∙ all_begun_at d rows p row stood ∙ ap (λ (r : Invocation). Some r) (due_begun d row active is)) in
-            let no : Active ≡ Finalizing = sym active ∙ ap (λ (r : Invocation). r.state) begins in
-            absurd (active≢finalizing no))
+          let low : d ≤ℤ row.deadline = all_at (λ r. IsDue moment r → d ≤ℤ r.deadline) rows p row least.least stood (active, omega (arith, ints, le, not_later)) in
+          let is : row.deadline ≡ d = omega (arith, ints, low, not_later) in
+          let begins : row ≡ begun d row = same_Some row (begun d row)
+          (sym e ∙ all_begun_at d rows p row stood ∙ ap (λ (r : Invocation). Some r) (due_begun d row active is)) in
+          let no : Active ≡ Finalizing = sym active ∙ ap (λ (r : Invocation). r.state) begins in
+          absurd (active≢finalizing no))
       | inr b ↦
           let no : Active ≡ Finalizing = sym active ∙ ap (λ (r : Invocation). r.state) (same_Some row (begun d b.row) (sym e ∙ b.stands)) in
           absurd (active≢finalizing no)
@@ -108,7 +108,7 @@ carried_valid edges last moment rows (d ∷ ds) after valid call later h =
     let from : last ≤ℤ d = omega (arith, ints, due, least.deadline) in
     let call_d : IsCallMoment d = (omega (arith, ints, is.deadline.0, least.deadline), omega (arith, ints, le, call.1)) in
     let between = valid_settled last d edges rows (all_begun d rows) h.1.0 valid call_d from (all_begin d rows)
-        (ahead_of_least moment d rows h.0 le) h.1.1 in
+    (ahead_of_least moment d rows h.0 le) h.1.1 in
     carried_valid edges d moment h.1.0 ds after between call le h.1.2
 
 advanced : (moment : ℤ) (w after : World) (ds : List ℤ) (rows : List Invocation) → IsValid w → IsCallMoment moment

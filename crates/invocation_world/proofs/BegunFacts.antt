@@ -1,10 +1,10 @@
 -- All rows of one deadline that are begun.
-use Rattle.std.proofs.Common.{◌≡◌, ◌≢◌, ◌⊎◌, ℕ, zero, suc, ℤ, Bool, true, false, cond, ◌&&◌, List, [], ◌∷◌, Some, None, refl, sym, ap, ◌∙◌, subst, inl, inr}
+use Rattle.std.proofs.Common.{◌≡◌, ◌⊎◌, ℕ, zero, suc, ℤ, true, false, ◌&&◌, List, [], ◌∷◌, Some, refl, sym, ap, ◌∙◌, inl, inr}
 use Rattle.std.specs.List.{slice_get}
 use Rattle.std.specs.Ordering.{int_eq}
 use Rattle.std.proofs.lemmas.Bool.{cases_Bool, and_parts, and_from, cond-true, cond-false}
 use Rattle.std.proofs.lemmas.Bool.Decides.{Decides-int_eq}
-use Rattle.std.proofs.lemmas.Option.{same_Some, none-some, slice_get-map}
+use Rattle.std.proofs.lemmas.Option.{same_Some, slice_get-map}
 use Rattle.std.proofs.Common.{option_map}
 use Rattle.names_realms.specs.declared.states.State.{State}
 use Rattle.names_realms.specs.declared.states.State.TheVariants.{Active, Finalizing, Finalized}
@@ -32,8 +32,11 @@ begun_or_same d row =
     elim (cases_Bool (is_active row.state && int_eq row.deadline d)) [
       | inl yes_ ↦
           let both = and_parts (is_active row.state) (int_eq row.deadline d) yes_ in
-          inl (is_of_active row.state both.0, (Decides-int_eq row.deadline d).0 both.1,
-            cond-true (is_active row.state && int_eq row.deadline d) (begun d row) row yes_)
+          inl (
+            is_of_active row.state both.0,
+            (Decides-int_eq row.deadline d).0 both.1,
+            cond-true (is_active row.state && int_eq row.deadline d) (begun d row) row yes_,
+          )
       | inr no_ ↦ inr (cond-false (is_active row.state && int_eq row.deadline d) (begun d row) row no_)
     ]
 

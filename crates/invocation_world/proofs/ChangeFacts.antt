@@ -1,20 +1,19 @@
 -- Rows that are added, updated and included: the world stays valid.
-use Rattle.std.proofs.Common.{◌≡◌, ◌≢◌, ◌⊎◌, ◌<◌, ◌≤◌, ◌+◌, ℕ, zero, suc, ℤ, pos, ◌≤ℤ◌, ◌<ℤ◌, true, false, nat_eq, List, [], ◌∷◌, ◌++◌, length, get_or, Contains, Option, Some, None, unwrap_or, option_map, refl, sym, ap, ◌∙◌, subst, inl, inr, arith, append_assoc}
+use Rattle.std.proofs.Common.{◌≡◌, ◌≢◌, ◌<◌, ◌≤◌, ◌+◌, ℕ, zero, suc, ℤ, pos, ◌≤ℤ◌, ◌<ℤ◌, nat_eq, List, [], ◌∷◌, ◌++◌, length, get_or, Contains, Option, Some, None, unwrap_or, refl, sym, ap, ◌∙◌, subst, inl, inr, arith, append_assoc}
 use Rattle.std.specs.List.{All, AllPairs, cons_option, slice_get}
 use Rattle.std.specs.Option.{ForSome}
 use Rattle.std.proofs.lemmas.Bool.{cases_Bool, cases_eq, cond-true, cond-false, false≢true}
 use Rattle.std.proofs.lemmas.Bool.Decides.{Decides-eqb}
 use Rattle.std.proofs.lemmas.Int.{ints}
-use Rattle.std.proofs.lemmas.List.{append-nil, length-append, length_push, map_push}
+use Rattle.std.proofs.lemmas.List.{append-nil, length-append, length_push}
 use Rattle.std.proofs.lemmas.List.Elements.{All-append, All-contains, All-map, All-push, All-weaker, Contains-get_or, filter_map-append}
 use Rattle.std.proofs.lemmas.List.Quantifiers.{all_pairs_push}
-use Rattle.std.proofs.lemmas.Option.{same_Some, none-some, slice_get_within, slice_get-map}
+use Rattle.std.proofs.lemmas.Option.{same_Some, slice_get_within}
 use Rattle.names_realms.specs.declared.pairs.Pair.{Pair}
 use Rattle.names_realms.specs.declared.states.State.{State}
 use Rattle.names_realms.specs.declared.states.State.TheVariants.{Active, Finalizing, Finalized}
 use Rattle.inclusion_graph.specs.declared.edge.Edge.{Edge}
 use Rattle.inclusion_graph.specs.Edges.{HasEdge, edges_from, fresh, has, target_from, targets_of}
-use Rattle.inclusion_graph.specs.Plans.{PlanState}
 use Rattle.inclusion_graph.specs.Walks.{Reaches}
 use Rattle.inclusion_graph.proofs.EdgeLemmas.{length_edges, targets_are}
 use Rattle.inclusion_graph.proofs.ListLemmas.{fresh_held, fresh_new, has_from}
@@ -22,15 +21,14 @@ use Rattle.inclusion_graph.proofs.WalkLemmas.{along}
 use Rattle.finaliser.specs.Settling.{ReachesActive}
 use Rattle.invocations.specs.declared.invocation.Invocation.{Invocation}
 use Rattle.invocations.specs.Faults.{CanAdd}
-use Rattle.invocations.specs.Rows.{IsInState, IsTable, ids_of, states_of, with_changed}
-use Rattle.invocations.proofs.RowLemmas.{at_front, at_place, ids_stay, length_stays, table_changed, table_push}
+use Rattle.invocations.specs.Rows.{IsInState, states_of, with_changed}
+use Rattle.invocations.proofs.RowLemmas.{at_front, at_place, length_stays, table_changed, table_push}
 use Rattle.invocation_world.specs.World.{World, IsCallMoment, IsInclusion, IsPair, IsRow, IsStage, IsUntil, IsValid, latest_deadline, with_row}
 use Rattle.invocation_world.specs.Advancing.{AreQuiet}
-use Rattle.invocation_world.specs.Changes.{updated, with_edges}
-use Rattle.invocation_world.specs.States.{WorldState, Fits}
-use Rattle.invocation_world.proofs.RowFacts.{all_at, all_from, state_is, row_in, apart, active≢finalizing, active≢finalized, changed_here, changed_other}
+use Rattle.invocation_world.specs.Changes.{updated}
+use Rattle.invocation_world.proofs.RowFacts.{all_at, all_from, state_is, row_in, active≢finalizing, active≢finalized, changed_here, changed_other}
 use Rattle.invocation_world.proofs.ReachFacts.{reach_over, reaches_appended, reaches_split}
-use Rattle.invocation_world.proofs.ValidFacts.{ahead_if_quiet, row_later, rows_later}
+use Rattle.invocation_world.proofs.ValidFacts.{ahead_if_quiet, rows_later}
 
 -- what stands at a place with one row more
 state_placed : (state : State) (rows : List Invocation) (row : Invocation) (q : ℕ) → (row.state ≡ state → ⊥)
@@ -147,10 +145,10 @@ valid_updated w moment p deadline tags valid active given pairs call later quiet
             | inl same ↦
                 let stands : slice_get new p ≡ Some row = subst (λ k. slice_get new k ≡ Some row) same e in
                 let is : updated deadline tags here.0 ≡ row =
-                    same_Some (updated deadline tags here.0) row (sym (changed_here (updated deadline tags) rows p here.0 here.1) ∙ stands) in
+                same_Some (updated deadline tags here.0) row (sym (changed_here (updated deadline tags) rows p here.0 here.1) ∙ stands) in
                 subst (IsRow moment) is
                 (row_updated moment deadline tags here.0 call.0 given pairs here.2
-                  (ahead_if_quiet moment rows quiet p here.0 here.1 here.2) (all_at (IsRow moment) rows p here.0 are here.1))
+                (ahead_if_quiet moment rows quiet p here.0 here.1 here.2) (all_at (IsRow moment) rows p here.0 are here.1))
             | inr other ↦ all_at (IsRow moment) rows q row are (sym (changed_other (updated deadline tags) rows p q other) ∙ e)
           ]);
       joined = subst (λ n. All (IsInclusion n) w.inclusions) (sym (length_stays (updated deadline tags) rows p)) valid.joined;
@@ -170,7 +168,7 @@ others : (edge : Edge) (edges : List Edge) (node : ℕ) → edge.from ≢ node �
 others edge edges node away =
     ap (λ o. cons_option o (targets_of edges node))
     (cond-false (nat_eq edge.from node) (Some edge.to) None
-      (elim (cases_Bool (nat_eq edge.from node)) [ inl same ↦ absurd (away ((Decides-eqb edge.from node).0 same)) | inr no_ ↦ no_ ]))
+    (elim (cases_Bool (nat_eq edge.from node)) [ inl same ↦ absurd (away ((Decides-eqb edge.from node).0 same)) | inr no_ ↦ no_ ]))
 
 others_edges : (from node : ℕ) (ts : List ℕ) → from ≢ node → targets_of (edges_from from ts) node ≡ []
 others_edges from node [] away = refl
@@ -203,8 +201,8 @@ once_more_edges edges p (n ∷ ns) once =
       | inr new ↦
           let edge : Edge = record { from = p; to = n } in
           let apart_ : (k : ℕ) (d : Edge) → k < length edges → get_or edges k d ≢ edge = λ k d low same.
-              let is : HasEdge edges p n = subst (Contains edges) same (Contains-get_or edges k d low) in
-              false≢true (sym new ∙ has_from held n ((targets_are edges p n).1 is)) in
+          let is : HasEdge edges p n = subst (Contains edges) same (Contains-get_or edges k d low) in
+          false≢true (sym new ∙ has_from held n ((targets_are edges p n).1 is)) in
           let grown = once_more_edges (edges ++ edge ∷ []) p ns (all_pairs_push (λ (a b : Edge). a ≢ b) edges edge once apart_) in
           let rest = subst (λ hs. AllPairs (λ (a b : Edge). a ≢ b) ((edges ++ edge ∷ []) ++ edges_from p (fresh hs ns))) (one_more edges p n) grown in
           subst Once (sym (fresh_new held ns n new))
@@ -236,7 +234,7 @@ valid_included w moment p ts valid active new there elsewhere few call later qui
       rows = rows_later w.last moment w.invocations later quiet valid.rows;
       joined = All-append (IsInclusion n) w.inclusions (edges_from p ts) valid.joined
           (All-map (IsInclusion n) (λ t. record { from = p; to = t }) ts
-            (λ k d within. (low, there k d within, λ same. elsewhere k d within (sym same))));
+          (λ k d within. (low, there k d within, λ same. elsewhere k d within (sym same))));
       once = subst (λ (fs : List ℕ). AllPairs (λ (a b : Edge). a ≢ b) (w.inclusions ++ edges_from p fs)) new
           (once_more_edges w.inclusions p ts valid.once);
       few = omega (arith, few, length-append w.inclusions (edges_from p ts), length_edges p ts);

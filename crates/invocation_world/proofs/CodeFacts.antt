@@ -1,5 +1,5 @@
 -- From what the parts say to what the world says.
-use Rattle.std.proofs.Common.{◌≡◌, ◌≢◌, ◌⊎◌, ◌↔◌, ◌<◌, ◌≤◌, ◌+◌, ℕ, zero, suc, ℤ, ◌≤ℤ◌, Bool, true, false, min, List, [], ◌∷◌, ◌++◌, length, get_or, set, take, Contains, Option, Some, None, Result, Ok, Err, IfOk, OnOk, MatchBool, is_some, refl, sym, ap, ◌∙◌, subst, inl, inr, arith}
+use Rattle.std.proofs.Common.{◌≡◌, ◌≢◌, ◌<◌, ◌≤◌, ◌+◌, ℕ, zero, suc, ℤ, ◌≤ℤ◌, true, false, List, [], ◌∷◌, ◌++◌, length, get_or, set, take, Contains, Option, Some, None, Result, Ok, Err, IfOk, OnOk, MatchBool, is_some, refl, sym, ap, ◌∙◌, subst, inl, inr, arith}
 use Rattle.std.specs.List.{All, Any, slice_get}
 use Rattle.std.specs.List.Sorted.{IsStrictlyIncreasing}
 use Rattle.std.proofs.lemmas.Bool.{cases_Bool, cond-true}
@@ -20,10 +20,9 @@ use Rattle.inclusion_graph.proofs.ListLemmas.{fresh_held, fresh_new, fresh_withi
 use Rattle.finaliser.specs.Settling.{FinaliserState, IsIn}
 use Rattle.finaliser.specs.Settling as finaliser
 use Rattle.invocations.specs.declared.invocation.Invocation.{Invocation}
-use Rattle.invocations.specs.Due.{IsDue, IsNextDue, IsNextPlace}
-use Rattle.invocations.specs.Faults.{CanAdd}
+use Rattle.invocations.specs.Due.{IsDue, IsNextPlace}
 use Rattle.invocations.specs.Rows.{IsInState, TableState, begun, ended, states_of, with_changed}
-use Rattle.invocation_world.specs.World.{World, IsCallMoment, IsRow, IsValid}
+use Rattle.invocation_world.specs.World.{World, IsCallMoment, IsValid}
 use Rattle.invocation_world.specs.Advancing.{Advances, AreQuiet, CarriesOut}
 use Rattle.invocation_world.specs.Changes.{is_update, updated, with_row_updated, with_update}
 use Rattle.invocation_world.specs.Parts.{AreLinked, IsKept, world_of}
@@ -31,11 +30,9 @@ use Rattle.invocation_world.specs.Settling.{AreEnded, SettlesRows}
 use Rattle.invocation_world.specs.States.{WorldState, Fits}
 use Rattle.invocation_world.specs.Turns.{RunsTo, active_count}
 use Rattle.invocation_world.proofs.AdvanceFacts.{carried_quiet, carried_valid}
-use Rattle.invocation_world.proofs.ChangeFacts.{valid_added}
-use Rattle.invocation_world.proofs.RowFacts.{changed_twice, same_lists, all_at, held_or_not, row_in, state_at, state_is}
+use Rattle.invocation_world.proofs.RowFacts.{changed_twice, same_lists, all_at, held_or_not, row_in, state_at}
 use Rattle.invocation_world.proofs.SettleFacts.{active_before}
 use Rattle.invocation_world.proofs.TurnFacts.{turns_carry_out}
-use Rattle.invocation_world.proofs.ValidFacts.{valid_retired}
 
 -- what rises has no number twice
 pub not_taken : (ns : List ℕ) (i : ℕ) → IsStrictlyIncreasing ns → i < length ns → Contains (take i ns) (get_or ns i 0) → ⊥
@@ -98,7 +95,7 @@ pub finals_wait : (moment : ℤ) (edges : List Edge) (rows : List Invocation) (p
     → All (IsInState Finalizing (with_changed (begun moment) rows p)) more
 finals_wait moment edges rows p states new_states more linked settles =
     let s = subst (λ (ss : List State). finaliser.Settles edges ss new_states more)
-        (ap (λ (ss : List State). set ss p Finalizing) linked ∙ sym (begun_states moment rows p)) settles in
+    (ap (λ (ss : List State). set ss p Finalizing) linked ∙ sym (begun_states moment rows p)) settles in
     λ k d low. ((s.all (get_or more k d)).0 (Contains-get_or more k d low)).0
 
 -- how many rows are active
@@ -131,7 +128,7 @@ pub fewer_active : (moment : ℤ) (edges : List Edge) (rows : List Invocation) (
 fewer_active moment edges rows p new active s =
     let mid = with_changed (begun moment) rows p in
     let le : active_count (states_of new) ≤ active_count (states_of mid) =
-        active_le (states_of mid) (states_of new) (λ q is. active_before moment edges mid new s q is) in
+    active_le (states_of mid) (states_of new) (λ q is. active_before moment edges mid new s q is) in
     let less = one_less (states_of rows) p active in
     let same : active_count (states_of mid) ≡ active_count (set (states_of rows) p Finalizing) = ap active_count (begun_states moment rows p) in
     omega (arith, le, less, same)

@@ -1,6 +1,6 @@
 -- Each world settles, and what is due in it can be carried out.
-use Rattle.std.proofs.Common.{◌≡◌, ◌≢◌, ◌⊎◌, ◌↔◌, ◌<◌, ◌≤◌, ◌+◌, ℕ, zero, suc, ℤ, ◌≤ℤ◌, ◌<ℤ◌, true, false, List, [], ◌∷◌, ◌++◌, length, set, Contains, Some, None, refl, sym, ap, ◌∙◌, subst, inl, inr, arith}
-use Rattle.std.specs.List.{All, Any, slice_get}
+use Rattle.std.proofs.Common.{◌≡◌, ◌≢◌, ◌⊎◌, ◌↔◌, ◌<◌, ℕ, zero, suc, ℤ, ◌≤ℤ◌, List, [], ◌∷◌, ◌++◌, length, set, Contains, Some, refl, sym, ap, ◌∙◌, subst, inl, inr, arith}
+use Rattle.std.specs.List.{All}
 use Rattle.std.proofs.lemmas.Bool.{cases_Bool, cases_eq, false≢true}
 use Rattle.std.proofs.lemmas.Int.{ints, by_lt_z}
 use Rattle.std.proofs.lemmas.List.Elements.{All-cons, All-nil, All-weaker, Contains-append_cases, Contains-append_left, Contains-push}
@@ -21,7 +21,7 @@ use Rattle.invocation_world.proofs.AdvanceFacts.{least_row}
 use Rattle.invocation_world.proofs.BegunFacts.{active_is, all_begun_at, due_begun, is_of_active}
 use Rattle.invocation_world.proofs.CodeFacts.{active_le, one_less}
 use Rattle.invocation_world.proofs.ReachFacts.{reaches_active_or_not}
-use Rattle.invocation_world.proofs.RowFacts.{stands, state_at, state_is, same_state, apart, active≢finalizing}
+use Rattle.invocation_world.proofs.RowFacts.{stands, state_is, same_state, apart, active≢finalizing}
 use Rattle.invocation_world.proofs.SettleFacts.{active_before, ended_more, ended_none}
 use Rattle.invocation_world.proofs.ValidFacts.{all_begin}
 
@@ -58,12 +58,18 @@ quiet_or_least moment (row ∷ rows) =
         | inr h ↦ inr (h.0, in_front moment h.0 row rows h.1 (λ due. absurd (not due)))
       ]
       | inl due ↦ elim (quiet_or_least moment rows) [
-        | inl quiet ↦ inr (row.deadline, itself moment row rows due
-            (All-weaker (λ (r : Invocation). ¬ IsDue moment r) (λ (r : Invocation). IsDue moment r → row.deadline ≤ℤ r.deadline) (λ r never is. absurd (never is)) rows quiet))
+        | inl quiet ↦ inr (
+          row.deadline,
+          itself moment row rows due
+              (All-weaker (λ (r : Invocation). ¬ IsDue moment r) (λ (r : Invocation). IsDue moment r → row.deadline ≤ℤ r.deadline) (λ r never is. absurd (never is)) rows quiet),
+        )
         | inr h ↦ by_lt_z row.deadline h.0
-            (λ sooner. inr (row.deadline, itself moment row rows due
-              (All-weaker (λ (r : Invocation). IsDue moment r → h.0 ≤ℤ r.deadline) (λ (r : Invocation). IsDue moment r → row.deadline ≤ℤ r.deadline)
-                (λ r low is. let le = low is in omega (arith, ints, sooner, le)) rows h.1.least)))
+            (λ sooner. inr (
+              row.deadline,
+              itself moment row rows due
+                  (All-weaker (λ (r : Invocation). IsDue moment r → h.0 ≤ℤ r.deadline) (λ (r : Invocation). IsDue moment r → row.deadline ≤ℤ r.deadline)
+                  (λ r low is. let le = low is in omega (arith, ints, sooner, le)) rows h.1.least),
+            ))
             (λ later. inr (h.0, in_front moment h.0 row rows h.1 (λ is. later)))
       ]
     ]
@@ -171,16 +177,16 @@ fewer_left moment d edges rows between least s =
     let mid = all_begun d rows in
     let p = first.place in
     let gone : IsInState Finalizing mid p = state_is Finalizing mid p (begun d first.row)
-        (all_begun_at d rows p first.row first.stands ∙ ap (λ (r : Invocation). Some r) (due_begun d first.row first.due.0 first.deadline)) refl in
+    (all_begun_at d rows p first.row first.stands ∙ ap (λ (r : Invocation). Some r) (due_begun d first.row first.due.0 first.deadline)) refl in
     let was : (q : ℕ) → IsInState Active mid q → IsInState Active rows q = λ q is.
-        elim (all_begin d rows q) [
-          | inl same ↦ same_state Active mid rows q (sym same) is
-          | inr b ↦ absurd (apart Active Finalizing mid q active≢finalizing is (state_is Finalizing mid q (begun d b.row) b.stands refl))
-        ] in
+    elim (all_begin d rows q) [
+      | inl same ↦ same_state Active mid rows q (sym same) is
+      | inr b ↦ absurd (apart Active Finalizing mid q active≢finalizing is (state_is Finalizing mid q (begun d b.row) b.stands refl))
+    ] in
     let stay : (q : ℕ) → IsIn Active (states_of between) q → IsIn Active (set (states_of rows) p Finalizing) q = λ q is.
-        let before = active_before d edges mid between s q is in
-        let other : q ≢ p = λ same. apart Active Finalizing mid p active≢finalizing (subst (IsInState Active mid) same before) gone in
-        at_set_other (states_of rows) p q Finalizing other ∙ was q before in
+    let before = active_before d edges mid between s q is in
+    let other : q ≢ p = λ same. apart Active Finalizing mid p active≢finalizing (subst (IsInState Active mid) same before) gone in
+    at_set_other (states_of rows) p q Finalizing other ∙ was q before in
     let le = active_le (set (states_of rows) p Finalizing) (states_of between) stay in
     let less = one_less (states_of rows) p (state_is Active rows p first.row first.stands first.due.0) in
     omega (arith, le, less)

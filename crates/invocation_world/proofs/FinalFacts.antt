@@ -1,10 +1,9 @@
 -- Rows that are final stay as they are.
-use Rattle.std.proofs.Common.{◌≡◌, ◌≢◌, ◌⊎◌, ◌↔◌, ℕ, ℤ, Bool, true, false, cond, List, [], ◌∷◌, ◌++◌, Option, Some, None, refl, sym, ap, ◌∙◌, subst, inl, inr}
+use Rattle.std.proofs.Common.{◌≡◌, ℕ, ℤ, cond, List, [], ◌∷◌, Option, Some, refl, sym, ap, ◌∙◌, subst, inl, inr}
 use Rattle.std.specs.List.{slice_get}
 use Rattle.std.proofs.lemmas.Bool.{cases_Bool, cond-true, cond-false}
-use Rattle.std.proofs.lemmas.List.{append-nil}
 use Rattle.names_realms.specs.declared.pairs.Pair.{Pair}
-use Rattle.names_realms.specs.declared.states.State.TheVariants.{Active, Finalizing, Finalized}
+use Rattle.names_realms.specs.declared.states.State.TheVariants.{Active, Finalized}
 use Rattle.inclusion_graph.specs.declared.edge.Edge.{Edge}
 use Rattle.inclusion_graph.specs.Edges.{edges_from, fresh, targets_of}
 use Rattle.inclusion_graph.specs.Walks.{Reaches}
@@ -89,7 +88,7 @@ update_final moment w p deadline tags active =
       last = moment;
     } in
     let is : with_update moment p deadline tags w ≡ cond (is_update deadline tags here.0) moved w =
-        ap (with_row_updated moment p deadline tags w) here.1 in
+    ap (with_row_updated moment p deadline tags w) here.1 in
     elim (cases_Bool (is_update deadline tags here.0)) [
       | inl yes_ ↦ subst (KeepsFinal w) (sym (is ∙ cond-true (is_update deadline tags here.0) moved w yes_))
           (same_inclusions w moved refl (changed_final (updated deadline tags) w.invocations p active))

@@ -1,17 +1,16 @@
 -- Each change of a valid world gives a valid one.
-use Rattle.std.proofs.Common.{◌≡◌, ◌≢◌, ◌<◌, ◌≤◌, ◌+◌, ℕ, ℤ, ◌≤ℤ◌, ◌<ℤ◌, Bool, true, false, cond, List, [], ◌∷◌, ◌++◌, length, Option, Some, None, refl, sym, ap, ◌∙◌, subst, inl, inr}
-use Rattle.std.specs.List.{All, slice_get}
+use Rattle.std.proofs.Common.{◌≡◌, ◌≢◌, ◌<◌, ◌≤◌, ◌+◌, ℕ, ℤ, ◌≤ℤ◌, ◌<ℤ◌, cond, List, [], ◌∷◌, length, Option, refl, sym, ap, ◌∙◌, subst, inl, inr}
+use Rattle.std.specs.List.{All}
 use Rattle.std.specs.Option.{ForSome}
 use Rattle.std.proofs.lemmas.Bool.{cases_Bool, cond-true, cond-false}
 use Rattle.std.proofs.lemmas.List.Elements.{All-weaker}
 use Rattle.names_realms.specs.declared.pairs.Pair.{Pair}
 use Rattle.names_realms.specs.declared.states.State.TheVariants.{Active}
-use Rattle.inclusion_graph.specs.declared.edge.Edge.{Edge}
 use Rattle.inclusion_graph.specs.Edges.{edges_from, fresh, targets_of}
 use Rattle.inclusion_graph.proofs.ListLemmas.{fresh_within}
 use Rattle.invocations.specs.declared.invocation.Invocation.{Invocation}
 use Rattle.invocations.specs.Faults.{CanAdd}
-use Rattle.invocations.specs.Rows.{IsInState, begun, with_changed}
+use Rattle.invocations.specs.Rows.{IsInState, with_changed}
 use Rattle.invocation_world.specs.World.{World, IsCallMoment, IsPair, IsRow, IsValid, latest_deadline, with_row}
 use Rattle.invocation_world.specs.Advancing.{IsQuiet}
 use Rattle.invocation_world.specs.Changes.{is_update, updated, with_begun, with_edges, with_inclusions, with_row_updated, with_update}
@@ -54,7 +53,7 @@ keeps_updated moment w p deadline tags h active given pairs =
       last = moment;
     } in
     let is : with_update moment p deadline tags w ≡ cond (is_update deadline tags here.0) moved w =
-        ap (with_row_updated moment p deadline tags w) here.1 in
+    ap (with_row_updated moment p deadline tags w) here.1 in
     elim (cases_Bool (is_update deadline tags here.0)) [
       | inl yes_ ↦ subst IsValid (sym (is ∙ cond-true (is_update deadline tags here.0) moved w yes_))
           (valid_updated w moment p deadline tags h.valid active given pairs h.call h.later h.quiet)

@@ -1,16 +1,16 @@
 -- What is reached, over more edges and other states, and that it can be told.
-use Rattle.std.proofs.Common.{◌≡◌, ◌≢◌, ◌⊎◌, ◌<◌, ◌≤◌, ℕ, zero, suc, List, [], ◌∷◌, ◌++◌, length, Contains, Option, Some, get_or, refl, sym, ap, ◌∙◌, subst, inl, inr, arith}
+use Rattle.std.proofs.Common.{◌≡◌, ◌⊎◌, ◌<◌, ℕ, zero, suc, List, [], ◌∷◌, ◌++◌, length, Some, refl, sym, ap, ◌∙◌, subst, inl, inr, arith}
 use Rattle.std.specs.List.{All, slice_get}
-use Rattle.std.proofs.lemmas.Bool.{cases_eq, cases_lt}
+use Rattle.std.proofs.lemmas.Bool.{cases_eq}
 use Rattle.std.proofs.lemmas.Option.{none-some, same_Some, slice_get_within}
-use Rattle.std.proofs.lemmas.List.Elements.{All-contains, Contains-append_cases, Contains-append_left, Contains-append_right, Contains-get_or}
+use Rattle.std.proofs.lemmas.List.Elements.{All-contains, Contains-append_cases, Contains-append_left, Contains-append_right}
 use Rattle.names_realms.specs.declared.states.State.{State}
 use Rattle.names_realms.specs.declared.states.State.TheVariants.{Active, Finalizing, Finalized}
 use Rattle.inclusion_graph.specs.declared.edge.Edge.{Edge}
 use Rattle.inclusion_graph.specs.Edges.{HasEdge}
-use Rattle.inclusion_graph.specs.Walks.{Leads, Reaches}
+use Rattle.inclusion_graph.specs.Walks.{Reaches}
 use Rattle.inclusion_graph.proofs.ListLemmas.{in_one}
-use Rattle.inclusion_graph.proofs.WalkLemmas.{along, leads_cons, reaches_itself, reaches_more}
+use Rattle.inclusion_graph.proofs.WalkLemmas.{along, reaches_itself, reaches_more}
 use Rattle.finaliser.specs.Settling.{IsIn, ReachesActive}
 use Rattle.invocation_world.proofs.RowFacts.{stands}
 

@@ -1,5 +1,5 @@
 -- Rows at places, and their states.
-use Rattle.std.proofs.Common.{◌≡◌, ◌≢◌, ◌⊎◌, ◌<◌, ℕ, zero, suc, Bool, true, false, List, [], ◌∷◌, length, Contains, Option, Some, None, option_map, get_or, refl, sym, ap, ◌∙◌, subst, inl, inr, arith}
+use Rattle.std.proofs.Common.{◌≡◌, ◌≢◌, ◌⊎◌, ℕ, zero, suc, List, [], ◌∷◌, Contains, Some, None, option_map, get_or, refl, sym, ap, ◌∙◌, subst, inl, inr}
 use Rattle.std.specs.List.{All, slice_get}
 use Rattle.std.proofs.lemmas.Bool.{cases_Bool, cases_eq, false≢true}
 use Rattle.std.proofs.lemmas.Option.{same_Some, none-some, slice_get_within, slice_get-get_or, slice_get_cases, get_or_from_slice_get, slice_get-map}
@@ -8,7 +8,7 @@ use Rattle.names_realms.specs.declared.states.State.TheVariants.{Active, Finaliz
 use Rattle.inclusion_graph.specs.Edges.{has}
 use Rattle.inclusion_graph.proofs.ListLemmas.{has_from, held_from}
 use Rattle.invocations.specs.declared.invocation.Invocation.{Invocation}
-use Rattle.invocations.specs.Rows.{IsInState, states_of, with_changed}
+use Rattle.invocations.specs.Rows.{IsInState, with_changed}
 
 pub same_lists : {X : Type 0} (xs ys : List X) → ((i : ℕ) → slice_get xs i ≡ slice_get ys i) → xs ≡ ys
 same_lists [] [] h = refl

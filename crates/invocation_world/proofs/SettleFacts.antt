@@ -1,8 +1,8 @@
 -- What settling does, place by place.
-use Rattle.std.proofs.Common.{◌≡◌, ◌≢◌, ◌⊎◌, ◌↔◌, ◌<◌, ℕ, zero, suc, ℤ, List, [], ◌∷◌, ◌++◌, length, Contains, Option, Some, None, refl, sym, ap, ◌∙◌, subst, inl, inr, arith}
-use Rattle.std.specs.List.{All, slice_get}
+use Rattle.std.proofs.Common.{◌≡◌, ◌≢◌, ◌⊎◌, ℕ, ℤ, List, [], ◌∷◌, ◌++◌, Contains, Some, refl, sym, ◌∙◌, subst, inl, inr, arith}
+use Rattle.std.specs.List.{slice_get}
 use Rattle.std.proofs.lemmas.Bool.{cases_eq}
-use Rattle.std.proofs.lemmas.Option.{same_Some, none-some, slice_get_within, slice_get_past}
+use Rattle.std.proofs.lemmas.Option.{same_Some}
 use Rattle.std.proofs.lemmas.List.Elements.{Contains-append_cases, Contains-append_left, Contains-append_right, Contains-push}
 use Rattle.names_realms.specs.declared.states.State.{State}
 use Rattle.names_realms.specs.declared.states.State.TheVariants.{Active, Finalizing, Finalized}
@@ -12,8 +12,8 @@ use Rattle.finaliser.specs.Settling.{ReachesActive}
 use Rattle.invocations.specs.declared.invocation.Invocation.{Invocation}
 use Rattle.invocations.specs.Rows.{IsInState, begun, ended, states_of, with_changed}
 use Rattle.invocation_world.specs.Settling.{AreEnded, SettlesRows}
-use Rattle.invocation_world.proofs.RowFacts.{same_lists, stands, held_or_not, state_at, state_is, row_in, same_state, apart, active≢finalizing, active≢finalized, finalizing≢finalized, changed_here, changed_other, changed_same}
-use Rattle.invocation_world.proofs.ReachFacts.{reach_over, reaches_active_or_not}
+use Rattle.invocation_world.proofs.RowFacts.{same_lists, held_or_not, state_at, state_is, row_in, same_state, apart, active≢finalizing, active≢finalized, finalizing≢finalized, changed_here, changed_other, changed_same}
+use Rattle.invocation_world.proofs.ReachFacts.{reach_over}
 
 -- the row at a place was ended
 pub record WasEnded (moment : ℤ) (edges : List Edge) (old new : List Invocation) (p : ℕ) : Type 0 where
@@ -107,7 +107,7 @@ pub still_active : (moment : ℤ) (rows : List Invocation) (p q : ℕ) → IsInS
     → IsInState Active (with_changed (begun moment) rows p) q → (q ≢ p) × IsInState Active rows q
 still_active moment rows p q first is =
     let other : q ≢ p = λ same. apart Active Finalizing (with_changed (begun moment) rows p) p active≢finalizing
-        (subst (IsInState Active (with_changed (begun moment) rows p)) same is) (begun_here moment rows p first) in
+    (subst (IsInState Active (with_changed (begun moment) rows p)) same is) (begun_here moment rows p first) in
     (other, begun_was moment Active rows p q other is)
 
 -- one row more that is begun
@@ -140,8 +140,8 @@ to_mid : (moment : ℤ) (edges : List Edge) (first mid : List Invocation) (p : �
 to_mid moment edges first mid p last h q =
     reach_over edges (states_of (with_changed (begun moment) first p)) (states_of (with_changed (begun moment) mid p))
     (λ n is.
-      let both = still_active moment first p n (first_active moment edges first mid p last h) is in
-      begun_elsewhere moment Active mid p n both.0 (active_after moment edges first mid h.settles n both.1)) q
+    let both = still_active moment first p n (first_active moment edges first mid p last h) is in
+    begun_elsewhere moment Active mid p n both.0 (active_after moment edges first mid h.settles n both.1)) q
 
 from_mid : (moment : ℤ) (edges : List Edge) (first mid : List Invocation) (p : ℕ) (last : List Invocation)
     → IsOnceMore moment edges first mid p last → (q : ℕ)
@@ -150,8 +150,8 @@ from_mid : (moment : ℤ) (edges : List Edge) (first mid : List Invocation) (p :
 from_mid moment edges first mid p last h q =
     reach_over edges (states_of (with_changed (begun moment) mid p)) (states_of (with_changed (begun moment) first p))
     (λ n is.
-      let both = still_active moment mid p n h.active is in
-      begun_elsewhere moment Active first p n both.0 (active_before moment edges first mid h.settles n both.1)) q
+    let both = still_active moment mid p n h.active is in
+    begun_elsewhere moment Active first p n both.0 (active_before moment edges first mid h.settles n both.1)) q
 
 -- at a place that wasn't ended the two are the same once the row is begun
 same_begun : (moment : ℤ) (edges : List Edge) (first mid : List Invocation) (p : ℕ) (last : List Invocation)
@@ -174,12 +174,12 @@ both_told moment edges first mid p last h q held =
       | inr now ↦
           let told = (h.again.all q).0 now in
           let not : Contains h.settles.places q → ⊥ = λ before.
-              let row = row_in Finalizing first q ((h.settles.all q).0 before).0 in
-              let other = not_first moment edges first mid p last h q before in
-              apart Finalizing Finalized mid q finalizing≢finalized (begun_was moment Finalizing mid p q other told.0)
-              (state_at mid q (ended moment row.0) (h.settles.are_ended.these q row.0 before row.1)) in (
+          let row = row_in Finalizing first q ((h.settles.all q).0 before).0 in
+          let other = not_first moment edges first mid p last h q before in
+          apart Finalizing Finalized mid q finalizing≢finalized (begun_was moment Finalizing mid p q other told.0)
+          (state_at mid q (ended moment row.0) (h.settles.are_ended.these q row.0 before row.1)) in (
             same_state Finalizing (with_changed (begun moment) mid p) (with_changed (begun moment) first p) q
-            (sym (same_begun moment edges first mid p last h q not)) told.0,
+                (sym (same_begun moment edges first mid p last h q not)) told.0,
             λ reach. told.1 (to_mid moment edges first mid p last h q reach),
           )
     ]
@@ -194,7 +194,7 @@ told_both moment edges first mid p last h q is alone =
       | inr not ↦ Contains-append_right h.settles.places h.again.places q
           ((h.again.all q).1 (
             same_state Finalizing (with_changed (begun moment) first p) (with_changed (begun moment) mid p) q
-            (same_begun moment edges first mid p last h q not) is,
+                (same_begun moment edges first mid p last h q not) is,
             λ reach. alone (from_mid moment edges first mid p last h q reach),
           ))
     ]
@@ -209,7 +209,7 @@ both_ended moment edges first mid p last h q row held e =
           let other = not_first moment edges first mid p last h q before in
           let stood : slice_get first q ≡ Some row = sym (changed_other (begun moment) first p q other) ∙ e in
           let now : slice_get (with_changed (begun moment) mid p) q ≡ Some (ended moment row) =
-              changed_other (begun moment) mid p q other ∙ h.settles.are_ended.these q row before stood in
+          changed_other (begun moment) mid p q other ∙ h.settles.are_ended.these q row before stood in
           row_stays moment edges (with_changed (begun moment) mid p) last h.again q (ended moment row) now
           (λ same. finalizing≢finalized (sym same))
       | inr not ↦ elim (Contains-append_cases h.settles.places h.again.places q held) [

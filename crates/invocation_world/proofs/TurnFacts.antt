@@ -1,22 +1,22 @@
 -- One after the other is all at once.
-use Rattle.std.proofs.Common.{◌≡◌, ◌≢◌, ◌⊎◌, ◌<◌, ℕ, zero, suc, ℤ, ◌≤ℤ◌, ◌<ℤ◌, Bool, true, false, List, [], ◌∷◌, ◌++◌, length, get_or, Some, None, refl, sym, ap, ◌∙◌, subst, inl, inr, arith}
-use Rattle.std.specs.List.{All, Any, slice_get}
+use Rattle.std.proofs.Common.{◌≡◌, ℕ, ℤ, ◌≤ℤ◌, List, [], ◌∷◌, Some, refl, sym, ◌∙◌, subst, inl, inr, arith}
+use Rattle.std.specs.List.{All, slice_get}
 use Rattle.std.specs.Ordering.{int_eq}
 use Rattle.std.proofs.lemmas.Bool.{cases_Bool, false≢true}
 use Rattle.std.proofs.lemmas.Bool.Decides.{Decides-int_eq}
 use Rattle.std.proofs.lemmas.Int.{ints}
-use Rattle.std.proofs.lemmas.Option.{slice_get_within, get_or_from_slice_get, slice_get-get_or}
-use Rattle.names_realms.specs.declared.states.State.TheVariants.{Active, Finalizing, Finalized}
+use Rattle.std.proofs.lemmas.Option.{slice_get_within, get_or_from_slice_get}
+use Rattle.names_realms.specs.declared.states.State.TheVariants.{Active, Finalizing}
 use Rattle.inclusion_graph.specs.declared.edge.Edge.{Edge}
 use Rattle.invocations.specs.declared.invocation.Invocation.{Invocation}
 use Rattle.invocations.specs.Due.{IsDue, IsNextDue}
 use Rattle.invocations.specs.Rows.{IsInState, begun, with_changed}
-use Rattle.invocation_world.specs.Advancing.{AreQuiet, CarriesOut, IsLeast, all_begun}
+use Rattle.invocation_world.specs.Advancing.{CarriesOut, IsLeast, all_begun}
 use Rattle.invocation_world.specs.Settling.{SettlesRows}
 use Rattle.invocation_world.specs.Turns.{RetiresInTurn, RunsTo}
 use Rattle.invocation_world.proofs.BegunFacts.{none_begun, one_begun}
-use Rattle.invocation_world.proofs.RowFacts.{all_at, all_from, row_in, state_is}
-use Rattle.invocation_world.proofs.SettleFacts.{active_row, row_stays, settled_once, settles_again, still_active, begun_was}
+use Rattle.invocation_world.proofs.RowFacts.{all_at, all_from, state_is}
+use Rattle.invocation_world.proofs.SettleFacts.{active_row, row_stays, settles_again, still_active}
 use Rattle.invocation_world.proofs.RowFacts.{changed_other}
 
 -- no due row has an earlier deadline
@@ -42,7 +42,7 @@ none_before_after : (moment d e : ℤ) (edges : List Edge) (old new : List Invoc
 none_before_after moment d e edges old new p active s none =
     all_from (λ row. IsDue moment row → d ≤ℤ row.deadline) new
     (λ q row at due. all_at (λ r. IsDue moment r → d ≤ℤ r.deadline) old q row none
-      (stood_before e edges old new p active s q row at due.0) due)
+    (stood_before e edges old new p active s q row at due.0) due)
 
 -- what is next is the least
 next_least : (rows : List Invocation) (moment : ℤ) (p : ℕ) (row : Invocation) → IsNextDue rows moment p row
@@ -93,7 +93,7 @@ mid_block : (moment d : ℤ) (edges : List Edge) (first mid : List Invocation) (
     → Carried moment d edges first after
 mid_block moment d edges first mid [] after le s none h =
     let same = none_left moment d edges first mid s
-        (λ p row e active is. all_at (λ r. ¬ IsDue moment r) mid p row h.0 e (active, omega (arith, ints, le, is))) in
+    (λ p row e active is. all_at (λ r. ¬ IsDue moment r) mid p row h.0 e (active, omega (arith, ints, le, is))) in
     ([], mid, subst (λ rs. SettlesRows d edges rs mid) (sym same) s, h)
 mid_block moment d edges first mid (p ∷ places) after le s none h =
     let row = h.0 in
@@ -105,17 +105,17 @@ mid_block moment d edges first mid (p ∷ places) after le s none h =
           let same : row.deadline ≡ d = (Decides-int_eq row.deadline d).0 yes_ in
           let again = same_deadline moment d edges first mid between p row s next same h.2.1 in
           let rest = mid_block moment d edges (with_changed (begun d) first p) between places after le again
-              (none_before_after moment d row.deadline edges mid between p active h.2.1 none) h.2.2 in
+          (none_before_after moment d row.deadline edges mid between p active h.2.1 none) h.2.2 in
           let stood = active_row d edges first mid s p row next.stands next.due.0 in
           (rest.0, rest.1, subst (λ rs. SettlesRows d edges rs rest.1) (one_begun d first p row stood next.due.0 same) rest.2, rest.3)
       | inr no_ ↦
           let apart : row.deadline ≡ d → ⊥ = λ same. false≢true (sym no_ ∙ (Decides-int_eq row.deadline d).1 same) in
           let same = none_left moment d edges first mid s
-              (λ q other e idle is. apart (between_them row.deadline d other.deadline is
-                (all_at (λ r. IsDue moment r → row.deadline ≤ℤ r.deadline) mid q other next.least e (idle, omega (arith, ints, le, is)))
-                (all_at (λ r. IsDue moment r → d ≤ℤ r.deadline) mid p row none next.stands next.due))) in
+          (λ q other e idle is. apart (between_them row.deadline d other.deadline is
+          (all_at (λ r. IsDue moment r → row.deadline ≤ℤ r.deadline) mid q other next.least e (idle, omega (arith, ints, le, is)))
+          (all_at (λ r. IsDue moment r → d ≤ℤ r.deadline) mid p row none next.stands next.due))) in
           let rest = mid_block moment row.deadline edges (with_changed (begun row.deadline) mid p) between places after next.due.1
-              h.2.1 (none_before_after moment row.deadline row.deadline edges mid between p active h.2.1 next.least) h.2.2 in
+          h.2.1 (none_before_after moment row.deadline row.deadline edges mid between p active h.2.1 next.least) h.2.2 in
           let all = with_first moment edges mid after p row next rest in
           (all.0, mid, subst (λ rs. SettlesRows d edges rs mid) (sym same) s, all.1)
     ]

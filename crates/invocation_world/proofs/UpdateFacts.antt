@@ -1,5 +1,5 @@
 -- Whether an update changes a row can be told.
-use Rattle.std.proofs.Common.{◌≡◌, ◌≢◌, ◌⊎◌, ◌↔◌, ℕ, ℤ, Bool, true, false, not, ◌&&◌, ◌||◌, nat_eq, List, Option, Some, None, unwrap_or, Decides, refl, sym, ap, ◌∙◌, inl, inr}
+use Rattle.std.proofs.Common.{◌≡◌, ◌≢◌, ◌↔◌, ℕ, ℤ, Bool, true, not, nat_eq, List, Option, Some, None, unwrap_or, Decides, refl, sym, ap, ◌∙◌, inl, inr}
 use Rattle.std.specs.Ordering.{int_eq}
 use Rattle.std.specs.Cmp.Lexicographic.{pointwise, pointwise_decides}
 use Rattle.std.proofs.lemmas.Bool.{cases_Bool, false≢true}

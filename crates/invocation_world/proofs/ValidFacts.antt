@@ -1,25 +1,25 @@
 -- What keeps a world valid.
-use Rattle.std.proofs.Common.{◌≡◌, ◌≢◌, ◌⊎◌, ◌<◌, ◌≤◌, ◌+◌, ℕ, zero, suc, ℤ, pos, ◌≤ℤ◌, ◌<ℤ◌, true, false, List, [], ◌∷◌, ◌++◌, length, get_or, Contains, Option, Some, None, option_map, refl, sym, ap, ◌∙◌, subst, inl, inr, arith, map}
-use Rattle.std.specs.List.{All, AllPairs, slice_get}
+use Rattle.std.proofs.Common.{◌≡◌, ◌⊎◌, ◌≤◌, ℕ, ℤ, pos, ◌≤ℤ◌, ◌<ℤ◌, List, [], length, Option, Some, None, option_map, refl, sym, ap, ◌∙◌, subst, inl, inr, arith}
+use Rattle.std.specs.List.{All, slice_get}
 use Rattle.std.specs.Option.{IsSomeAnd}
 use Rattle.std.proofs.lemmas.Int.{ints, by_lt_z}
 use Rattle.std.proofs.lemmas.Bool.{cases_eq}
 use Rattle.std.proofs.lemmas.List.{length-map}
-use Rattle.std.proofs.lemmas.Option.{same_Some, none-some, slice_get-map}
+use Rattle.std.proofs.lemmas.Option.{same_Some, slice_get-map}
 use Rattle.names_realms.specs.declared.states.State.{State}
 use Rattle.names_realms.specs.declared.states.State.TheVariants.{Active, Finalizing, Finalized}
 use Rattle.inclusion_graph.specs.declared.edge.Edge.{Edge}
 use Rattle.finaliser.specs.Settling.{ReachesActive}
 use Rattle.invocations.specs.declared.invocation.Invocation.{Invocation}
 use Rattle.invocations.specs.Due.{IsDue}
-use Rattle.invocations.specs.Rows.{HasUniqueIds, IsInState, IsTable, begun, ended, ids_of, states_of, with_changed}
-use Rattle.invocation_world.specs.World.{World, IsCallMoment, IsInclusion, IsRow, IsStage, IsUntil, IsValid, latest_call}
+use Rattle.invocations.specs.Rows.{IsInState, IsTable, begun, ended, ids_of, states_of, with_changed}
+use Rattle.invocation_world.specs.World.{World, IsCallMoment, IsInclusion, IsRow, IsStage, IsUntil, IsValid}
 use Rattle.invocation_world.specs.Advancing.{AreQuiet, all_begun, begun_if_due}
 use Rattle.invocation_world.specs.Settling.{Settles, SettlesRows}
 use Rattle.invocation_world.proofs.BegunFacts.{all_begun_at, begun_or_same}
-use Rattle.invocation_world.proofs.RowFacts.{same_lists, all_at, all_from, stands, state_is, row_in, same_state, apart, active≢finalizing, active≢finalized, finalizing≢finalized, changed_here, changed_other}
+use Rattle.invocation_world.proofs.RowFacts.{same_lists, all_at, all_from, stands, state_is, row_in, same_state, apart, active≢finalizing, finalizing≢finalized, changed_here, changed_other}
 use Rattle.invocation_world.proofs.ReachFacts.{reach_over, reaches_active_or_not}
-use Rattle.invocation_world.proofs.SettleFacts.{WasEnded, active_after, active_before, ended_none, ended_or_same, ended_state, still_active}
+use Rattle.invocation_world.proofs.SettleFacts.{active_after, active_before, ended_none, ended_or_same, ended_state, still_active}
 
 -- a moment set stays one
 until_later : (last now : ℤ) (o : Option ℤ) → last ≤ℤ now → IsSomeAnd o (IsUntil last) → IsSomeAnd o (IsUntil now)
@@ -79,7 +79,7 @@ row_ended now row from waits is = record {
 pub table_of_ids : (old new : List Invocation) → ids_of new ≡ ids_of old → IsTable old → IsTable new
 table_of_ids old new same table =
     let lengths : length new ≡ length old = sym (length-map new (λ (r : Invocation). r.id))
-        ∙ ap (λ (ids : List (List ℕ)). length ids) same ∙ length-map old (λ (r : Invocation). r.id) in
+    ∙ ap (λ (ids : List (List ℕ)). length ids) same ∙ length-map old (λ (r : Invocation). r.id) in
     record {
       unique = λ id i j this that. table.unique id i j
           (subst (λ (ids : List (List ℕ)). slice_get ids i ≡ Some id) same this)
@@ -208,7 +208,7 @@ settled_ended last moment edges old mid new h s p is =
           let was = unbegun moment old mid h.begins Finalized p finalizing≢finalized (same_state Finalized new mid p (sym same.1) is) in
           h.valid.ended p was
           (reach_over edges (states_of new) (states_of old)
-            (λ q active. unbegun moment old mid h.begins Active q (λ e. active≢finalizing (sym e)) (active_before moment edges mid new s q active)) p reach)
+          (λ q active. unbegun moment old mid h.begins Active q (λ e. active≢finalizing (sym e)) (active_before moment edges mid new s q active)) p reach)
     ]
 
 settled_is_valid : (last moment : ℤ) (edges : List Edge) (old mid new : List Invocation) → IsBegun last moment edges old mid
@@ -272,8 +272,8 @@ valid_retired w moment p new valid call later quiet active s =
     valid_settled w.last moment w.inclusions w.invocations (with_changed (begun moment) w.invocations p) new valid call later
     (one_begins moment w.invocations p active)
     (λ q row e is.
-      let both = still_active moment w.invocations p q active (state_is Active (with_changed (begun moment) w.invocations p) q row e is) in
-      ahead_if_quiet moment w.invocations quiet q row (sym (changed_other (begun moment) w.invocations p q both.0) ∙ e) is)
+    let both = still_active moment w.invocations p q active (state_is Active (with_changed (begun moment) w.invocations p) q row e is) in
+    ahead_if_quiet moment w.invocations quiet q row (sym (changed_other (begun moment) w.invocations p q both.0) ∙ e) is)
     s
 
 -- a valid world settles into itself

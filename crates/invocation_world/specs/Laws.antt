@@ -1,5 +1,5 @@
 -- Laws of the world.
-use Rattle.std.specs.Prelude.{◌≡◌, ◌≢◌, ◌↔◌, ◌≤ℤ◌, ◌<ℤ◌, ◌<◌, ◌≤◌, ◌+◌, ℕ, ℤ, Bool, true, List, Option, Some, All, length, slice_get}
+use Rattle.std.specs.Prelude.{◌≡◌, ◌≢◌, ◌↔◌, ◌≤ℤ◌, ◌<ℤ◌, ◌<◌, ◌≤◌, ◌+◌, ℕ, ℤ, true, List, Option, Some, All, length, slice_get}
 use Rattle.std.specs.Option.{ForSome}
 use Rattle.names_realms.specs.declared.pairs.Pair.{Pair}
 use Rattle.names_realms.specs.declared.states.State.TheVariants.{Active, Finalized}

@@ -23,12 +23,7 @@ fn end_rows(table: &mut Table, places: &[u32], moment: Moment)
 }
 
 /// Begins the finalization of an active row, and settles the rows.
-pub(crate) fn retire_row(
-    table: &mut Table,
-    finaliser: &mut Finaliser,
-    place: u32,
-    moment: Moment,
-)
+pub(crate) fn retire_row(table: &mut Table, finaliser: &mut Finaliser, place: u32, moment: Moment)
     requires linked { AreLinked table.old finaliser.old }
     requires active { IsInState State.Active table.old.rows place }
     ensures rows { SettlesRows moment finaliser.old.graph.edges

@@ -1,4 +1,4 @@
-use Rattle.std.proofs.Common.{◌≡◌, ◌∷◌, ℕ, ℤ, List, ap, ◌∙◌, sym, subst, arith}
+use Rattle.std.proofs.Common.{◌≡◌, ◌∷◌, ◌∙◌, sym, subst, arith}
 use Rattle.std.proofs.lemmas.Option.{same_Some}
 use Rattle.inclusion_graph.specs.Edges.{GraphState}
 use Rattle.invocations.specs.declared.invocation.Invocation.{Invocation}
@@ -23,7 +23,7 @@ turns-preserved c =
     let new = c.retire_row.new.table.rows in
     let same : c.row.result.now ≡ next.0 = same_Some c.row.result.now next.0 (sym c.row.ensures ∙ next.1.stands) in
     let settled = subst (λ (g : GraphState). SettlesRows c.row.result.now.deadline g.edges (with_changed (begun c.row.result.now.deadline) rows place) new)
-        c.turns.invariant.graph c.retire_row.ensures.rows in
+    c.turns.invariant.graph c.retire_row.ensures.rows in
     let at = subst (λ (r : Invocation). SettlesRows r.deadline c.args.finaliser.now.graph.edges (with_changed (begun r.deadline) rows place) new) same settled in
     record {
       linked = c.retire_row.ensures.linked;

@@ -1,9 +1,7 @@
-use Rattle.std.proofs.Common.{◌≡◌, ◌++◌, ◌∷◌, [], ℕ, List, get_or, take, sym, subst, arith}
-use Rattle.std.specs.List.{All}
+use Rattle.std.proofs.Common.{◌++◌, ◌∷◌, [], ℕ, List, get_or, take, sym, subst, arith}
 use Rattle.std.proofs.lemmas.List.{take_more}
 use Rattle.names_realms.specs.declared.states.State.TheVariants.{Finalizing}
 use Rattle.invocations.specs.declared.invocation.Invocation.{Invocation}
-use Rattle.invocations.specs.Rows.{IsInState, ended, with_changed}
 use Rattle.invocation_world.specs.Settling.{AreEnded}
 use Rattle.invocation_world.proofs.CodeFacts.{not_taken}
 use Rattle.invocation_world.proofs.RowFacts.{same_state}

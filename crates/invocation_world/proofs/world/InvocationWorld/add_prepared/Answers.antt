@@ -1,4 +1,4 @@
-use Rattle.std.proofs.Common.{◌≡◌, ◌≤ℤ◌, ◌++◌, ◌∷◌, [], List, ap, ◌∙◌, sym, subst}
+use Rattle.std.proofs.Common.{◌≤ℤ◌, ◌++◌, ◌∷◌, [], List, ap, ◌∙◌, sym, subst}
 use Rattle.std.proofs.lemmas.List.{map_push}
 use Rattle.names_realms.specs.declared.states.State.{State}
 use Rattle.inclusion_graph.specs.declared.edge.Edge.{Edge}
@@ -6,7 +6,7 @@ use Rattle.invocations.specs.declared.invocation.Invocation.{Invocation}
 use Rattle.invocations.specs.Faults.{CanAdd}
 use Rattle.invocations.specs.Rows.{states_of}
 use Rattle.invocation_world.specs.Advancing.{AreQuiet}
-use Rattle.invocation_world.specs.Parts.{AreLinked, world_of}
+use Rattle.invocation_world.specs.Parts.{world_of}
 use Rattle.invocation_world.specs.States.{WorldState}
 use Rattle.invocation_world.specs.World.{IsValid}
 use Rattle.invocation_world.proofs.ChangeFacts.{valid_added}
@@ -21,7 +21,7 @@ invariant_of-self c =
     let later = subst (λ (s : WorldState). s.world.last ≤ℤ row.created) view c.requires.later in
     let quiet = subst (λ (s : WorldState). AreQuiet s.world.invocations row.created) view c.requires.quiet in
     let valid = valid_added (world_of table c.self.inside.finaliser c.self.inside.last) row c.self.invariant.valid can c.requires.is_row
-        c.requires.active c.requires.moment later quiet in
+    c.requires.active c.requires.moment later quiet in
     record {
       valid = subst (λ (rs : List Invocation). IsValid (record { invocations = rs; inclusions = c.add_active.new.self.graph.edges; last = row.created }))
           (sym c.add_prepared.ensures.rows)

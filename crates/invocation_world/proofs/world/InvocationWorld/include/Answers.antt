@@ -19,7 +19,7 @@ invariant_of-self c =
     let quiet = subst (λ (s : WorldState). AreQuiet s.world.invocations moment) view c.requires.quiet in
     let new = subst (λ hs. fresh hs plan.targets ≡ plan.targets) fits.held fits.new in
     let valid = valid_included (world_of c.self.inside.table c.self.inside.finaliser c.self.inside.last) moment plan.from plan.targets
-        c.self.invariant.valid fits.active new fits.there fits.elsewhere fits.few c.requires.moment later quiet in
+    c.self.invariant.valid fits.active new fits.there fits.elsewhere fits.few c.requires.moment later quiet in
     record {
       valid = subst (λ (es : List Edge). IsValid (record { invocations = rows; inclusions = es; last = moment }))
           (sym c.add_edges.ensures.edges) valid;

@@ -1,4 +1,4 @@
-use Rattle.std.proofs.Common.{◌≡◌, ◌<◌, ℕ, List, length, min, IfOk, refl, sym, subst}
+use Rattle.std.proofs.Common.{◌≡◌, ◌<◌, List, length, min, IfOk, refl, sym, subst}
 use Rattle.std.specs.List.{All}
 use Rattle.names_realms.specs.declared.states.State.TheVariants.{Active}
 use Rattle.inclusion_graph.specs.declared.edge.Edge.{Edge}
@@ -23,6 +23,6 @@ returns-clause-fits c =
     let active = subst (λ (s : WorldState). IsInState Active s.world.invocations c.args.place) view c.requires.active in
     let there = subst (λ (s : WorldState). All (λ t. t < length s.world.invocations) c.args.targets.now) view c.requires.there in
     let targets = subst (λ (es : List Edge). IfOk c.prepare_edges.result (λ (plan : PlanState). plan.targets ≡ fresh (targets_of es c.args.place) c.args.targets.now))
-        (sym c.prepare_edges.ensures.edges) c.prepare_edges.ensures.targets in
+    (sym c.prepare_edges.ensures.edges) c.prepare_edges.ensures.targets in
     fits_result state new.graph c.args.place c.args.targets.now c.prepare_edges.result active there refl refl c.prepare_edges.ensures.fits
     c.prepare_edges.ensures.from targets c.prepare_edges.ensures.elsewhere

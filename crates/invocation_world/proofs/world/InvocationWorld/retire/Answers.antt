@@ -1,4 +1,4 @@
-use Rattle.std.proofs.Common.{◌≡◌, ◌≤ℤ◌, List, sym, subst}
+use Rattle.std.proofs.Common.{◌≤ℤ◌, sym, subst}
 use Rattle.names_realms.specs.declared.states.State.TheVariants.{Active}
 use Rattle.inclusion_graph.specs.Edges.{GraphState}
 use Rattle.invocations.specs.Rows.{IsInState}
@@ -18,7 +18,7 @@ invariant_of-self c =
     let later = subst (λ (s : WorldState). s.world.last ≤ℤ moment) view c.requires.later in
     let quiet = subst (λ (s : WorldState). AreQuiet s.world.invocations moment) view c.requires.quiet in
     let valid = valid_retired (world_of table c.self.inside.finaliser c.self.inside.last) moment c.args.place c.retire_row.new.table.rows
-        c.self.invariant.valid c.requires.moment later quiet active c.retire_row.ensures.rows in
+    c.self.invariant.valid c.requires.moment later quiet active c.retire_row.ensures.rows in
     record {
       valid = subst (λ (g : GraphState). IsValid (record { invocations = c.retire_row.new.table.rows; inclusions = g.edges; last = moment }))
           (sym c.retire_row.ensures.graph) valid;

@@ -15,5 +15,5 @@ returns-clause-answer c = λ moment.
     let edges = c.self.inside.finaliser.graph.edges in
     subst (λ (s : WorldState). IsTrue c.would_be_final.result ↔ (¬ ReachesActive (with_begun moment place s.world) place)) c.self.view_is
     (subst (λ (ss : List State). IsTrue c.would_be_final.result ↔ (¬ finaliser.ReachesActive edges ss place))
-      (ap (λ (ss : List State). set ss place Finalizing) c.self.invariant.linked.states ∙ sym (begun_states moment rows place))
-      c.would_be_final.ensures.answer)
+    (ap (λ (ss : List State). set ss place Finalizing) c.self.invariant.linked.states ∙ sym (begun_states moment rows place))
+    c.would_be_final.ensures.answer)
