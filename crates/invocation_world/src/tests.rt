@@ -15,7 +15,7 @@ use std::process::Abort;
 use std::test::Fail;
 
 /// A step, with its moment behind what it asks for.
-#[derive(Clone, Copy, Debug)]
+#[derive(Clone, Copy)]
 enum Step {
     /// A row with an id and a deadline.
     Add(&'static str, u32, u32),
@@ -233,27 +233,21 @@ fn deadline_of(deadline: u32, at: u32) -> Option<Moment>
 }
 
 /// One tag.
-fn tags_of(alloc: Global) -> Result<Listed<Pair>, Fail>
-    ensures { IfOk result (All IsPair) }
+fn tags_of(alloc: Global) -> Option<Listed<Pair>>
+    ensures { ForSome result (All IsPair) }
 {
-    let pair = Pair::read(alloc, b"os", b"linux")?;
-    Ok(Listed::new(Vec::from_array(alloc, [pair])?))
+    let pair = Pair::read(alloc, b"os", b"linux").ok()?;
+    Some(Listed::new(Vec::from_array(alloc, [pair]).ok()?))
 }
 
 /// Updates a row, if that can be. Whether it could.
-fn update(
-    alloc: Global,
-    world: &mut InvocationWorld,
-    place: u32,
-    deadline: u32,
-    at: u32,
-) -> Result<bool, Fail> {
+fn update(alloc: Global, world: &mut InvocationWorld, place: u32, deadline: u32, at: u32) -> bool {
     if !is_active(world, place) || !is_open(world, moment(at)) {
-        return Ok(false);
+        return false;
     }
-    let tags = tags_of(alloc)?;
-    world.update(place, deadline_of(deadline, at), Some(tags), moment(at));
-    Ok(true)
+    let tags = tags_of(alloc);
+    world.update(place, deadline_of(deadline, at), tags, moment(at));
+    true
 }
 
 /// Carries out what is due. Whether that could be, and nothing is due any more.
@@ -272,7 +266,7 @@ fn take(alloc: Global, world: &mut InvocationWorld, step: Step) -> Result<bool, 
         Step::Add(id, deadline, at) => add(alloc, world, id, deadline, at),
         Step::Include(place, target, at) => Ok(include(alloc, world, place, target, at)),
         Step::Retire(place, at) => Ok(retire(world, place, at)),
-        Step::Update(place, deadline, at) => update(alloc, world, place, deadline, at),
+        Step::Update(place, deadline, at) => Ok(update(alloc, world, place, deadline, at)),
         Step::Advance(at) => Ok(advance(world, at)),
     }
 }
@@ -302,7 +296,7 @@ fn stand(rows: &[Invocation], seen: &[Seen]) -> bool {
 fn run(rt: &impl Abort, alloc: Global, case: &Case) -> Result<(), Fail> {
     let mut world = InvocationWorld::new(alloc)?;
     for step in case.steps {
-        assert!(rt; take(alloc, &mut world, *step)?, "{step:?}");
+        assert!(rt; take(alloc, &mut world, *step)?);
     }
     assert!(rt; stand(world.rows(), case.rows));
     assert!(rt; world.last() == moment(case.last));
@@ -317,22 +311,38 @@ fn worlds_go_from_step_to_step(rt: HostRuntime) -> Result<(), Fail> {
     Ok(())
 }
 
+/// The place of the row with an id.
+fn find(alloc: Global, world: &InvocationWorld, id: &str) -> Result<Option<u32>, Fail> {
+    let id = InvocationId::parse(alloc, id.as_bytes())?;
+    Ok(world.find(&id))
+}
+
+/// Whether the third row includes the first alone.
+fn includes_first(world: &InvocationWorld) -> bool {
+    world.count() == 3 && world.inclusion_count() == 3 && world.included(2) == [0].as_slice()
+}
+
+/// Steps that can't be taken behind those of the first case: a taken id, an inclusion in itself,
+/// and the retirement of a row that isn't active.
+const REFUSED: [Step; 3] = [
+    Step::Add("u-b", 90, 20),
+    Step::Include(2, 2, 20),
+    Step::Retire(0, 20),
+];
+
 #[test]
 fn rows_and_inclusions_are_told(rt: HostRuntime) -> Result<(), Fail> {
     let alloc = rt.alloc();
     let mut world = InvocationWorld::new(alloc)?;
     for step in CASES[0].steps {
-        assert!(rt; take(alloc, &mut world, *step)?, "{step:?}");
+        assert!(rt; take(alloc, &mut world, *step)?);
     }
-    assert!(rt; !take(alloc, &mut world, Step::Add("u-b", 90, 20))?);
-    assert!(rt; !take(alloc, &mut world, Step::Include(2, 2, 20))?);
-    assert!(rt; !take(alloc, &mut world, Step::Retire(0, 20))?);
-    assert_eq!(rt; world.find(&InvocationId::parse(alloc, b"u-b")?), Some(1));
-    assert_eq!(rt; world.find(&InvocationId::parse(alloc, b"u-d")?), None);
-    assert_eq!(rt; world.count(), 3);
-    assert_eq!(rt; world.inclusion_count(), 3);
-    assert_eq!(rt; world.included(2), [0].as_slice());
-    assert!(rt; world.row(0).realm.as_slice() == b"proj:ci".as_slice());
+    for step in REFUSED {
+        assert!(rt; !take(alloc, &mut world, step)?);
+    }
+    assert!(rt; find(alloc, &world, "u-b")? == Some(1));
+    assert!(rt; find(alloc, &world, "u-d")?.is_none());
+    assert!(rt; includes_first(&world));
     Ok(())
 }
 
