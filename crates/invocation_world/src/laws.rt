@@ -1,4 +1,5 @@
-//! Laws of the definitions that the contracts cite. These functions do nothing: what each of them ensures is the law.
+//! Laws of the definitions that the contracts cite. These functions do nothing: what each of them
+//! ensures is the law.
 ghost use Rattle.invocation_world.specs.Laws.{AdvanceKeepsFinal, AdvanceKeepsValid, AdvancesOnce, ChangesKeepFinal, ChangesKeepValid, HasAdvance, HasSettling, SettlesOnce, SettlingKeepsFinal, UpdateIsTold, ValidIsSettled};
 
 /// A world settles in one way at most.

@@ -220,8 +220,8 @@ impl InvocationWorld {
         }
     }
 
-    /// Whether an active row would be final at once, if it were retired now. It takes no memory, and
-    /// changes nothing.
+    /// Whether an active row would be final at once, if it were retired now. It takes no memory,
+    /// and changes nothing.
     pub fn would_be_final(&mut self, place: u32) -> bool
         requires { IsInState State.Active self.old.world.invocations place }
         ensures answer { (moment : ℤ) → IsTrue result
@@ -233,8 +233,8 @@ impl InvocationWorld {
         self.finaliser.would_be_final(place)
     }
 
-    /// Begins the finalization of an active row. Then each finalizing row that reaches no active one
-    /// is ended, all at once. It takes no memory.
+    /// Begins the finalization of an active row. Then each finalizing row that reaches no active
+    /// one is ended, all at once. It takes no memory.
     pub fn retire(&mut self, place: u32, moment: Moment)
         requires active { IsInState State.Active self.old.world.invocations place }
         requires moment { IsCallMoment moment }
