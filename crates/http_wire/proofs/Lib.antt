@@ -3,8 +3,10 @@ pub mod ScanLaws
 pub mod RequestLaws
 pub mod FieldLaws
 pub mod SaysLaws
+pub mod FaultLaws
 pub mod StreamLaws
 pub mod DigitLaws
+pub mod LengthLaws
 pub mod AnnouncedLaws
 pub mod BufferLaws
 pub mod HeadSearchLaws
