@@ -13,3 +13,4 @@ pub mod HeadSearchLaws
 pub mod BodyLaws
 pub mod NextLaws
 pub mod PlainLaws
+pub mod FirstFormLaws

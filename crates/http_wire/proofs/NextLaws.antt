@@ -19,7 +19,7 @@ use Rattle.http_wire.specs.Reads.{FindsHead, IsHeadAnswer, IsBodyAnswer, TakesBo
 use Rattle.http_wire.specs.declared.head_scan.HeadEnd.{HeadEnd}
 use Rattle.http_wire.specs.declared.message.Message.{Message}
 use Rattle.http_wire.specs.declared.message.WireFault.{WireFault}
-use Rattle.http_wire.specs.declared.message.WireFault.TheVariants.{HeadTooLong, TooManyHeaders, BadHead, NoLength, TwoLengths, TransferCoded, BodyTooLong, CutShort, ReadFault, Memory}
+use Rattle.http_wire.specs.declared.message.WireFault.TheVariants.{HeadTooLong, CutShort, ReadFault, Memory}
 use Rattle.http_wire.specs.declared.request.Request.{Request}
 use Rattle.http_wire.proofs.AnnouncedLaws.{read_lines}
 use Rattle.http_wire.proofs.BodyLaws.{counted}
@@ -76,13 +76,7 @@ search_fault : (bytes now : List ℕ) (left : Option (List ℕ)) (e : WireFault)
 search_fault bytes now left (CutShort have) short a = a
 search_fault bytes now left HeadTooLong short a = (a, short)
 search_fault bytes now left ReadFault short a = a
-search_fault bytes now left Memory short a = absurd a
-search_fault bytes now left TooManyHeaders short a = absurd a
-search_fault bytes now left (BadHead end) short a = absurd a
-search_fault bytes now left NoLength short a = absurd a
-search_fault bytes now left TwoLengths short a = absurd a
-search_fault bytes now left TransferCoded short a = absurd a
-search_fault bytes now left (BodyTooLong said) short a = absurd a
+search_fault bytes now left fault short a = absurd a
 
 -- The search found no head.
 pub reading_at_head_fault : (held bytes : List ℕ) (had left : Incoming) (e : WireFault) (r : Result (Option Message) WireFault)
@@ -112,28 +106,14 @@ faulty_head bytes n k fault f small x =
 -- a fault of a head is answered as one of the stream
 answer_fault : (bytes now : List ℕ) (left : Option (List ℕ)) (fault : WireFault) → IsOfHead fault → HasFault bytes fault → length bytes ≤ head_limit
     → IsAnswer bytes (Err fault) left now
-answer_fault bytes now left HeadTooLong of x short = (x, short)
-answer_fault bytes now left TooManyHeaders of x short = (x, short)
-answer_fault bytes now left (BadHead end) of x short = (x, short)
-answer_fault bytes now left NoLength of x short = (x, short)
-answer_fault bytes now left TwoLengths of x short = (x, short)
-answer_fault bytes now left TransferCoded of x short = (x, short)
-answer_fault bytes now left (BodyTooLong said) of x short = (x, short)
 answer_fault bytes now left (CutShort have) of x short = absurd of
 answer_fault bytes now left ReadFault of x short = absurd of
 answer_fault bytes now left Memory of x short = absurd of
+answer_fault bytes now left fault of x short = (x, short)
 
 counted_fault : (before now : ℕ) (fault : WireFault) → IsOfHead fault → now ≡ before → CountsRead {T = Option Message} before (Err fault) now
-counted_fault before now HeadTooLong of same = same
-counted_fault before now TooManyHeaders of same = same
-counted_fault before now (BadHead end) of same = same
-counted_fault before now NoLength of same = same
-counted_fault before now TwoLengths of same = same
-counted_fault before now TransferCoded of same = same
-counted_fault before now (BodyTooLong said) of same = same
-counted_fault before now (CutShort have) of same = absurd of
 counted_fault before now ReadFault of same = absurd of
-counted_fault before now Memory of same = absurd of
+counted_fault before now fault of same = same
 
 pub reading_at_faulty_head : (held bytes : List ℕ) (had left : Incoming) (end : HeadEnd) (fault : WireFault) (r : Result (Option Message) WireFault)
     → FindsHead held had (Ok (Some end)) bytes left → Front bytes end.len end.lines → IsFaulty (take end.len bytes) end.lines fault → r ≡ Err fault
@@ -240,13 +220,7 @@ body_fault bytes more now left n k q (CutShort have) m b =
     (subst (λ c. HasFault (bytes ++ more) (CutShort c)) (sym b.0) (lacks bytes more n k q m.front m.small m.request b.1), b.2)
 body_fault bytes more now left n k q ReadFault m b = inr (lacks bytes more n k q m.front m.small m.request b)
 body_fault bytes more now left n k q Memory m b = tt
-body_fault bytes more now left n k q HeadTooLong m b = absurd b
-body_fault bytes more now left n k q TooManyHeaders m b = absurd b
-body_fault bytes more now left n k q (BadHead end) m b = absurd b
-body_fault bytes more now left n k q NoLength m b = absurd b
-body_fault bytes more now left n k q TwoLengths m b = absurd b
-body_fault bytes more now left n k q TransferCoded m b = absurd b
-body_fault bytes more now left n k q (BodyTooLong said) m b = absurd b
+body_fault bytes more now left n k q fault m b = absurd b
 
 -- The body didn't come.
 pub reading_at_body_fault : (held bytes now : List ℕ) (had between left : Incoming) (end : HeadEnd) (q : Request) (e : WireFault)

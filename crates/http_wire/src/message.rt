@@ -18,7 +18,7 @@ pub struct Message {
 }
 
 /// The most replies of one connection. The last of them closes it.
-pub const REPLY_LIMIT: usize = 1_048_576;
+const REPLY_LIMIT: usize = 1_048_576;
 
 /// Whether the connection ends after a reply to a message with this close flag, before which there were so many.
 pub fn closes(before: usize, close: bool) -> bool

@@ -31,6 +31,255 @@ fn with_lines(alloc: Global, count: usize) -> Result<Vec<u8>, AllocError> {
     request(alloc, headers.as_str(), "")
 }
 
+/// Streams that begin with a fault.
+const FAULTS: [(&[u8], WireFault); 25] = [
+    (
+        b"POST /p HTTP/1.1\r\n\r\n",
+        WireFault::NoLength,
+    ),
+    (
+        b"POST /p HTTP/1.1\r\nContent-Length: 2\r\nContent-Length: 2\r\n\r\n{}",
+        WireFault::TwoLengths,
+    ),
+    (
+        b"POST /p HTTP/1.1\r\nContent-Length: 2\r\nX: y\r\ncontent-length: 3\r\n\r\n{}",
+        WireFault::TwoLengths,
+    ),
+    (
+        b"POST /p HTTP/1.1\r\nContent-Length: +5\r\nContent-Length: 2\r\n\r\n",
+        WireFault::TwoLengths,
+    ),
+    (
+        b"POST /p HTTP/1.1\r\nContent-Length: 2\r\nTransfer-Encoding: chunked\r\n\r\n",
+        WireFault::TransferCoded,
+    ),
+    (
+        b"POST /p HTTP/1.1\r\ntransfer-encoding:\r\nContent-Length: 2\r\nContent-Length: 2\r\n\r\n",
+        WireFault::TransferCoded,
+    ),
+    (
+        b"POST /p HTTP/1.1\r\nTransfer-Encoding: chunked\r\n\r\n",
+        WireFault::TransferCoded,
+    ),
+    (
+        b"POST /p HTTP/1.1\r\nContent-Length: 4194305\r\n\r\n",
+        WireFault::BodyTooLong { said: 4194305 },
+    ),
+    (
+        b"POST /p HTTP/1.1\r\nContent-Length: 9999999999\r\n\r\n",
+        WireFault::BodyTooLong { said: 9999999999 },
+    ),
+    (
+        b"POST /p HTTP/1.1\r\nContent-Length: 00000000002\r\nTransfer-Encoding: chunked\r\n\r\n",
+        WireFault::BadHead { end: 77 },
+    ),
+    (
+        b"POST /p HTTP/1.1\r\nContent-Length: +5\r\n\r\n",
+        WireFault::BadHead { end: 40 },
+    ),
+    (
+        b"POST /p HTTP/1.1\r\nContent-Length:\r\n\r\n",
+        WireFault::BadHead { end: 37 },
+    ),
+    (
+        b"POST /p HTTP/1.1\r\nContent-Length: 2, 2\r\n\r\n",
+        WireFault::BadHead { end: 42 },
+    ),
+    (
+        b"POST /p HTTP/1.1\r\nContent-Length : 2\r\n\r\n",
+        WireFault::BadHead { end: 40 },
+    ),
+    (
+        b"POST /p HTTP/1.1\r\nX: a\r\n b\r\nContent-Length: 2\r\n\r\n",
+        WireFault::BadHead { end: 49 },
+    ),
+    (
+        b"POST /p HTTP/1.1\r\nX: a\rb\r\nContent-Length: 2\r\n\r\n",
+        WireFault::BadHead { end: 47 },
+    ),
+    (
+        b"POST /p HTTP/1.1\r\nX: a\x00b\r\nContent-Length: 2\r\n\r\n",
+        WireFault::BadHead { end: 47 },
+    ),
+    (
+        b"POST /p HTTP/1.2\r\nContent-Length: 2\r\n\r\n",
+        WireFault::BadHead { end: 39 },
+    ),
+    (
+        b"POST /\xff HTTP/1.1\r\nContent-Length: 2\r\n\r\n",
+        WireFault::BadHead { end: 39 },
+    ),
+    (
+        b"POST  HTTP/1.1\r\nContent-Length: 2\r\n\r\n",
+        WireFault::BadHead { end: 37 },
+    ),
+    (
+        b"PRI * HTTP/2.0\r\n\r\nSM\r\n\r\n",
+        WireFault::BadHead { end: 18 },
+    ),
+    (
+        b"GET / HTTP/1.1\r\nTransfer-Encoding: x\r\nContent-Length: 2\r\n\r\n",
+        WireFault::TransferCoded,
+    ),
+    (
+        b"GET / HTTP/1.1\r\nContent-Length: 2\r\nContent-Length: 2\r\n\r\n",
+        WireFault::TwoLengths,
+    ),
+    (
+        b"GET / HTTP/1.1\r\nContent-Length: x\r\n\r\n",
+        WireFault::BadHead { end: 37 },
+    ),
+    (
+        b"GET / HTTP/1.1\r\nContent-Length: 4194305\r\n\r\n",
+        WireFault::BodyTooLong { said: 4194305 },
+    ),
+];
+
+/// A message: its bytes, its service, its method, its body, and whether it closes.
+type Said = (
+    &'static [u8],
+    &'static str,
+    &'static str,
+    &'static str,
+    bool,
+);
+
+const SAID: [Said; 19] = [
+    (
+        b"POST /prpc/a/b HTTP/1.1\r\nContent-Length: 2\r\n\r\n{}",
+        "a",
+        "b",
+        "{}",
+        false,
+    ),
+    (
+        b"POST /prpc/a/b HTTP/1.1\r\nContent-Length: 2\r\nExpect: 100-continue\r\n\r\n{}",
+        "a",
+        "b",
+        "{}",
+        false,
+    ),
+    (
+        b"POST /prpc/a/b HTTP/1.1\r\nContent-Length: 0000000002\r\n\r\n{}",
+        "a",
+        "b",
+        "{}",
+        false,
+    ),
+    (
+        b"POST /prpc/a/b HTTP/1.0\r\nContent-Length: 2\r\n\r\n{}",
+        "a",
+        "b",
+        "{}",
+        true,
+    ),
+    (
+        b"GET /prpc/a/b HTTP/1.1\r\n\r\n",
+        "",
+        "/prpc/a/b",
+        "",
+        true,
+    ),
+    (
+        b"GET /prpc/a/b HTTP/1.1\r\nContent-Length: 2\r\n\r\n{}",
+        "",
+        "/prpc/a/b",
+        "{}",
+        true,
+    ),
+    (
+        b"post /prpc/a/b HTTP/1.1\r\nContent-Length: 2\r\n\r\n{}",
+        "",
+        "/prpc/a/b",
+        "{}",
+        true,
+    ),
+    (
+        b"OPTIONS * HTTP/1.0\r\n\r\n",
+        "",
+        "*",
+        "",
+        true,
+    ),
+    (
+        b"POST /prpc/a/b HTTP/1.1\r\nConnection: close\r\nContent-Length: 2\r\n\r\n{}",
+        "a",
+        "b",
+        "{}",
+        true,
+    ),
+    (
+        b"POST /prpc/a/b HTTP/1.1\r\nConnection: keep-alive, Close\r\nContent-Length: 2\r\n\r\n{}",
+        "a",
+        "b",
+        "{}",
+        true,
+    ),
+    (
+        b"POST /prpc/a/b HTTP/1.1\r\nConnection: x ,\t clOSE\t,\r\nContent-Length: 2\r\n\r\n{}",
+        "a",
+        "b",
+        "{}",
+        true,
+    ),
+    (
+        b"POST /prpc/a/b HTTP/1.1\r\nConnection: ,,close\r\nContent-Length: 2\r\n\r\n{}",
+        "a",
+        "b",
+        "{}",
+        true,
+    ),
+    (
+        b"POST /prpc/a/b HTTP/1.1\r\nConnection: \r\nContent-Length: 2\r\n\r\n{}",
+        "a",
+        "b",
+        "{}",
+        false,
+    ),
+    (
+        b"POST /prpc/a/b HTTP/1.1\r\nConnection: keep-alive\r\nContent-Length: 2\r\n\r\n{}",
+        "a",
+        "b",
+        "{}",
+        false,
+    ),
+    (
+        b"POST /prpc/a/b HTTP/1.1\r\nConnection: closed\r\nContent-Length: 2\r\n\r\n{}",
+        "a",
+        "b",
+        "{}",
+        false,
+    ),
+    (
+        b"POST /prpc/a/b HTTP/1.1\r\nConnection: not-close, un close\r\nContent-Length: 2\r\n\r\n{}",
+        "a",
+        "b",
+        "{}",
+        false,
+    ),
+    (
+        b"POST /prpc/a/b HTTP/1.1\r\nConnection: c,lose\r\nContent-Length: 2\r\n\r\n{}",
+        "a",
+        "b",
+        "{}",
+        false,
+    ),
+    (
+        b"POST /prpc/a/b HTTP/1.1\r\nConnection: x\r\nContent-Length: 2\r\nconnection: CLOSE\r\n\r\n{}",
+        "a",
+        "b",
+        "{}",
+        true,
+    ),
+    (
+        b"POST /prpc/a/b HTTP/1.1\r\nProxy-Connection: close\r\nContent-Length: 2\r\n\r\n{}",
+        "a",
+        "b",
+        "{}",
+        false,
+    ),
+];
+
 fn joined(alloc: Global, front: &[u8], back: &[u8]) -> Result<Vec<u8>, AllocError> {
     let mut stream = Vec::from_slice(alloc, front)?;
     stream.extend_from_slice(back)?;
@@ -54,17 +303,9 @@ fn cut(alloc: Global, stream: &[u8], size: usize) -> Result<Vec<Vec<u8>>, AllocE
     Ok(pieces)
 }
 
-fn check_message(rt: &impl Abort, message: &Message, body: &[u8]) {
-    assert_eq!(rt;
-        message.asked.service.as_slice(),
-        b"luci.resultdb.v1.Recorder".as_slice()
-    );
-    assert_eq!(rt;
-        message.asked.method.as_slice(),
-        b"CreateInvocation".as_slice()
-    );
+fn check_message(rt: &impl Abort, message: &Message, body: &[u8], close: bool) {
     assert_eq!(rt; message.asked.body.as_slice(), body);
-    assert!(rt; !message.close);
+    assert_eq!(rt; message.close, close);
 }
 
 fn check_end(rt: &impl Abort, answer: Result<Option<Message>, WireFault>, end: End) {
@@ -79,6 +320,11 @@ fn cut_short(have: usize) -> End {
     End::Fault(WireFault::CutShort { have })
 }
 
+/// Whether the message of this number, of so many before this end, closes.
+fn is_last(number: usize, count: usize, end: End) -> bool {
+    end == End::Closed && number + 1 >= count
+}
+
 /// Reads a stream that comes in pieces of a size.
 fn check_wire(
     rt: &impl Abort,
@@ -90,11 +336,16 @@ fn check_wire(
 ) -> Result<(), Fail> {
     let mut link = MemoryLink::new(alloc, cut(alloc, stream, size)?, Vec::new(alloc))?;
     let mut wire = Wire::new(alloc)?;
-    for body in bodies {
+    for (number, body) in bodies.iter().enumerate() {
         match wire.next(alloc, &mut link) {
-            Ok(Some(message)) => check_message(rt, &message, body),
+            Ok(Some(message)) => {
+                check_message(rt, &message, body, is_last(number, bodies.len(), end));
+            }
             _ => panic!(rt; "a message is missing"),
         }
+    }
+    if end == End::Closed {
+        return Ok(());
     }
     check_end(rt, wire.next(alloc, &mut link), end);
     check_end(rt, wire.next(alloc, &mut link), End::Finished);
@@ -116,8 +367,8 @@ fn check_stream(
     assert_eq!(rt; found, end);
     assert_eq!(rt; there_is_a_reading(stream), end);
     assert_eq!(rt; messages.len(), bodies.len());
-    for (message, body) in messages.iter().zip(bodies.iter()) {
-        check_message(rt, message, body);
+    for (number, (message, body)) in messages.iter().zip(bodies.iter()).enumerate() {
+        check_message(rt, message, body, is_last(number, bodies.len(), end));
     }
     Ok(())
 }
@@ -129,76 +380,83 @@ fn messages_are_the_same_in_any_cut(rt: HostRuntime) -> Result<(), Fail> {
     check_stream(&rt, alloc, b"", &[], End::Finished)?;
     check_stream(&rt, alloc, one, &[b"{}"], End::Finished)?;
     let three = three_messages(alloc)?;
-    check_stream(
-        &rt,
-        alloc,
-        three.as_slice(),
-        &[b"{}", b"abc", b"{}"],
-        End::Finished,
-    )?;
+    let bodies: [&[u8]; 3] = [b"{}", b"abc", b"{}"];
+    check_stream(&rt, alloc, three.as_slice(), &bodies, End::Finished)?;
     let behind = joined(alloc, one, b"\r\n")?;
     check_stream(&rt, alloc, behind.as_slice(), &[b"{}"], cut_short(2))?;
-    let other = joined(alloc, one, b"GET / HTTP/1.1\r\n\r\n")?;
-    check_stream(
-        &rt,
-        alloc,
-        other.as_slice(),
-        &[b"{}"],
-        End::Fault(WireFault::Unread),
-    )?;
+    let closed = joined(alloc, one, b"GET / HTTP/1.1\r\n\r\n\0")?;
+    check_stream(&rt, alloc, closed.as_slice(), &[b"{}", b""], End::Closed)?;
     let full = with_lines(alloc, 64)?;
     check_stream(&rt, alloc, full.as_slice(), &[b""], End::Finished)?;
+    let many = with_lines(alloc, 65)?;
+    let fault = End::Fault(WireFault::TooManyHeaders);
+    check_stream(&rt, alloc, many.as_slice(), &[], fault)
+}
+
+fn check_fault(rt: &impl Abort, alloc: Global, row: &(&[u8], WireFault)) -> Result<(), Fail> {
+    let end = End::Fault(row.1);
+    check_stream(rt, alloc, row.0, &[], end)?;
+    let behind = joined(alloc, ONE.as_bytes(), row.0)?;
+    check_stream(rt, alloc, behind.as_slice(), &[b"{}"], end)
+}
+
+#[test]
+fn the_first_fault_is_answered(rt: HostRuntime) -> Result<(), Fail> {
+    for row in &FAULTS {
+        check_fault(&rt, rt.alloc(), row)?;
+    }
+    Ok(())
+}
+
+fn check_said(rt: &impl Abort, alloc: Global, row: &Said) -> Result<(), Fail> {
+    let (stream, service, method, body, close) = *row;
+    let end = if close { End::Closed } else { End::Finished };
+    check_stream(rt, alloc, stream, &[body.as_bytes()], end)?;
+    let mut link = MemoryLink::new(alloc, cut(alloc, stream, 9)?, Vec::new(alloc))?;
+    let mut wire = Wire::new(alloc)?;
+    match wire.next(alloc, &mut link) {
+        Ok(Some(message)) => {
+            assert_eq!(rt; message.asked.service.as_slice(), service.as_bytes());
+            assert_eq!(rt; message.asked.method.as_slice(), method.as_bytes());
+            check_message(rt, &message, body.as_bytes(), close);
+        }
+        _ => panic!(rt; "a message is missing"),
+    }
     Ok(())
 }
 
 #[test]
-fn other_forms_are_unread(rt: HostRuntime) -> Result<(), Fail> {
+fn methods_versions_and_connections_close(rt: HostRuntime) -> Result<(), Fail> {
+    for row in &SAID {
+        check_said(&rt, rt.alloc(), row)?;
+    }
+    Ok(())
+}
+
+/// A head of so many bytes, with its end.
+fn long_head(alloc: Global, size: usize) -> Result<Vec<u8>, AllocError> {
+    let mut head = Vec::from_slice(alloc, b"GET / HTTP/1.1\r\nX: ")?;
+    head.resize(size.max(4) - 4, b'a')?;
+    head.extend_from_slice(b"\r\n\r\n")?;
+    Ok(head)
+}
+
+#[test]
+fn heads_have_a_limit(rt: HostRuntime) -> Result<(), Fail> {
     let alloc = rt.alloc();
-    for headers in [
-        "",
-        "Content-Length: 2\r\nContent-Length: 2\r\n",
-        "Content-Length: 2\r\nTransfer-Encoding: chunked\r\n",
-        "Content-Length: 2\r\nconnection: x\r\n",
-        "Content-Length:\r\n",
-        "Content-Length: +2\r\n",
-        "Content-Length: 00000000002\r\n",
-        "Content-Length: 4194305\r\n",
-        "Content-Length : 2\r\n",
+    let too_long = End::Fault(WireFault::HeadTooLong);
+    for (size, whole, open) in [
+        (16383, End::Closed, cut_short(16383)),
+        (16384, End::Closed, too_long),
+        (16385, too_long, too_long),
     ] {
-        let stream = request(alloc, headers, "{}")?;
-        check_stream(
-            &rt,
-            alloc,
-            stream.as_slice(),
-            &[],
-            End::Fault(WireFault::Unread),
-        )?;
+        let head = long_head(alloc, size)?;
+        let bodies: &[&[u8]] = if whole == End::Closed { &[b""] } else { &[] };
+        check_stream(&rt, alloc, head.as_slice(), bodies, whole)?;
+        let bytes = vec![in alloc; b'a'; size]?;
+        check_stream(&rt, alloc, bytes.as_slice(), &[], open)?;
     }
-    for stream in [
-        b"GET / HTTP/1.1\r\n\r\n".as_slice(),
-        b"GET / HTTP/1.1\r\nContent-Length: 0\r\n\r\n".as_slice(),
-        b"POST / HTTP/1.0\r\nContent-Length: 0\r\n\r\n".as_slice(),
-        b"POST /\xff HTTP/1.1\r\nContent-Length: 0\r\n\r\n".as_slice(),
-        b"POST  HTTP/1.1\r\nContent-Length: 0\r\n\r\n".as_slice(),
-    ] {
-        check_stream(&rt, alloc, stream, &[], End::Fault(WireFault::Unread))?;
-    }
-    let many = with_lines(alloc, 65)?;
-    check_stream(
-        &rt,
-        alloc,
-        many.as_slice(),
-        &[],
-        End::Fault(WireFault::Unread),
-    )?;
-    let endless = vec![in alloc; b'a'; 16384]?;
-    check_stream(
-        &rt,
-        alloc,
-        endless.as_slice(),
-        &[],
-        End::Fault(WireFault::Unread),
-    )
+    Ok(())
 }
 
 #[test]
@@ -209,9 +467,7 @@ fn fronts_are_cut_short(rt: HostRuntime) -> Result<(), Fail> {
         check_stream(&rt, alloc, &one[..have], &[], cut_short(have))?;
     }
     let large = request(alloc, "Content-Length: 4194304\r\n", "{}")?;
-    check_stream(&rt, alloc, large.as_slice(), &[], cut_short(93))?;
-    let long = vec![in alloc; b'a'; 16383]?;
-    check_stream(&rt, alloc, long.as_slice(), &[], cut_short(16383))
+    check_stream(&rt, alloc, large.as_slice(), &[], cut_short(93))
 }
 
 #[test]
@@ -243,38 +499,87 @@ fn replies_are_written_whole(rt: HostRuntime) -> Result<(), Fail> {
     write_standin(&mut link, Standin::Spent, true)
         .ok()
         .expect(&rt, "it is written");
-    write_farewell(&mut link, &WireFault::Unread)
+    write_farewell(&mut link, &WireFault::NoLength)
         .ok()
         .expect(&rt, "it is written");
-    let fault = write_farewell(&mut link, &WireFault::Unread);
+    let fault = write_farewell(&mut link, &WireFault::NoLength);
     assert_eq!(rt; fault.err(), Some(WriteEnd::WriteFault));
     let end = write_response(&mut link, &answer, true);
     assert_eq!(rt; end.err(), Some(WriteEnd::SinkTakesNothing));
     let expected =
-        "HTTP/1.1 200 OK\r\nContent-Type: application/json\r\nX-Prpc-Grpc-Code: 0\r\nUpdate-Token: aaaaaaaaaaaaaaaaaaaaaaaaaaaaaaaaaaaaaaaaaaaaaaaaaaaaaaaaaaaaaaaa\r\nContent-Length: 2\r\n\r\n{}HTTP/1.1 429 Too Many Requests\r\nContent-Type: text/plain; charset=utf-8\r\nX-Prpc-Grpc-Code: 8\r\nConnection: close\r\nContent-Length: 6\r\n\r\nspent\nHTTP/1.1 400 Bad Request\r\nContent-Type: text/plain; charset=utf-8\r\nX-Prpc-Grpc-Code: 3\r\nConnection: close\r\nContent-Length: 15\r\n\r\nwire 11 Unread\n";
+        "HTTP/1.1 200 OK\r\nContent-Type: application/json\r\nX-Prpc-Grpc-Code: 0\r\nUpdate-Token: aaaaaaaaaaaaaaaaaaaaaaaaaaaaaaaaaaaaaaaaaaaaaaaaaaaaaaaaaaaaaaaa\r\nContent-Length: 2\r\n\r\n{}HTTP/1.1 429 Too Many Requests\r\nContent-Type: text/plain; charset=utf-8\r\nX-Prpc-Grpc-Code: 8\r\nConnection: close\r\nContent-Length: 6\r\n\r\nspent\nHTTP/1.1 400 Bad Request\r\nContent-Type: text/plain; charset=utf-8\r\nX-Prpc-Grpc-Code: 3\r\nConnection: close\r\nContent-Length: 16\r\n\r\nwire 4 NoLength\n";
     assert_eq!(rt; link.written(), expected.as_bytes());
     Ok(())
 }
 
+/// Each fault, its number, its name and its farewell.
+const FAREWELLS: [(WireFault, u8, &str, &str); 10] = [
+    (
+        WireFault::HeadTooLong,
+        1,
+        "HeadTooLong",
+        "\r\n\r\nwire 1 HeadTooLong\n",
+    ),
+    (
+        WireFault::TooManyHeaders,
+        2,
+        "TooManyHeaders",
+        "\r\n\r\nwire 2 TooManyHeaders\n",
+    ),
+    (
+        WireFault::BadHead { end: 1 },
+        3,
+        "BadHead",
+        "\r\n\r\nwire 3 BadHead\n",
+    ),
+    (
+        WireFault::NoLength,
+        4,
+        "NoLength",
+        "\r\n\r\nwire 4 NoLength\n",
+    ),
+    (
+        WireFault::TwoLengths,
+        5,
+        "TwoLengths",
+        "\r\n\r\nwire 5 TwoLengths\n",
+    ),
+    (
+        WireFault::TransferCoded,
+        6,
+        "TransferCoded",
+        "\r\n\r\nwire 6 TransferCoded\n",
+    ),
+    (
+        WireFault::BodyTooLong { said: 1 },
+        7,
+        "BodyTooLong",
+        "\r\n\r\nwire 7 BodyTooLong\n",
+    ),
+    (
+        WireFault::CutShort { have: 1 },
+        8,
+        "CutShort",
+        "\r\n\r\nwire 8 CutShort\n",
+    ),
+    (
+        WireFault::ReadFault,
+        9,
+        "ReadFault",
+        "\r\n\r\nwire 9 ReadFault\n",
+    ),
+    (
+        WireFault::Memory,
+        10,
+        "Memory",
+        "\r\n\r\nwire 10 Memory\n",
+    ),
+];
+
 #[test]
 fn each_fault_has_its_number_its_name_and_its_farewell(rt: HostRuntime) -> Result<(), Fail> {
     let alloc = rt.alloc();
-    for (fault, number, name, text) in [
-        (
-            WireFault::CutShort { have: 1 },
-            8,
-            "CutShort",
-            "\r\n\r\nwire 8 CutShort\n",
-        ),
-        (
-            WireFault::ReadFault,
-            9,
-            "ReadFault",
-            "\r\n\r\nwire 9 ReadFault\n",
-        ),
-        (WireFault::Memory, 10, "Memory", "\r\n\r\nwire 10 Memory\n"),
-        (WireFault::Unread, 11, "Unread", "\r\n\r\nwire 11 Unread\n"),
-    ] {
+    for (fault, number, name, text) in FAREWELLS {
         assert_eq!(rt; (fault.number(), fault.name()), (number, name));
         let mut link = MemoryLink::new(alloc, Vec::new(alloc), Vec::new(alloc))?;
         assert!(rt; write_farewell(&mut link, &fault).is_ok());
@@ -282,6 +587,7 @@ fn each_fault_has_its_number_its_name_and_its_farewell(rt: HostRuntime) -> Resul
     }
     one_reading();
     front_of_reading();
+    first_form_is_read();
     Ok(())
 }
 
