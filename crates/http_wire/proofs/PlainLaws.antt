@@ -164,8 +164,7 @@ pub some_more : (stream rest now : List ℕ) (head before : ℕ) (r : Request) �
 some_more stream rest now head before r x first goes is =
     let body = take r.len (drop head rest) in
     let there = message_for first.h body in
-    let m = there.0 in
-    (
+    let m = there.0 in (
       x.0 ++ m ∷ [],
       subst (λ z. SoFar stream (x.0 ++ m ∷ []) (before + 1) z) (sym is)
           (so_far_more stream x.0 before rest m head r body x.1 first (first.message m there.1) there.1 goes),

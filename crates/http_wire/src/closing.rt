@@ -50,5 +50,7 @@ fn is_close(element: &[u8]) -> bool
 pub fn has_close(value: &[u8]) -> bool
     ensures { result ≡ has_close value.now }
 {
-    value.split(|byte| *byte == b',').any(|element| is_close(element))
+    value
+        .split(|byte| *byte == b',')
+        .any(|element| is_close(element))
 }

