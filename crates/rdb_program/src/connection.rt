@@ -9,9 +9,7 @@ ghost use Rattle.rdb_program.specs.Closing.{Closes, LeavesWire};
 
 use crate::ending::Cause;
 use call_forms::{Standin, Told};
-use http_wire::{
-    Message, Wire, WireFault, closes, write_farewell, write_response, write_standin,
-};
+use http_wire::{Message, Wire, WireFault, closes, write_farewell, write_response, write_standin};
 use outside::{Link, WriteEnd};
 use record_desk::Teller;
 use std::alloc::Global;

@@ -61,8 +61,7 @@ const DENIED: &str =
 
 const NO_METHOD: &str = "12\r\nConnection: close\r\nContent-Length: 14\r\n\r\n1 NoMethod: /\n";
 
-const NO_METHOD_X: &str =
-    "12\r\nConnection: close\r\nContent-Length: 15\r\n\r\n1 NoMethod: /x\n";
+const NO_METHOD_X: &str = "12\r\nConnection: close\r\nContent-Length: 15\r\n\r\n1 NoMethod: /x\n";
 
 const WIRE_4: &str = "3\r\nConnection: close\r\nContent-Length: 16\r\n\r\nwire 4 NoLength\n";
 
