@@ -307,7 +307,7 @@ fn cut_short(have: usize) -> End {
 
 /// Whether the message of this number, of so many before this end, closes.
 fn is_last(number: usize, count: usize, end: End) -> bool {
-    end == End::Closed && number + 1 >= count
+    end == End::Closed && number >= count.saturating_sub(1)
 }
 
 /// Reads a stream that comes in pieces of a size.

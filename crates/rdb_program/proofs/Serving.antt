@@ -10,6 +10,7 @@ use Rattle.outside.specs.declared.whole.WriteEnd.TheVariants as write_ends
 use Rattle.outside.proofs.Taken.{gave_nothing, gave_both, took_nothing, took_both}
 use Rattle.call_forms.specs.declared.forms.Told.{Told}
 use Rattle.record_desk.specs.Exchange.{Exchange}
+use Rattle.http_wire.specs.Head.{head_limit}
 use Rattle.http_wire.specs.WireState.{WireState}
 use Rattle.http_wire.specs.Held.{Reading}
 use Rattle.http_wire.specs.Stream.{IsMessage, Spells, StayOpen, closes, reply_limit}
@@ -243,9 +244,9 @@ ended asked before now after wire wire' n few s reading same =
 -- One message more was answered, which closes the connection, and its reply was written whole.
 pub finished : (asked asked' : List Exchange → Type 0) (is_told : Told → Type 0) (before now then : Ends) (wire wire' : WireState) (n : ℕ) (m : Message)
     → n < reply_limit → closes n m ≡ true → Serving asked before wire n now → Reading wire now.incoming (Ok (Some m)) then.incoming wire'
-    → Answers is_told (closes n m) now.outgoing (Ok tt) then.outgoing → Extends asked m is_told asked'
+    → length wire'.held ≤ head_limit → Answers is_told (closes n m) now.outgoing (Ok tt) then.outgoing → Extends asked m is_told asked'
     → Connection asked' before causes.Closed then
-finished asked asked' is_told before now then wire wire' n m few last s reading answers extends =
+finished asked asked' is_told before now then wire wire' n m few last s reading short answers extends =
     let t : Turn = record { message = m; told = answers.told } in
     let bytes = reading.answer.0 in
     record {
@@ -270,7 +271,7 @@ finished asked asked' is_told before now then wire wire' n m few last s reading 
       };
       last_is = (refl, refl);
       last_write = refl;
-      rest_is = tt;
+      rest_is = short;
       reads = reading.faults ∙ s.reads;
     }
 

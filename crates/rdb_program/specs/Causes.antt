@@ -1,11 +1,12 @@
 -- Why a connection ends, and what that comes to: one row for each cause.
-use Rattle.std.specs.Prelude.{◌≡◌, ◌≢◌, ℕ, ◌≤◌, ◌⊎◌, List, [], ◌++◌, codes, decimal, true, Option, Some, None, Result, Ok, Err}
+use Rattle.std.specs.Prelude.{◌≡◌, ◌≢◌, ℕ, ◌≤◌, ◌⊎◌, List, [], ◌++◌, length, codes, decimal, true, Option, Some, None, Result, Ok, Err}
 use Rattle.outside.specs.Bytes.{IsEnd}
 use Rattle.fault_counts.specs.Causes.{Rose}
 use Rattle.outside.specs.declared.whole.WriteEnd.{WriteEnd}
 use Rattle.outside.specs.declared.whole.WriteEnd.TheVariants as write_ends
 use Rattle.call_forms.specs.ReplyBytes.{standin_bytes}
 use Rattle.call_forms.specs.declared.forms.Standin.TheVariants as standins
+use Rattle.http_wire.specs.Head.{head_limit}
 use Rattle.http_wire.specs.Out.{fault_number, fault_name, farewell_bytes}
 use Rattle.http_wire.specs.Stream.{HasEnd, IsUndecided, StayOpen}
 use Rattle.http_wire.specs.declared.message.End.{End}
@@ -89,12 +90,13 @@ NothingLeft (stream_ends.Fault fault) left = Unit {0}
 abbrev pub ReachesEnd : End → List ℕ → Option (List ℕ) → Type 0
 ReachesEnd end rest left = HasEnd rest end × NothingLeft end left
 
--- What stands behind the messages in what was read. A read fails only where an end wasn't decided yet.
+-- What stands behind the messages in what was read. A read fails only where an end wasn't decided yet. Behind a message
+-- that closes no more was read than a head may have.
 abbrev pub IsRest : Cause → List ℕ → Option (List ℕ) → Type 0
 IsRest causes.ReadFault rest left = IsUndecided rest
 IsRest causes.End rest left = ReachesEnd stream_ends.Finished rest left
 IsRest (causes.Wire fault) rest left = ReachesEnd (stream_ends.Fault fault) rest left
-IsRest causes.Closed rest left = Unit {0}
+IsRest causes.Closed rest left = length rest ≤ head_limit
 IsRest causes.WriteFault rest left = Unit {0}
 IsRest causes.Memory rest left = Unit {0}
 IsRest causes.SinkTakesNothing rest left = Unit {0}

@@ -29,7 +29,7 @@ returns-then-close-clause-connection g c =
     let m = c.in-Ok-Some.message in
     let reading = rw c.in-Ok-Some.field-0-is at (c.in-Ok-Some.ensures.reading s.is_open) in
     finished _ _ _ _ _ _ _ _ _ m c.messages.invariant.few (sym c.closes-close.ensures ∙ c.if-close.true) s
-    (reading_to _ _ _ _ _ _ c.answer_message.ensures.only reading)
+    (reading_to _ _ _ _ _ _ c.answer_message.ensures.only reading) c.in-Ok-Some.ensures.bounded
     (answers_from _ _ _ _ _ _ _ c.closes-close.ensures c.next.ensures.only c.in_default.ensures.answers)
     (stands_more g.T.Teller.stands c.args.teller.now c.messages.teller c.answer_message.new.teller m)
 
