@@ -7,13 +7,18 @@ of the stored reply, after it was seen that the create time is no earlier than t
 back as it was sent. Each run has ended by itself before its output is looked at.
 """
 
+import contextlib
 import datetime
+import http.client
 import os
 import pathlib
 import re
+import shutil
+import socket
 import subprocess
 import sys
 import tempfile
+import threading
 import time
 
 TOP = pathlib.Path(__file__).resolve().parent.parent
@@ -201,6 +206,146 @@ def words_in_another_spelling(folder):
     expect((done.stdout, done.stderr, done.returncode), example("no-caller", "reply"), b"", 0)
 
 
+def farewell(number, name):
+    body = b"wire %d %s\n" % (number, name)
+    return (
+        b"HTTP/1.1 400 Bad Request\r\nContent-Type: text/plain; charset=utf-8\r\nX-Prpc-Grpc-Code: 3\r\n"
+        b"Connection: close\r\nContent-Length: %d\r\n\r\n%s" % (len(body), body)
+    )
+
+
+def not_implemented(target):
+    body = b"1 NoMethod: %s\n" % target
+    return (
+        b"HTTP/1.1 501 Not Implemented\r\nContent-Type: text/plain; charset=utf-8\r\nX-Prpc-Grpc-Code: 12\r\n"
+        b"Connection: close\r\nContent-Length: %d\r\n\r\n%s" % (len(body), body)
+    )
+
+
+def hostile_streams(folder):
+    """Streams that are no messages, or barely: each with its exact bytes and status."""
+    post, length = b"POST /x HTTP/1.1\r\n", b"Content-Length: 0\r\n"
+    filled = b"GET / HTTP/1.1\r\nX: "
+    bad = (3, b"BadHead")
+    for stream, fault in (
+        (filled + b"a" * (16383 - len(filled)), (8, b"CutShort")),
+        (filled + b"a" * (16384 - len(filled)), (1, b"HeadTooLong")),
+        (filled + b"a" * (16384 - 4 - len(filled)) + b"\r\n\r\n", None),
+        (filled + b"a" * (16385 - 4 - len(filled)) + b"\r\n\r\n", (1, b"HeadTooLong")),
+        (b"GET / HTTP/1.1\r\n" + b"X: y\r\n" * 64 + b"\r\n", None),
+        (b"GET / HTTP/1.1\r\n" + b"X: y\r\n" * 65 + b"\r\n", (2, b"TooManyHeaders")),
+        (post + b"X: a\r\n b\r\n" + length + b"\r\n", bad),
+        (post + b"X: a\rb\r\n" + length + b"\r\n", bad),
+        (post + b"X: a\0b\r\n" + length + b"\r\n", bad),
+        (post + b"Content-Length: 00000000000\r\n\r\n", bad),
+        (post + b"Content-Length: +5\r\n\r\nhello", bad),
+        (b"POST /x HTTP/1.2\r\n" + length + b"\r\n", bad),
+        (b"PRI * HTTP/2.0\r\n\r\nSM\r\n\r\n", bad),
+        (post + b"\r\n", (4, b"NoLength")),
+        (post + length + length + b"\r\n", (5, b"TwoLengths")),
+        (post + length + b"Content-Length: 1\r\n\r\n", (5, b"TwoLengths")),
+        (post + length + b"Transfer-Encoding: chunked\r\n\r\n", (6, b"TransferCoded")),
+        (post + b"Content-Length: 4194305\r\n\r\n", (7, b"BodyTooLong")),
+        (post + b"Content-Length: 4194304\r\n\r\n", (8, b"CutShort")),
+        (b"get / HTTP/1.1\r\n\r\n" + post, None),
+        (b"GET / HTTP/1.0\r\n\r\n" + post, None),
+        (b"GET / HTTP/1.1\r\nContent-Length: 4\r\n\r\nPOST", None),
+        (b"\r\n\n\r\nGET / HTTP/1.1\r\n\r\n", None),
+        (b"\r\n", (8, b"CutShort")),
+        (b"GET", (8, b"CutShort")),
+    ):
+        if fault is None:
+            expect(run(stream, folder), not_implemented(b"/"), b"", 0)
+        else:
+            reply = b"" if fault[0] == 8 else farewell(*fault)
+            expect(run(stream, folder), reply, b"rdb: wire %d %s\n" % fault, 8)
+
+
+CALL = "/prpc/luci.resultdb.v1.Recorder/CreateInvocation"
+CREATE = b'{"invocationId":"u-a","invocation":{"realm":"proj:ci"}}'
+BEARER = {"Authorization": "Bearer tok-a"}
+
+
+@contextlib.contextmanager
+def listening(folder):
+    """A listener on this machine that starts the program for one connection; it yields its port."""
+    with socket.create_server(("127.0.0.1", 0)) as server:
+        server.settimeout(SECONDS)
+        ended = []
+
+        def serve():
+            link, _ = server.accept()
+            with link:
+                program = subprocess.Popen(words(folder), stdin=link, stdout=link, stderr=subprocess.PIPE)
+            ended.append((program.communicate(timeout=SECONDS)[1], program.returncode))
+
+        thread = threading.Thread(target=serve)
+        thread.start()
+        try:
+            yield server.getsockname()[1]
+        finally:
+            thread.join(SECONDS)
+    if ended != [(b"", 0)]:
+        raise Wrong(f"the program ended by {ended!r}")
+
+
+def status_of(reply, wanted, starts):
+    body = reply.read()
+    if reply.status != wanted or not body.startswith(starts):
+        raise Wrong(f"got {reply.status} {body!r}, wanted {wanted} {starts!r}")
+
+
+def a_client_of_the_library(folder):
+    """Python's http.client over one connection: each reply comes before the next request is sent."""
+    with listening(folder) as port:
+        client = http.client.HTTPConnection("127.0.0.1", port, timeout=SECONDS)
+        client.request("POST", CALL, CREATE, BEARER)
+        status_of(client.getresponse(), 200, b")]}'\n{")
+        client.request("POST", CALL, CREATE, BEARER)
+        status_of(client.getresponse(), 409, b"19 Taken: invocations/u-a\n")
+        client.request("GET", "/")
+        reply = client.getresponse()
+        if reply.getheader("Connection") != "close":
+            raise Wrong("the connection stays open")
+        status_of(reply, 501, b"1 NoMethod: /\n")
+        client.close()
+
+
+def a_plain_socket(folder):
+    """A client that waits for the first reply before it sends the second request, and then ends its side."""
+    request = b"POST /x HTTP/1.1\r\nContent-Length: 2\r\n\r\n{}"
+    reply = not_implemented(b"/x").replace(b"Connection: close\r\n", b"")
+    with listening(folder) as port:
+        with socket.create_connection(("127.0.0.1", port), timeout=SECONDS) as link:
+            for _ in range(2):
+                link.sendall(request[:20])
+                link.sendall(request[20:])
+                got = b""
+                while len(got) < len(reply):
+                    got += link.recv(4096)
+                if got != reply:
+                    raise Wrong(f"got {got!r}")
+            link.shutdown(socket.SHUT_WR)
+            if link.recv(1):
+                raise Wrong("more than two replies")
+
+
+def a_call_by_curl(folder):
+    """curl, where it is installed."""
+    if not shutil.which("curl"):
+        return
+    with listening(folder) as port:
+        url = f"http://127.0.0.1:{port}{CALL}"
+        done = subprocess.run(
+            ["curl", "-sS", "--max-time", str(SECONDS), "-w", " %{http_code}", "-H", "Authorization: Bearer tok-a"]
+            + ["-d", CREATE.decode(), url],
+            capture_output=True,
+            timeout=SECONDS,
+        )
+        if not done.stdout.startswith(b")]}'\n{") or not done.stdout.endswith(b"} 200") or done.returncode:
+            raise Wrong(f"curl: {done!r}")
+
+
 CHECKS = {
     "one request": answers("create-invocation"),
     "three requests in one piece": answers("three-requests"),
@@ -214,7 +359,12 @@ CHECKS = {
     "the same bytes one at a time": a_byte_at_a_time,
     "an empty input": empty_input,
     "a request cut short": answers("cut-short", b"rdb: wire 8 CutShort\n", 8),
-    "another method": answers("other-method", b"rdb: wire 11 Unread\n", 8),
+    "another method": answers("other-method"),
+    "a message without a length": answers("no-length", b"rdb: wire 4 NoLength\n", 8),
+    "hostile streams": hostile_streams,
+    "a client of Python's library": a_client_of_the_library,
+    "a plain socket": a_plain_socket,
+    "a call by curl": a_call_by_curl,
     "a closed output": closed_output,
     "a full output": full_output,
     "refused words": refused_words,

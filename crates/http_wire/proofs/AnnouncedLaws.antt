@@ -1,31 +1,26 @@
--- From what httparse reads in a head to what the head announces.
-use Rattle.std.proofs.Common.{◌≡◌, ℕ, ◌≤◌, List, [], length, take, map, codes, Option, Some, Bool, true, false, sym, ap, ◌∙◌, subst, arith, append-nil}
-use Rattle.std.specs.Prelude.{◌↔◌, IsTrue}
+-- From what httparse reads in a head to what the head says.
+use Rattle.std.proofs.Common.{◌≡◌, ℕ, ◌<◌, ◌≤◌, List, [], ◌∷◌, length, take, map, codes, Option, Some, None, Bool, sym, ap, ◌∙◌, subst, arith, append-nil}
+use Rattle.std.specs.Prelude.{◌||◌, ◌==◌, not}
+use Rattle.std.specs.List.{list_any}
 use Rattle.std.specs.Option.{option_map}
-use Rattle.std.specs.Str.{IsUtf8}
+use Rattle.std.specs.Str.{IsUtf8, bytes_eq}
+use Rattle.std.proofs.lemmas.Bool.{lt-ltb, le-ltb}
 use Rattle.httparse.specs.declared.spans.HeaderSpan.{HeaderSpan}
 use Rattle.httparse.specs.declared.spans.RequestSpans.{RequestSpans}
 use Rattle.httparse.specs.Grammar.{RequestHead, print_request, ReadsRequest}
-use Rattle.httparse.specs.Spans.{IsRequestAt, header_bytes, name_and_value, span_bytes}
-use Rattle.httparse.proofs.GrammarLemmas.{request_unique}
-use Rattle.http_wire.specs.Form.{AnnounceLength, values_of}
+use Rattle.httparse.specs.Spans.{IsRequestAt, header_bytes, span_bytes}
+use Rattle.http_wire.specs.Form.{values_of, fields_of, has_close, length_of, is_post}
+use Rattle.http_wire.specs.Faults.{Sign, first_there, length_signs, field_signs, head_signs, header_limit}
+use Rattle.http_wire.specs.Found.{AreFound}
 use Rattle.http_wire.specs.Says.{IsTheText, IsAlone, IsBearer}
+use Rattle.http_wire.specs.Stream.{IsRead}
+use Rattle.http_wire.specs.declared.fields.Fields.{Fields}
+use Rattle.http_wire.specs.declared.message.WireFault.{WireFault}
+use Rattle.http_wire.specs.declared.message.WireFault.TheVariants.{TooManyHeaders, BadHead}
 use Rattle.http_wire.specs.declared.request.Request.{Request}
-use Rattle.http_wire.specs.Announced.{Announced, NotAnnounced, IsSaid, IsRequest}
+use Rattle.http_wire.specs.Announced.{IsSaid, IsRequest, IsFaulty}
 use Rattle.http_wire.specs.Scan.{head_end}
 use Rattle.http_wire.proofs.RequestLaws.{request_ends}
-
-reads : (head : List ℕ) (len : ℕ) (a : Announced head len) → ReadsRequest head a.h []
-reads head len a = (a.head, a.printed ∙ sym (append-nil (print_request a.h)))
-
--- a head of the form has the lines that the search counts
-pub announced_lines : (head : List ℕ) (n lines len : ℕ) → head_end head ≡ Some (n, lines) → Announced head len → lines ≤ 64
-announced_lines head n lines len e a =
-    let both : ◌≡◌ {A = Option (ℕ × ℕ)} (Some (n, lines)) (Some (length (print_request a.h), length a.h.fields)) = sym e ∙ request_ends head a.h [] (reads head len a) in
-    let pair : ◌≡◌ {A = ℕ × ℕ} (n, lines) (length (print_request a.h), length a.h.fields) = cc in
-    let same : lines ≡ length a.h.fields = ap (λ (p : ℕ × ℕ). p.1) pair in
-    let few = a.form.lines in
-    omega (arith, same, few)
 
 pub read_lines : (head : List ℕ) (n lines : ℕ) (h : RequestHead) → head_end head ≡ Some (n, lines) → ReadsRequest head h [] → lines ≡ length h.fields
 read_lines head n lines h e x =
@@ -33,60 +28,89 @@ read_lines head n lines h e x =
     let pair : ◌≡◌ {A = ℕ × ℕ} (n, lines) (length (print_request h), length h.fields) = cc in
     ap (λ (p : ℕ × ℕ). p.1) pair
 
-pub same_head : (head : List ℕ) (h : RequestHead) (len : ℕ) → ReadsRequest head h [] → (a : Announced head len) → a.h ≡ h
-same_head head h len x a = (request_unique head a.h h [] [] (reads head len a) x).0
-
--- a POST of HTTP/1.1
-abbrev pub IsPost : List ℕ → RequestSpans → Type 0
-IsPost head r = (span_bytes head r.method ≡ codes "POST") × (r.version ≡ 1)
-
-pub not_post : (head : List ℕ) (headers : List HeaderSpan) (r : RequestSpans) (h : RequestHead) (len : ℕ) (b : Bool) → IsRequestAt head headers r h
-    → ReadsRequest head h [] → (IsTrue b ↔ IsPost head r) → b ≡ false → ¬ (Announced head len)
-not_post head headers r h len b at x test other a =
-    let same = same_head head h len x a in
-    let yes : b ≡ true = test.1 (at.method ∙ ap (λ g. g.method) (sym same) ∙ a.form.method, at.version ∙ ap (λ g. g.minor) (sym same) ∙ a.form.version) in
-    cc
-
 -- a head's target is text
 pub target_text : (head : List ℕ) (headers : List HeaderSpan) (r : RequestSpans) (h : RequestHead) → IsRequestAt head headers r h → ReadsRequest head h []
     → IsUtf8 (span_bytes head r.path)
 target_text head headers r h at x = subst IsUtf8 (sym at.path) x.0.target_text
 
--- the fields announce no length
-pub not_announced : (head : List ℕ) (headers : List HeaderSpan) (r : RequestSpans) (h : RequestHead) → IsRequestAt head headers r h → ReadsRequest head h []
-    → ((len : ℕ) → ¬ (AnnounceLength (map (header_bytes head) (take r.headers headers)) len)) → NotAnnounced head
-not_announced head headers r h at x none = λ len a.
-    none len (subst (λ fs. AnnounceLength fs len) (ap (λ (g : RequestHead). map name_and_value g.fields) (same_head head h len x a) ∙ sym at.fields) a.form.fields)
+-- ---- faults
 
--- what stands under the names says what the head says
-said_by : (head : List ℕ) (headers : List HeaderSpan) (r : RequestSpans) (h : RequestHead) (s : Request) → IsRequestAt head headers r h
-    → s.target.now ≡ span_bytes head r.path
-    → IsTheText (IsBearer (values_of (codes "authorization") (map (header_bytes head) (take r.headers headers)))) (option_map (λ t. t.now) s.bearer)
-    → IsTheText (IsAlone (values_of (codes "update-token") (map (header_bytes head) (take r.headers headers)))) (option_map (λ t. t.now) s.update_token)
-    → IsSaid h s
-said_by head headers r h s at target bearer token = record {
-  target = target ∙ at.path;
-  bearer = subst (λ fs. IsTheText (IsBearer (values_of (codes "authorization") fs)) (option_map (λ t. t.now) s.bearer)) at.fields bearer;
-  update_token = subst (λ fs. IsTheText (IsAlone (values_of (codes "update-token") fs)) (option_map (λ t. t.now) s.update_token)) at.fields token;
+pub too_many : (head : List ℕ) (lines : ℕ) → header_limit < lines → IsFaulty head lines TooManyHeaders
+too_many head lines many = record {
+  read = None;
+  is_read = λ few. absurd (omega (arith, few, many));
+  first = rw (lt-ltb header_limit lines many);
 }
 
-pub request_by : (head : List ℕ) (headers : List HeaderSpan) (r : RequestSpans) (h : RequestHead) (s : Request) → IsRequestAt head headers r h
-    → ReadsRequest head h [] → length h.fields ≤ 64 → IsPost head r → AnnounceLength (map (header_bytes head) (take r.headers headers)) s.len
+pub bad_head : (head : List ℕ) (lines end : ℕ) → lines ≤ header_limit → ((h : RequestHead) → ¬ (ReadsRequest head h [])) → end ≡ length head
+    → IsFaulty head lines (BadHead end)
+bad_head head lines end few none is =
+    subst (λ n. IsFaulty head lines (BadHead n)) (sym is) (record {
+      read = None;
+      is_read = λ low h is_head printed. none h (is_head, printed ∙ sym (append-nil (print_request h)));
+      first = rw (le-ltb header_limit lines few);
+    })
+
+-- the fields that were found, and those of the head
+abbrev pub found_in : List ℕ → List HeaderSpan → RequestSpans → List (List ℕ × List ℕ)
+found_in head headers r = map (header_bytes head) (take r.headers headers)
+
+abbrev signs_at : Bool → ℕ → List (List ℕ × List ℕ) → List Sign
+signs_at post end fields = length_signs post end (values_of (codes "content-length") fields) (values_of (codes "transfer-encoding") fields)
+
+behind_lines : (end lines : ℕ) (h : RequestHead) → lines ≤ header_limit → first_there (field_signs end h) ≡ first_there (head_signs end lines (Some h))
+behind_lines end lines h few = rw (le-ltb header_limit lines few)
+
+signs_same : (head : List ℕ) (headers : List HeaderSpan) (r : RequestSpans) (h : RequestHead) (lines : ℕ) (post : Bool) → IsRequestAt head headers r h
+    → lines ≤ header_limit → post ≡ bytes_eq (span_bytes head r.method) (codes "POST")
+    → first_there (signs_at post (length head) (found_in head headers r)) ≡ first_there (head_signs (length head) lines (Some h))
+signs_same head headers r h lines post at few is =
+    ap (λ b. first_there (signs_at b (length head) (found_in head headers r))) (is ∙ ap (λ m. bytes_eq m (codes "POST")) at.method)
+    ∙ ap (λ fs. first_there (signs_at (is_post h) (length head) fs)) at.fields
+    ∙ behind_lines (length head) lines h few
+
+pub read_of : (head : List ℕ) (lines : ℕ) (h : RequestHead) → lines ≤ header_limit → ReadsRequest head h [] → IsRead head lines (Some h)
+read_of head lines h few x = (few, x.0, x.1 ∙ append-nil (print_request h))
+
+-- the fields have this fault
+pub faulty_fields : (head : List ℕ) (headers : List HeaderSpan) (r : RequestSpans) (h : RequestHead) (lines : ℕ) (post : Bool) (fault : WireFault)
+    → IsRequestAt head headers r h → ReadsRequest head h [] → lines ≤ header_limit → post ≡ bytes_eq (span_bytes head r.method) (codes "POST")
+    → first_there (signs_at post (length head) (found_in head headers r)) ≡ Some fault → IsFaulty head lines fault
+faulty_fields head headers r h lines post fault at x few is first = record {
+  read = Some h;
+  is_read = read_of head lines h few x;
+  first = sym (signs_same head headers r h lines post at few is) ∙ first;
+}
+
+-- ---- what is said
+
+closes_same : (head : List ℕ) (headers : List HeaderSpan) (r : RequestSpans) (h : RequestHead) (post close : Bool) → IsRequestAt head headers r h
+    → post ≡ bytes_eq (span_bytes head r.method) (codes "POST") → close ≡ list_any has_close (values_of (codes "connection") (found_in head headers r))
+    → (not post || r.version == 0 || close) ≡ (not (is_post h) || h.minor == 0 || list_any has_close (values_of (codes "connection") (fields_of h)))
+closes_same head headers r h post close at is found =
+    ap (λ b. not b || r.version == 0 || close) (is ∙ ap (λ m. bytes_eq m (codes "POST")) at.method)
+    ∙ ap (λ (v : ℕ). not (is_post h) || v == 0 || close) at.version
+    ∙ ap (λ b. not (is_post h) || h.minor == 0 || b) (found ∙ ap (λ fs. list_any has_close (values_of (codes "connection") fs)) at.fields)
+
+-- what stands under the names says what the head says
+pub request_by : (head : List ℕ) (headers : List HeaderSpan) (r : RequestSpans) (h : RequestHead) (lines : ℕ) (s : Request) (close : Bool) → IsRequestAt head headers r h
+    → ReadsRequest head h [] → lines ≤ header_limit → s.is_post ≡ bytes_eq (span_bytes head r.method) (codes "POST")
+    → close ≡ list_any has_close (values_of (codes "connection") (found_in head headers r)) → s.close ≡ (not s.is_post || r.version == 0 || close)
+    → (first_there (signs_at s.is_post (length head) (found_in head headers r)) ≡ None) × (s.len ≡ length_of (values_of (codes "content-length") (found_in head headers r)))
     → s.target.now ≡ span_bytes head r.path
-    → IsTheText (IsBearer (values_of (codes "authorization") (map (header_bytes head) (take r.headers headers)))) (option_map (λ t. t.now) s.bearer)
-    → IsTheText (IsAlone (values_of (codes "update-token") (map (header_bytes head) (take r.headers headers)))) (option_map (λ t. t.now) s.update_token)
-    → IsRequest head s
-request_by head headers r h s at x few post some target bearer token = record {
-  announced = record {
-    h = h;
-    head = x.0;
-    form = record {
-      method = sym at.method ∙ post.0;
-      version = sym at.version ∙ post.1;
-      lines = few;
-      fields = subst (λ fs. AnnounceLength fs s.len) at.fields some;
-    };
-    printed = x.1 ∙ append-nil (print_request h);
+    → IsTheText (IsBearer (values_of (codes "authorization") (found_in head headers r))) (option_map (λ t. t.now) s.bearer)
+    → IsTheText (IsAlone (values_of (codes "update-token") (found_in head headers r))) (option_map (λ t. t.now) s.update_token)
+    → IsRequest head lines s
+request_by head headers r h lines s close at x few post found closes announced target bearer token = record {
+  h = h;
+  read = read_of head lines h few x;
+  sound = sym (signs_same head headers r h lines s.is_post at few post) ∙ announced.0;
+  len = announced.1 ∙ ap (λ fs. length_of (values_of (codes "content-length") fs)) at.fields;
+  said = record {
+    target = target ∙ at.path;
+    bearer = subst (λ fs. IsTheText (IsBearer (values_of (codes "authorization") fs)) (option_map (λ t. t.now) s.bearer)) at.fields bearer;
+    update_token = subst (λ fs. IsTheText (IsAlone (values_of (codes "update-token") fs)) (option_map (λ t. t.now) s.update_token)) at.fields token;
+    post = post ∙ ap (λ m. bytes_eq m (codes "POST")) at.method;
+    close = closes ∙ closes_same head headers r h s.is_post close at post found;
   };
-  said = said_by head headers r h s at target bearer token;
 }

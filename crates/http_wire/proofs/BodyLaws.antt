@@ -9,7 +9,7 @@ use Rattle.outside.proofs.Taken.{gave_both, gave_nothing}
 use Rattle.http_wire.specs.Held.{CountsRead}
 use Rattle.http_wire.specs.Reads.{ReadsAt, FillsBody, TakesBody}
 use Rattle.http_wire.specs.declared.message.WireFault.{WireFault}
-use Rattle.http_wire.specs.declared.message.WireFault.TheVariants.{CutShort, Unread, ReadFault, Memory}
+use Rattle.http_wire.specs.declared.message.WireFault.TheVariants.{CutShort, ReadFault}
 
 -- so many bytes of the body are there
 pub record Filling (start : List ℕ) (had : Incoming) (stored at : ℕ) (body : List ℕ) (left : Incoming) : Type 0 where
@@ -89,10 +89,8 @@ filled_all start body had left stored head at done f all = record {
 -- a count is the same whatever the call would have answered
 pub counted : (T U : Type 0) (before now : ℕ) (e : WireFault) → CountsRead {T = T} before (Err e) now
     → CountsRead {T = U} before (Err e) now
-counted T U before now (CutShort have) x = x
-counted T U before now Unread x = x
 counted T U before now ReadFault x = x
-counted T U before now Memory x = x
+counted T U before now fault x = x
 
 -- ---- a body taken from a stream
 

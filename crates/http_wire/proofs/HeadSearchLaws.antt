@@ -4,29 +4,28 @@ use Rattle.std.proofs.lemmas.List.{nil_from_length, take_at}
 use Rattle.std.proofs.lemmas.Bool.{eqb-true, eqb-false}
 use Rattle.outside.specs.Bytes.{IsEnd}
 use Rattle.outside.proofs.Taken.{gave_both, gave_nothing}
-use Rattle.http_wire.specs.Head.{HasNoHead, head_limit}
+use Rattle.http_wire.specs.Head.{head_limit}
 use Rattle.http_wire.specs.Scan.{head_end, Passed}
 use Rattle.outside.specs.Ends.{Incoming}
-use Rattle.http_wire.specs.Stream.{IsUnread, IsUndecided}
+use Rattle.http_wire.specs.Stream.{HasNoFront, HasFault, IsUndecided}
 use Rattle.http_wire.specs.Held.{CountsRead}
 use Rattle.http_wire.specs.Reads.{IsRead, Fills, FindsHead, IsHeadAnswer}
 use Rattle.http_wire.specs.declared.head_scan.Progress.{Progress}
 use Rattle.http_wire.specs.declared.head_scan.HeadEnd.{HeadEnd}
 use Rattle.http_wire.specs.declared.message.WireFault.{WireFault}
-use Rattle.http_wire.specs.declared.message.WireFault.TheVariants.{CutShort, ReadFault}
+use Rattle.http_wire.specs.declared.message.WireFault.TheVariants.{HeadTooLong, CutShort, ReadFault}
 use Rattle.http_wire.proofs.ScanLaws.{end_of_head, scan_nothing}
+use Rattle.http_wire.proofs.StreamLaws.{head_too_long, cut_in_head}
 
-pub no_head_passed : (bytes : List ℕ) (p : Progress) → Passed bytes p → HasNoHead bytes
-no_head_passed bytes p passed text rest count e head =
+pub no_head_passed : (bytes : List ℕ) (p : Progress) → Passed bytes p → HasNoFront bytes
+no_head_passed bytes p passed text rest count e short head =
     let found : head_end bytes ≡ Some (length text, count) = ap head_end e ∙ end_of_head text rest count head in
     let none : head_end bytes ≡ None = ap head_end (sym (append-nil bytes)) ∙ passed.goes [] ∙ scan_nothing p.place p.scanned p.lines in
     cc
 
-pub endless : (bytes : List ℕ) (p : Progress) → Passed bytes p → p.scanned ≡ head_limit → IsUnread bytes
-endless bytes p passed full = inr (record {
-  long = let scanned = passed.scanned in omega (arith, scanned, full);
-  no_head = λ text rest count e short head. no_head_passed bytes p passed text rest count e head;
-})
+pub endless : (bytes : List ℕ) (p : Progress) → Passed bytes p → p.scanned ≡ head_limit → HasFault bytes HeadTooLong
+endless bytes p passed full =
+    head_too_long bytes (no_head_passed bytes p passed) (let scanned = passed.scanned in omega (arith, scanned, full))
 
 -- Where the end wasn't found, and the room isn't full, more has to be read.
 pub undecided_passed : (bytes : List ℕ) (p : Progress) → Passed bytes p → p.scanned ≢ head_limit → length bytes ≤ head_limit
@@ -35,10 +34,9 @@ undecided_passed bytes p passed less short =
     undecided bytes (no_head_passed bytes p passed)
     (let scanned = passed.scanned in omega (arith, scanned, less, short))
   where
-    undecided : (bytes : List ℕ) → HasNoHead bytes → length bytes < head_limit → IsUndecided bytes
+    undecided : (bytes : List ℕ) → HasNoFront bytes → length bytes < head_limit → IsUndecided bytes
     undecided [] none few = inl refl
-    undecided (b ∷ bs) none few =
-        inr (record { some = λ (e : b ∷ bs ≡ []). cc; count = refl; inside = inl (few, none) })
+    undecided (b ∷ bs) none few = inr (cut_in_head (b ∷ bs) none few (λ (e : b ∷ bs ≡ []). cc))
 
 -- What a search has read. It read nothing where what was held decides.
 pub record Searched (held : List ℕ) (had : Incoming) (now : List ℕ) (left : Incoming) : Type 0 where
@@ -104,7 +102,7 @@ ended bytes n left true e many undecided end =
     (nil_from_length bytes (sym many ∙ eqb-true n 0 e), end)
 ended bytes n left false e many (inl nothing) end = absurd (eqb-false n 0 e (many ∙ ap length nothing))
 ended bytes n left false e many (inr cut) end =
-    (record { some = cut.some; count = many; inside = cut.inside }, end)
+    (subst (λ k. HasFault bytes (CutShort k)) (sym many) cut, end)
 
 stays : (before now n : ℕ) (empty : Bool) → now ≡ before
     → CountsRead before (cond empty (Ok (let none : Option HeadEnd = None in none)) (Err (CutShort n))) now

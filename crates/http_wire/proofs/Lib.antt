@@ -3,11 +3,14 @@ pub mod ScanLaws
 pub mod RequestLaws
 pub mod FieldLaws
 pub mod SaysLaws
+pub mod FaultLaws
 pub mod StreamLaws
 pub mod DigitLaws
+pub mod LengthLaws
 pub mod AnnouncedLaws
 pub mod BufferLaws
 pub mod HeadSearchLaws
 pub mod BodyLaws
 pub mod NextLaws
 pub mod PlainLaws
+pub mod FirstFormLaws

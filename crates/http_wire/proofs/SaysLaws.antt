@@ -8,7 +8,8 @@ use Rattle.std.specs.Char.{to_ascii_lowercase}
 use Rattle.std.specs.Str.{str_eq_ignore_ascii_case}
 use Rattle.httparse.specs.Grammar.{RequestHead}
 use Rattle.http_routes.proofs.PartLaws.{one_call, CallOrNot, call_or_not}
-use Rattle.http_wire.specs.Says.{values_in, IsTheText, IsAlone, IsBearerValue, IsBearer, IsNamed, IsMessageOf}
+use Rattle.http_wire.specs.Form.{values_in, is_post, closes_after}
+use Rattle.http_wire.specs.Says.{IsTheText, IsAlone, IsBearerValue, IsBearer, IsNamed, IsMessageOf}
 use Rattle.http_wire.specs.declared.message.Message.{Message}
 
 -- fronts of one length of the same bytes
@@ -81,23 +82,24 @@ one_text Holds one None (Some t) x y = absurd (x t y)
 one_text Holds one (Some s) None x y = absurd (y s x)
 one_text Holds one (Some s) (Some t) x y = ap Some (one s t x y)
 
-one_name : (target s m t n : List ℕ) → IsNamed target s m → IsNamed target t n → (s ≡ t) × (m ≡ n)
-one_name target s m t n (inl x) (inl y) = one_call target s m t n x y
-one_name target s m t n (inl x) (inr y) = absurd (y.0 s m x)
-one_name target s m t n (inr x) (inl y) = absurd (x.0 t n y)
-one_name target s m t n (inr x) (inr y) = (x.1 ∙ sym y.1, x.2 ∙ sym y.2)
+one_name : (post : Bool) (target s m t n : List ℕ) → IsNamed post target s m → IsNamed post target t n → (s ≡ t) × (m ≡ n)
+one_name true target s m t n (inl x) (inl y) = one_call target s m t n x y
+one_name true target s m t n (inl x) (inr y) = absurd (y.0 s m x)
+one_name true target s m t n (inr x) (inl y) = absurd (x.0 t n y)
+one_name true target s m t n (inr x) (inr y) = (x.1 ∙ sym y.1, x.2 ∙ sym y.2)
+one_name false target s m t n x y = (x.0 ∙ sym y.0, x.1 ∙ sym y.1)
 
 pub one_message : (h : RequestHead) (body : List ℕ) (m n : Message) → IsMessageOf h body m → IsMessageOf h body n → m ≡ n
 one_message h body m n x y =
     let bearer = one_text (IsBearer (values_in (codes "authorization") h)) (one_bearer (values_in (codes "authorization") h)) m.asked.bearer n.asked.bearer x.bearer y.bearer in
     let token = one_text (IsAlone (values_in (codes "update-token") h)) (one_alone (values_in (codes "update-token") h)) m.asked.update_token n.asked.update_token
     x.update_token y.update_token in
-    let name = one_name h.target m.asked.service m.asked.method n.asked.service n.asked.method x.named y.named in
+    let name = one_name (is_post h) h.target m.asked.service m.asked.method n.asked.service n.asked.method x.named y.named in
     let service = name.0 in
     let method = name.1 in
     let same_body = x.body_is ∙ sym y.body_is in
     let target = x.target_is ∙ sym y.target_is in
-    let close = x.stays ∙ sym y.stays in
+    let close = x.close_is ∙ sym y.close_is in
     λ i. record {
       asked = record { bearer = bearer i; update_token = token i; service = service i; method = method i; body = same_body i };
       target = target i;
@@ -143,22 +145,23 @@ the_bearer values = by (the_alone values).0 (the_alone values).1
     by None none = (None, no_bearer values none)
     by (Some value) alone = ((the_token value).0, bearer_from values value (the_token value).0 alone (the_token value).1)
 
-the_name : (target : List ℕ) → (s : List ℕ) × (m : List ℕ) × IsNamed target s m
-the_name target = by (call_or_not target)
+the_name : (post : Bool) (target : List ℕ) → (s : List ℕ) × (m : List ℕ) × IsNamed post target s m
+the_name true target = by (call_or_not target)
   where
-    by : CallOrNot target → (s : List ℕ) × (m : List ℕ) × IsNamed target s m
+    by : CallOrNot target → (s : List ℕ) × (m : List ℕ) × IsNamed true target s m
     by (inl x) = (x.0, x.1, inl x.2)
     by (inr none) = ([], target, inr (none, refl, refl))
+the_name false target = ([], target, (refl, refl))
 
 pub message_for : (h : RequestHead) (body : List ℕ) → (m : Message) × IsMessageOf h body m
 message_for h body =
     let bearer = the_bearer (values_in (codes "authorization") h) in
     let token = the_alone (values_in (codes "update-token") h) in
-    let name = the_name h.target in (
+    let name = the_name (is_post h) h.target in (
       record {
         asked = record { bearer = bearer.0; update_token = token.0; service = name.0; method = name.1; body = body };
         target = h.target;
-        close = false;
+        close = closes_after h;
       },
-      record { bearer = bearer.1; update_token = token.1; named = name.2; body_is = refl; target_is = refl; stays = refl },
+      record { bearer = bearer.1; update_token = token.1; named = name.2; body_is = refl; target_is = refl; close_is = refl },
     )

@@ -1,10 +1,12 @@
--- The form of the messages that are read: which heads, and how long a body each of them announces.
-use Rattle.std.specs.Prelude.{◌≡◌, ℕ, ◌<◌, ◌≤◌, List, [], ◌∷◌, length, map, codes, if◌then◌else◌}
-use Rattle.std.specs.List.{flat_map}
-use Rattle.std.specs.Str.{str_eq_ignore_ascii_case}
-use Rattle.std.specs.Str.Parse.{AllDigits, digits_value}
-use Rattle.httparse.specs.Grammar.{RequestHead}
+-- What a head announces: how long a body follows it, and whether the connection ends after the reply.
+use Rattle.std.specs.Prelude.{ℕ, ◌==◌, ◌&&◌, ◌||◌, Bool, true, false, not, List, [], ◌∷◌, length, map, codes, nat_lt, nat_le, if◌then◌else◌}
+use Rattle.std.specs.List.{flat_map, list_any, slice_split}
+use Rattle.std.specs.Str.{bytes_eq, str_eq_ignore_ascii_case, all_ascii_digits}
+use Rattle.std.specs.Str.Parse.{digits_value}
+use Rattle.httparse.specs.Grammar.{RequestHead, trim_ows}
 use Rattle.httparse.specs.Spans.{name_and_value}
+
+-- ---- headers by name
 
 -- the value, where the name fits, ASCII case aside
 abbrev pub value_if : List ℕ → List ℕ × List ℕ → List (List ℕ)
@@ -14,29 +16,47 @@ value_if name field = if str_eq_ignore_ascii_case field.0 name then field.1 ∷ 
 abbrev pub values_of : List ℕ → List (List ℕ × List ℕ) → List (List ℕ)
 values_of name fields = flat_map (value_if name) fields
 
--- the text is 1 to 10 digits, and writes this number
-pub record IsLength (text : List ℕ) (len : ℕ) : Type 0 where
-  pub some : 0 < length text
-  pub few : length text ≤ 10
-  pub digits : AllDigits 10 text
-  pub number : len ≡ digits_value 10 text
+-- the names and the values of a head's fields
+abbrev pub fields_of : RequestHead → List (List ℕ × List ℕ)
+fields_of h = map name_and_value h.fields
+
+-- the values of a head's fields with a name
+abbrev pub values_in : List ℕ → RequestHead → List (List ℕ)
+values_in name h = values_of name (fields_of h)
+
+-- ---- the length of the body
+
+-- 1 to 10 digits
+abbrev pub is_length : List ℕ → Bool
+is_length text = nat_lt 0 (length text) && nat_le (length text) 10 && all_ascii_digits text
+
+-- the length that these values of Content-Length give: that of the one, and 0 where there is none
+abbrev pub length_of : List (List ℕ) → ℕ
+length_of [] = 0
+length_of (text ∷ texts) = digits_value 10 text
+
+-- the length of the body behind a head
+abbrev pub body_length : RequestHead → ℕ
+body_length h = length_of (values_in (codes "content-length") h)
 
 -- the most bytes that a body has
 abbrev pub body_limit : ℕ
 body_limit = 4194304
 
--- Among the fields is one Content-Length, which is this length, and neither Transfer-Encoding nor Connection.
-pub record AnnounceLength (fields : List (List ℕ × List ℕ)) (len : ℕ) : Type 0 where
-  pub text : List ℕ
-  pub one_length : values_of (codes "content-length") fields ≡ text ∷ []
-  pub is_length : IsLength text len
-  pub in_limit : len ≤ body_limit
-  pub no_coding : values_of (codes "transfer-encoding") fields ≡ []
-  pub no_connection : values_of (codes "connection") fields ≡ []
+-- ---- the end of the connection
 
--- a POST of HTTP/1.1, with at most 64 header lines, which announce a body of this length
-pub record IsForm (h : RequestHead) (len : ℕ) : Type 0 where
-  pub method : h.method ≡ codes "POST"
-  pub version : h.minor ≡ 1
-  pub lines : length h.fields ≤ 64
-  pub fields : AnnounceLength (map name_and_value h.fields) len
+abbrev pub is_post : RequestHead → Bool
+is_post h = bytes_eq h.method (codes "POST")
+
+-- the element `close`, in any case of its letters, with spaces and tabs around it
+abbrev pub is_close : List ℕ → Bool
+is_close element = str_eq_ignore_ascii_case (trim_ows element) (codes "close")
+
+-- one of the elements, which stand between commas, is `close` (RFC 9110, sections 5.6.1 and 7.6.1)
+abbrev pub has_close : List ℕ → Bool
+has_close value = list_any is_close (slice_split (λ b. b == 44) value)
+
+-- The connection ends after the reply: to a method that isn't POST, to HTTP/1.0, or where a Connection header says so
+-- (RFC 9112, section 9.6).
+abbrev pub closes_after : RequestHead → Bool
+closes_after h = not (is_post h) || h.minor == 0 || list_any has_close (values_in (codes "connection") h)

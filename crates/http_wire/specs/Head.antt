@@ -36,7 +36,3 @@ pub record IsHeadText (bytes : List ℕ) (count : ℕ) : Type 0 where
 -- the most bytes that a head has
 abbrev pub head_limit : ℕ
 head_limit = 16384
-
--- no front of the bytes is the text of a head
-abbrev pub HasNoHead : List ℕ → Type 0
-HasNoHead bytes = (text rest : List ℕ) (count : ℕ) → bytes ≡ text ++ rest → ¬ (IsHeadText text count)

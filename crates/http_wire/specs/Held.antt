@@ -9,7 +9,7 @@ use Rattle.http_wire.specs.Stream.{IsMessage, HasFault, IsUndecided}
 use Rattle.http_wire.specs.WireState.{WireState}
 use Rattle.http_wire.specs.declared.message.Message.{Message}
 use Rattle.http_wire.specs.declared.message.WireFault.{WireFault}
-use Rattle.http_wire.specs.declared.message.WireFault.TheVariants.{CutShort, Unread, ReadFault, Memory}
+use Rattle.http_wire.specs.declared.message.WireFault.TheVariants.{CutShort, ReadFault, Memory}
 
 -- the most bytes that a message has
 abbrev pub message_limit : ℕ
@@ -24,19 +24,17 @@ IsAnswer stream (Ok (Some m)) left held = (bytes : List ℕ) × IsMessage bytes 
 IsAnswer stream (Ok None) left held = (stream ≡ []) × (held ≡ []) × IsEnd left
 -- the input ended where a message isn't whole
 IsAnswer stream (Err (CutShort have)) left held = HasFault stream (CutShort have) × IsEnd left
--- no more was read than a head may have
-IsAnswer stream (Err Unread) left held = HasFault stream Unread × (length stream ≤ head_limit)
 -- a read failed where more had to be read
 IsAnswer stream (Err ReadFault) left held = IsUndecided stream
 IsAnswer stream (Err Memory) left held = Unit {0}
+-- the stream has another fault, and no more was read than a head may have
+IsAnswer stream (Err fault) left held = HasFault stream fault × (length stream ≤ head_limit)
 
 -- A read fault raised the count of failed reads, and every other answer leaves it as it was.
 abbrev pub CountsRead : {T : Type 0} → ℕ → Result T WireFault → ℕ → Type 0
 CountsRead before (Ok value) now = now ≡ before
-CountsRead before (Err (CutShort have)) now = now ≡ before
-CountsRead before (Err Unread) now = now ≡ before
 CountsRead before (Err ReadFault) now = (before ≤ now) × Rose before now
-CountsRead before (Err Memory) now = now ≡ before
+CountsRead before (Err fault) now = now ≡ before
 
 -- A call on an open wire: what it read, and what it answered to that behind what was held. A fault closes the wire, and
 -- nothing else does. Nothing is read where what is held decides, and never more than a message.

@@ -1,22 +1,32 @@
--- What a connection's peer gets.
-use Rattle.std.specs.Prelude.{ℕ, List, [], ◌∷◌, ◌++◌, true, codes, decimal}
-use Rattle.call_forms.specs.ReplyBytes.{plain_reply, told_bytes}
-use Rattle.call_forms.specs.declared.forms.Told.{Told}
-use Rattle.http_wire.specs.declared.message.Message.{Message}
+-- What a connection's peer gets where no more is read.
+use Rattle.std.specs.Prelude.{ℕ, List, ◌++◌, true, codes, decimal}
+use Rattle.call_forms.specs.ReplyBytes.{plain_reply}
 use Rattle.http_wire.specs.declared.message.WireFault.{WireFault}
-use Rattle.http_wire.specs.declared.message.WireFault.TheVariants.{CutShort, Unread, ReadFault, Memory}
+use Rattle.http_wire.specs.declared.message.WireFault.TheVariants.{HeadTooLong, TooManyHeaders, BadHead, NoLength, TwoLengths, TransferCoded, BodyTooLong, CutShort, ReadFault, Memory}
 
 -- a fault's number
 abbrev pub fault_number : WireFault → ℕ
+fault_number HeadTooLong = 1
+fault_number TooManyHeaders = 2
+fault_number (BadHead end) = 3
+fault_number NoLength = 4
+fault_number TwoLengths = 5
+fault_number TransferCoded = 6
+fault_number (BodyTooLong said) = 7
 fault_number (CutShort have) = 8
-fault_number Unread = 11
 fault_number ReadFault = 9
 fault_number Memory = 10
 
 -- a fault's name
 abbrev pub fault_name : WireFault → List ℕ
+fault_name HeadTooLong = codes "HeadTooLong"
+fault_name TooManyHeaders = codes "TooManyHeaders"
+fault_name (BadHead end) = codes "BadHead"
+fault_name NoLength = codes "NoLength"
+fault_name TwoLengths = codes "TwoLengths"
+fault_name TransferCoded = codes "TransferCoded"
+fault_name (BodyTooLong said) = codes "BodyTooLong"
 fault_name (CutShort have) = codes "CutShort"
-fault_name Unread = codes "Unread"
 fault_name ReadFault = codes "ReadFault"
 fault_name Memory = codes "Memory"
 
@@ -28,9 +38,3 @@ farewell_text fault =
 -- the reply that says so
 abbrev pub farewell_bytes : WireFault → List ℕ
 farewell_bytes fault = plain_reply 400 3 true (farewell_text fault)
-
--- the replies that were told, each with its message's close flag
-abbrev pub reply_bytes : List Message → List Told → List ℕ
-reply_bytes [] tolds = []
-reply_bytes (m ∷ ms) [] = []
-reply_bytes (m ∷ ms) (told ∷ tolds) = told_bytes told m.close ++ reply_bytes ms tolds

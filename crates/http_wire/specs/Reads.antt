@@ -10,7 +10,7 @@ use Rattle.http_wire.specs.Stream.{HasFault, IsUndecided}
 use Rattle.http_wire.specs.Held.{CountsRead}
 use Rattle.http_wire.specs.declared.head_scan.HeadEnd.{HeadEnd}
 use Rattle.http_wire.specs.declared.message.WireFault.{WireFault}
-use Rattle.http_wire.specs.declared.message.WireFault.TheVariants.{CutShort, Unread, ReadFault, Memory}
+use Rattle.http_wire.specs.declared.message.WireFault.TheVariants.{HeadTooLong, CutShort, ReadFault, Memory}
 
 -- what one read gave into a room from a place on
 abbrev pub given_at : ℕ → Result ℕ WireFault → List ℕ → List ℕ
@@ -45,9 +45,9 @@ abbrev pub IsHeadAnswer : List ℕ → Option (List ℕ) → Result (Option Head
 IsHeadAnswer bytes left (Ok (Some end)) = head_end bytes ≡ Some (end.len, end.lines)
 IsHeadAnswer bytes left (Ok None) = (bytes ≡ []) × IsEnd left
 IsHeadAnswer bytes left (Err (CutShort have)) = HasFault bytes (CutShort have) × IsEnd left
-IsHeadAnswer bytes left (Err Unread) = HasFault bytes Unread
+IsHeadAnswer bytes left (Err HeadTooLong) = HasFault bytes HeadTooLong
 IsHeadAnswer bytes left (Err ReadFault) = IsUndecided bytes
-IsHeadAnswer bytes left (Err Memory) = ⊥
+IsHeadAnswer bytes left (Err fault) = ⊥
 
 -- reads until the head in front has ended, and none where what is held decides
 pub record FindsHead (held : List ℕ) (had : Incoming) (result : Result (Option HeadEnd) WireFault) (now : List ℕ) (left : Incoming) : Type 0 where
@@ -61,9 +61,9 @@ pub record FindsHead (held : List ℕ) (had : Incoming) (result : Result (Option
 abbrev pub IsBodyAnswer : List ℕ → ℕ → ℕ → List ℕ → Option (List ℕ) → Result (Vec ℕ) WireFault → Type 0
 IsBodyAnswer stream head len now left (Ok body) = (length body.items ≡ len) × (stream ≡ take head stream ++ (body.items ++ now))
 IsBodyAnswer stream head len now left (Err (CutShort have)) = (have ≡ length stream) × (length stream < head + len) × IsEnd left
-IsBodyAnswer stream head len now left (Err Unread) = ⊥
 IsBodyAnswer stream head len now left (Err ReadFault) = length stream < head + len
 IsBodyAnswer stream head len now left (Err Memory) = Unit {0}
+IsBodyAnswer stream head len now left (Err fault) = ⊥
 
 -- reads what a body lacks, and nothing where it is held
 pub record TakesBody (held : List ℕ) (had : Incoming) (head len : ℕ) (result : Result (Vec ℕ) WireFault) (now : List ℕ) (left : Incoming) : Type 0 where
@@ -78,9 +78,8 @@ pub record TakesBody (held : List ℕ) (had : Incoming) (head len : ℕ) (result
 abbrev pub IsFillAnswer : List ℕ → List ℕ → ℕ → ℕ → List ℕ → Option (List ℕ) → {T : Type 0} → Result T WireFault → Type 0
 IsFillAnswer body got stored head now left (Ok done) = now ≡ take stored body ++ got
 IsFillAnswer body got stored head now left (Err (CutShort have)) = (have ≡ head + (stored + length got)) × (stored + length got < length body) × IsEnd left
-IsFillAnswer body got stored head now left (Err Unread) = ⊥
 IsFillAnswer body got stored head now left (Err ReadFault) = stored + length got < length body
-IsFillAnswer body got stored head now left (Err Memory) = ⊥
+IsFillAnswer body got stored head now left (Err fault) = ⊥
 
 -- reads what a body lacks
 pub record FillsBody {T : Type 0} (body : List ℕ) (had : Incoming) (stored head : ℕ) (result : Result T WireFault) (now : List ℕ) (left : Incoming) : Type 0 where

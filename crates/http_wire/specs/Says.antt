@@ -1,15 +1,10 @@
--- What a message says: the call that its target names, two of its headers, and its body.
-use Rattle.std.specs.Prelude.{◌≡◌, ℕ, ◌⊎◌, false, List, [], ◌∷◌, ◌++◌, map, codes, IsTrue, Option, Some, None}
+-- What a message says: the call that its target names, two of its headers, its body, and whether it closes.
+use Rattle.std.specs.Prelude.{◌≡◌, ℕ, ◌⊎◌, Bool, true, false, List, [], ◌∷◌, ◌++◌, codes, IsTrue, Option, Some, None}
 use Rattle.std.specs.Str.{str_eq_ignore_ascii_case}
 use Rattle.httparse.specs.Grammar.{RequestHead}
-use Rattle.httparse.specs.Spans.{name_and_value}
 use Rattle.http_routes.specs.Calls.{IsCall}
-use Rattle.http_wire.specs.Form.{values_of}
+use Rattle.http_wire.specs.Form.{values_in, is_post, closes_after}
 use Rattle.http_wire.specs.declared.message.Message.{Message}
-
--- the values of a head's fields with a name
-abbrev pub values_in : List ℕ → RequestHead → List (List ℕ)
-values_in name h = values_of name (map name_and_value h.fields)
 
 -- the text of which this holds, or None where it holds of no text
 abbrev pub IsTheText : (List ℕ → Type 0) → Option (List ℕ) → Type 0
@@ -32,17 +27,19 @@ pub record IsBearer (values : List (List ℕ)) (token : List ℕ) : Type 0 where
   pub alone : IsAlone values value
   pub has_token : IsBearerValue value token
 
--- The service and the method that a target names. A target that names no call is itself the method, of no service.
-abbrev pub IsNamed : List ℕ → List ℕ → List ℕ → Type 0
-IsNamed target service method =
+-- The service and the method of a target: those that it names. A target that names no call is itself the method, of no
+-- service, and so is each target of a method that isn't POST.
+abbrev pub IsNamed : Bool → List ℕ → List ℕ → List ℕ → Type 0
+IsNamed true target service method =
     IsCall target service method
     ⊎ (((s m : List ℕ) → ¬ (IsCall target s m)) × (service ≡ []) × (method ≡ target))
+IsNamed false target service method = (service ≡ []) × (method ≡ target)
 
 -- what a message with this head and this body says
 pub record IsMessageOf (h : RequestHead) (body : List ℕ) (m : Message) : Type 0 where
   pub bearer : IsTheText (IsBearer (values_in (codes "authorization") h)) m.asked.bearer
   pub update_token : IsTheText (IsAlone (values_in (codes "update-token") h)) m.asked.update_token
-  pub named : IsNamed h.target m.asked.service m.asked.method
+  pub named : IsNamed (is_post h) h.target m.asked.service m.asked.method
   pub body_is : m.asked.body ≡ body
   pub target_is : m.target ≡ h.target
-  pub stays : m.close ≡ false
+  pub close_is : m.close ≡ closes_after h

@@ -1,17 +1,15 @@
-//! A head's fields: what stands under the names that are read, and the length of body that they announce.
-ghost use Rattle.std.specs.Prelude.{◌≡◌, ◌≤◌, ◌↔◌, ◌+◌, ◌*◌, ◌<◌, ◌^◌, ℕ, length, List, [], ◌∷◌, ◌++◌, All, map, IsTrue, MatchOption};
+//! A head's fields: what stands under the names that are read.
+ghost use Rattle.std.specs.Prelude.{◌≡◌, ℕ, length, List, [], ◌∷◌, ◌++◌, ◌||◌, All, map, codes};
+ghost use Rattle.std.specs.List.{list_any};
 ghost use Rattle.std.specs.Option.{option_map};
 ghost use Rattle.std.specs.Str.{str_eq_ignore_ascii_case};
-ghost use Rattle.std.specs.Str.Parse.{AllDigits, digits_value};
 ghost use Rattle.httparse.specs.Spans.{IsHeaderWithin, header_bytes};
-ghost use Rattle.http_wire.specs.Form.{values_of, IsLength, AnnounceLength, body_limit};
+ghost use Rattle.http_wire.specs.Form.{value_if, values_of, has_close};
 ghost use Rattle.http_wire.specs.Says.{IsTheText, IsAlone};
 ghost use Rattle.http_wire.specs.Found.{IsFound, AreFound};
 
+use crate::closing::has_close;
 use httparse::spans::HeaderSpan;
-
-/// The most bytes that a body has.
-const BODY_LIMIT: usize = 4_194_304;
 
 /// What a head has under a name.
 #[derive(Clone, Copy)]
@@ -26,7 +24,8 @@ pub enum Found<'b> {
 pub struct Fields<'b> {
     pub content_length: Found<'b>,
     pub transfer_encoding: Found<'b>,
-    pub connection: Found<'b>,
+    /// Whether a Connection header has the element `close`.
+    pub closes: bool,
     pub authorization: Found<'b>,
     pub update_token: Found<'b>,
 }
@@ -39,7 +38,7 @@ pub fn read_fields<'b>(head: &'b [u8], headers: &[HeaderSpan]) -> Fields<'b>
     let mut fields = Fields {
         content_length: Found::Absent,
         transfer_encoding: Found::Absent,
-        connection: Found::Absent,
+        closes: false,
         authorization: Found::Absent,
         update_token: Found::Absent,
     };
@@ -60,10 +59,18 @@ fn with_header<'b>(fields: Fields<'b>, head: &'b [u8], header: HeaderSpan) -> Fi
     Fields {
         content_length: with_field(fields.content_length, b"content-length", name, value),
         transfer_encoding: with_field(fields.transfer_encoding, b"transfer-encoding", name, value),
-        connection: with_field(fields.connection, b"connection", name, value),
+        closes: with_close(fields.closes, name, value),
         authorization: with_field(fields.authorization, b"authorization", name, value),
         update_token: with_field(fields.update_token, b"update-token", name, value),
     }
+}
+
+/// Whether a Connection header has the element `close`, with one field more.
+fn with_close(closes: bool, name: &[u8], value: &[u8]) -> bool
+    ensures { result
+        ≡ (closes || list_any has_close (value_if (codes "connection") (name.now, value.now))) }
+{
+    closes || (is_same_but_case(name, b"connection") && has_close(value))
 }
 
 /// What stands under a name, with one field more.
@@ -96,59 +103,4 @@ pub fn alone<'b>(found: Found<'b>) -> Option<&'b [u8]>
         Found::Once(value) => Some(value),
         _ => None,
     }
-}
-
-fn are_digits(text: &[u8]) -> bool
-    ensures { IsTrue result ↔ AllDigits 10 text.now }
-{
-    let mut left = text;
-    'digits: while let Some((digit, rest)) = left.split_first() {
-        if !digit.is_ascii_digit() {
-            return false;
-        }
-        left = rest;
-    }
-    true
-}
-
-fn number(digits: &[u8]) -> u64
-    requires few { length digits.now ≤ 10 }
-    requires digits { AllDigits 10 digits.now }
-    ensures { result ≡ digits_value 10 digits.now }
-{
-    let mut number: u64 = 0;
-    for digit in digits {
-        number = number * 10 + u64::from(*digit - b'0');
-    }
-    number
-}
-
-/// The length that a Content-Length gives, where it is within the limit.
-fn length_in(text: &[u8]) -> Option<usize>
-    ensures { MatchOption result ((len : ℕ) → len ≤ body_limit → ¬ (IsLength text.now len))
-        (λ len. IsLength text.now len × (len ≤ body_limit)) }
-{
-    if text.is_empty() || text.len() > 10 || !are_digits(text) {
-        return None;
-    }
-    let len = number(text);
-    if len > BODY_LIMIT as u64 {
-        return None;
-    }
-    Some(len as usize)
-}
-
-/// The length of body that a head's fields announce, or `None` where they aren't of the form that is read.
-pub fn announced_length(fields: Fields) -> Option<usize>
-    ensures { (list : List (List ℕ × List ℕ)) → AreFound fields.entry list
-        → MatchOption result ((len : ℕ) → ¬ (AnnounceLength list len)) (AnnounceLength list) }
-{
-    let Found::Absent = fields.transfer_encoding else {
-        return None;
-    };
-    let Found::Absent = fields.connection else {
-        return None;
-    };
-    let text = alone(fields.content_length)?;
-    length_in(text)
 }

@@ -22,7 +22,7 @@ pub fn find_head<L: Link>(buffer: &mut Buffer, link: &mut L) -> Result<Option<He
             Search::Goes(next) => progress = next,
         }
         if progress.scanned == HEAD_LIMIT {
-            return Err(WireFault::Unread);
+            return Err(WireFault::HeadTooLong);
         }
         let count = buffer.fill(link)?;
         if count == 0 {

@@ -1,10 +1,13 @@
 //! Laws of streams.
-ghost use Rattle.std.specs.Prelude.{◌≡◌, ℕ, List, ◌++◌};
-ghost use Rattle.http_wire.specs.Stream.{Framed, Spells};
+ghost use Rattle.std.specs.Prelude.{◌≡◌, ℕ, false, List, ◌++◌, length};
+ghost use Rattle.httparse.specs.Grammar.{RequestHead, print_request};
+ghost use Rattle.http_wire.specs.FirstForm.{IsFirstForm};
+ghost use Rattle.http_wire.specs.Says.{IsMessageOf};
+ghost use Rattle.http_wire.specs.Stream.{IsMessage, Framed, FramedFrom, Spells, StayOpen};
 ghost use Rattle.http_wire.specs.declared.message.Message.{Message};
 ghost use Rattle.http_wire.specs.declared.message.End.{End};
 
-use crate::message::End;
+use crate::message::{End, closes};
 use crate::plain::{First, first_of};
 
 /// Bytes are read in one way: they have one list of messages, and one end.
@@ -19,20 +22,34 @@ pub fn one_reading()
 pub fn there_is_a_reading(stream: &[u8]) -> End
     ensures { (ms : List Message) × Framed stream.now ms result }
 {
+    let mut before: usize = 0;
     let mut rest = stream;
     'messages: loop {
         match first_of(rest) {
-            First::Message { head, request } => rest = rest.split_at(head + request.len).1,
+            First::Message { head, request } => {
+                if closes(before, request.close) {
+                    return End::Closed;
+                }
+                before += 1;
+                rest = rest.split_at(head + request.len).1;
+            }
             First::End(end) => return end,
         }
     }
 }
 
-/// Messages that stand in front of a stream stand in front of its messages, and the other ones are those of the rest.
+/// Messages that stand in front of a stream, none of which closes, stand in front of its messages, and the other ones are
+/// those of the rest.
 pub fn front_of_reading()
     ensures front { (text rest : List ℕ) (ms ns : List Message) (e : End) → Spells ms text
-        → Framed (text ++ rest) ns e
-        → (others : List Message) × (ns ≡ ms ++ others) × Framed rest others e }
+        → StayOpen 0 ms → Framed (text ++ rest) ns e
+        → (others : List Message) × (ns ≡ ms ++ others) × FramedFrom (length ms) rest others e }
     ensures whole { (text rest : List ℕ) (ms ns : List Message) (e : End) → Spells ms text
-        → Framed rest ns e → Framed (text ++ rest) (ms ++ ns) e }
+        → StayOpen 0 ms → FramedFrom (length ms) rest ns e → Framed (text ++ rest) (ms ++ ns) e }
+{}
+
+/// A message of the one form that was read at first is read, and doesn't close.
+pub fn first_form_is_read()
+    ensures { (h : RequestHead) (body : List ℕ) (m : Message) → IsFirstForm h (length body)
+        → IsMessageOf h body m → IsMessage (print_request h ++ body) m × (m.close ≡ false) }
 {}

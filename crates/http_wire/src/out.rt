@@ -54,13 +54,19 @@ fn farewell(fault: &WireFault) -> Reply
 
 fn farewell_text(fault: &WireFault) -> &'static str
     ensures text { result.now ≡ farewell_text fault.now }
-    ensures short { length result.now ≤ 17 }
+    ensures short { length result.now ≤ 22 }
 {
     match fault {
+        WireFault::HeadTooLong => "wire 1 HeadTooLong\n",
+        WireFault::TooManyHeaders => "wire 2 TooManyHeaders\n",
+        WireFault::BadHead { .. } => "wire 3 BadHead\n",
+        WireFault::NoLength => "wire 4 NoLength\n",
+        WireFault::TwoLengths => "wire 5 TwoLengths\n",
+        WireFault::TransferCoded => "wire 6 TransferCoded\n",
+        WireFault::BodyTooLong { .. } => "wire 7 BodyTooLong\n",
         WireFault::CutShort { .. } => "wire 8 CutShort\n",
         WireFault::ReadFault => "wire 9 ReadFault\n",
         WireFault::Memory => "wire 10 Memory\n",
-        WireFault::Unread => "wire 11 Unread\n",
     }
 }
 

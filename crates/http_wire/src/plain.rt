@@ -7,7 +7,7 @@ ghost use Rattle.http_wire.specs.First.{IsFirst};
 
 use crate::buffer::HEAD_LIMIT;
 use crate::head_scan::{HeadEnd, Search, begin, search_on};
-use crate::message::{End, Message, WireFault};
+use crate::message::{End, Message, WireFault, closes};
 use crate::request::{Request, read_request};
 use crate::said::{message_without_body, with_body};
 use http_routes::Routes;
@@ -28,6 +28,7 @@ pub fn read_stream(alloc: Global, stream: &[u8]) -> Result<(Vec<Message>, End), 
 {
     let routes = Routes::new(alloc)?;
     let mut messages = Vec::new(alloc);
+    let mut before: usize = 0;
     let mut rest = stream;
     'messages: loop {
         match first_of(rest) {
@@ -36,6 +37,10 @@ pub fn read_stream(alloc: Global, stream: &[u8]) -> Result<(Vec<Message>, End), 
                 let body = Vec::from_slice(alloc, front.split_at(head).1)?;
                 let message = message_without_body(alloc, &routes, request)?;
                 messages.push(with_body(message, body))?;
+                if closes(before, request.close) {
+                    return Ok((messages, End::Closed));
+                }
+                before += 1;
                 rest = others;
             }
             First::End(end) => return Ok((messages, end)),
@@ -54,7 +59,7 @@ pub fn first_of<'b>(stream: &'b [u8]) -> First<'b>
     match search_on(window, begin()) {
         Search::Found(end) => behind_head(stream, end),
         Search::Goes(_) if stream.len() < HEAD_LIMIT => cut_short(stream),
-        Search::Goes(_) => First::End(End::Fault(WireFault::Unread)),
+        Search::Goes(_) => First::End(End::Fault(WireFault::HeadTooLong)),
     }
 }
 
@@ -64,8 +69,9 @@ fn behind_head<'b>(stream: &'b [u8], end: HeadEnd) -> First<'b>
     ensures { IsFirst stream.now result }
 {
     let (head, rest) = stream.split_at(end.len);
-    let Some(request) = read_request(head, end.lines) else {
-        return First::End(End::Fault(WireFault::Unread));
+    let request = match read_request(head, end.lines) {
+        Ok(request) => request,
+        Err(fault) => return First::End(End::Fault(fault)),
     };
     if rest.len() < request.len {
         return cut_short(stream);

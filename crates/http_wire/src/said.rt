@@ -20,7 +20,7 @@ pub fn message_without_body(
 ) -> Result<Message, AllocError>
     ensures { (h : RequestHead) → IsSaid h request.entry → IfOk result (IsMessageOf h []) }
 {
-    let call = named(routes, request.target);
+    let call = named(routes, request.target, request.is_post);
     let bearer = copied(alloc, request.bearer)?;
     let update_token = copied(alloc, request.update_token)?;
     let service = Vec::from_slice(alloc, call.service.as_bytes())?;
@@ -35,7 +35,7 @@ pub fn message_without_body(
             body: Bytes::new(Vec::new(alloc)),
         },
         target: Bytes::new(target),
-        close: false,
+        close: request.close,
     })
 }
 
@@ -48,16 +48,21 @@ pub fn with_body(message: Message, body: Vec<u8>) -> Message
     message
 }
 
-/// The call that a target names. A target that names none is itself the method, of no service.
-fn named<'t>(routes: &Routes, target: &'t str) -> Call<'t>
-    ensures { IsNamed target.now result.service.now result.method.now }
+/// The call that a POST's target names. A target that names none is itself the method, of no service, and so is each
+/// target of another method.
+fn named<'t>(routes: &Routes, target: &'t str, is_post: bool) -> Call<'t>
+    ensures { IsNamed is_post target.now result.service.now result.method.now }
 {
+    let unnamed = Call {
+        service: "",
+        method: target,
+    };
+    if !is_post {
+        return unnamed;
+    }
     match routes.call_of(target) {
         Some(call) => call,
-        None => Call {
-            service: "",
-            method: target,
-        },
+        None => unnamed,
     }
 }
 

@@ -55,8 +55,8 @@ impl Wire {
     /// The next message, or `None` where the input ended behind the last one.
     ///
     /// It reads where what it holds decides nothing yet, and never more than a message has; it holds a head at most.
-    /// `CutShort` comes where the input ended inside a message, `Unread` where the next message isn't of the form that
-    /// is read, `ReadFault` where a read failed, and `Memory` where memory was wanting. Each of them closes the wire.
+    /// A fault of the stream is the first that is there, as `WireFault` says them; `ReadFault` comes where a read
+    /// failed, and `Memory` where memory was wanting. Each of them closes the wire.
     pub fn next<L: Link>(
         &mut self,
         alloc: Global,
@@ -99,9 +99,7 @@ fn next_message<L: Link>(
         return Ok(None);
     };
     let head = &buffer.as_slice()[..end.len];
-    let Some(request) = read_request(head, end.lines) else {
-        return Err(WireFault::Unread);
-    };
+    let request = read_request(head, end.lines)?;
     let len = request.len;
     let message = message_without_body(alloc, routes, request)?;
     let body = take_body(alloc, buffer, link, end.len, len)?;

@@ -1,6 +1,5 @@
 -- What the exit status of a connection says.
 use Rattle.std.proofs.Common.{◌≡◌, ◌≢◌, ℕ, ℤ, ◌<◌, ◌≤◌, ◌⊎◌, inl, inr, List, ◌++◌, length, map, Option, Some, None, Result, Ok, Err, refl, sym, ap, ◌∙◌, subst, arith, length-append}
-use Rattle.std.proofs.lemmas.List.{length-map}
 use Rattle.outside.specs.Bytes.{IsEnd}
 use Rattle.outside.specs.Ends.{Outgoing, Ends}
 use Rattle.outside.specs.Whole.{WritesWhole, CountsFault, CountsEnd}
@@ -14,11 +13,11 @@ use Rattle.http_wire.specs.declared.message.End.TheVariants as stream_ends
 use Rattle.http_wire.specs.declared.message.Message.{Message}
 use Rattle.http_wire.specs.declared.message.WireFault.{WireFault}
 use Rattle.http_wire.proofs.StreamLaws.{framed_once}
-use Rattle.rdb_program.specs.Turns.{Turn, messages_of, reply_limit}
+use Rattle.rdb_program.specs.Turns.{messages_of}
 use Rattle.rdb_program.specs.Causes.{row_of, IsLastWrite, CountsReads}
 use Rattle.rdb_program.specs.Connection.{Sent, Connection}
-use Rattle.rdb_program.specs.Framing.{Served, AreFirst, AreMessages}
-use Rattle.rdb_program.specs.Statuses.{IsWhole, IsFull, IsDone, IsBroken, EndsFailed}
+use Rattle.rdb_program.specs.Framing.{Served}
+use Rattle.rdb_program.specs.Statuses.{IsDone, IsBroken, EndsFailed}
 use Rattle.rdb_program.specs.declared.ending.Cause.{Cause}
 use Rattle.rdb_program.specs.declared.ending.Cause.TheVariants as causes
 
@@ -89,12 +88,7 @@ not_two causes.Memory e = omega (arith, e)
 pub done_at : (asked : List Exchange → Type 0) (before : Ends) (cause : Cause) (after : Ends) → Served asked before cause after → status_at cause ≡ 0
     → IsDone before after
 done_at asked before causes.End after s e = inl (s.connection.rest_is.1, λ stream told. (messages_of s.connection.turns, s.framed stream told))
-done_at asked before causes.Closed after s e =
-    inr (λ stream told. (
-      messages_of s.connection.turns,
-      s.framed stream told,
-      length-map s.connection.turns (λ (t : Turn). t.message) ∙ s.connection.last_is.1,
-    ))
+done_at asked before causes.Closed after s e = inr (λ stream told. (messages_of s.connection.turns, s.framed stream told))
 done_at asked before (causes.Wire fault) after s e = absurd (omega (arith, e))
 done_at asked before causes.ReadFault after s e = absurd (omega (arith, e))
 done_at asked before causes.WriteFault after s e = absurd (omega (arith, e))
@@ -164,33 +158,21 @@ not_stall_at causes.Memory result is n8 n9 = is
 
 -- ---- which status a stream ends in
 
--- as many messages as the limit are no fewer
-too_many : (ms first others : List Message) → ms ≡ first ++ others → length first ≡ reply_limit → ¬ (length ms < reply_limit)
-too_many ms first others parts full few = omega (arith, full, few, ap length parts, length-append first others)
-
 pub ends_at : (asked : List Exchange → Type 0) (before : Ends) (cause : Cause) (after : Ends) → Served asked before cause after
     → (stream : List ℕ) (ms : List Message) (end : End) (status : ℕ) → before.incoming.left ≡ Some stream → Framed stream ms end
-    → length ms < reply_limit → ¬ EndsFailed before after → ¬ Rose before.outgoing.stalls after.outgoing.stalls
-    → (end ≡ stream_ends.Finished → status ≡ 0) → ((fault : WireFault) → end ≡ stream_ends.Fault fault → status ≡ 8)
+    → ¬ EndsFailed before after → ¬ Rose before.outgoing.stalls after.outgoing.stalls
+    → (end ≡ stream_ends.Finished → status ≡ 0) → (end ≡ stream_ends.Closed → status ≡ 0) → ((fault : WireFault) → end ≡ stream_ends.Fault fault → status ≡ 8)
     → (status_at cause ≡ status) ⊎ (status_at cause ≡ 7)
-ends_at asked before causes.End after s stream ms end status told framed few fine takes whole broken =
-    inl (sym (whole (sym (framed_once (messages_of s.connection.turns) ms stream stream_ends.Finished end (s.framed stream told) framed).1)))
-ends_at asked before (causes.Wire fault) after s stream ms end status told framed few fine takes whole broken =
-    inl (sym (broken fault (sym (framed_once (messages_of s.connection.turns) ms stream (stream_ends.Fault fault) end (s.framed stream told) framed).1)))
-ends_at asked before causes.Closed after s stream ms end status told framed few fine takes whole broken =
-    let first = s.framed stream told ms end framed in
-    absurd (too_many ms (messages_of s.connection.turns) first.0 first.1
-    (length-map s.connection.turns (λ (t : Turn). t.message) ∙ s.connection.last_is.1) few)
-ends_at asked before causes.ReadFault after s stream ms end status told framed few fine takes whole broken =
+ends_at asked before causes.End after s stream ms end status told framed fine takes whole closed broken =
+    inl (sym (whole (sym (framed_once (messages_of s.connection.turns) ms 0 stream stream_ends.Finished end (s.framed stream told) framed).1)))
+ends_at asked before (causes.Wire fault) after s stream ms end status told framed fine takes whole closed broken =
+    inl (sym (broken fault (sym (framed_once (messages_of s.connection.turns) ms 0 stream (stream_ends.Fault fault) end (s.framed stream told) framed).1)))
+ends_at asked before causes.Closed after s stream ms end status told framed fine takes whole closed broken =
+    inl (sym (closed (sym (framed_once (messages_of s.connection.turns) ms 0 stream stream_ends.Closed end (s.framed stream told) framed).1)))
+ends_at asked before causes.ReadFault after s stream ms end status told framed fine takes whole closed broken =
     absurd (fine (failed_at asked before causes.ReadFault after s.connection refl))
-ends_at asked before causes.WriteFault after s stream ms end status told framed few fine takes whole broken =
+ends_at asked before causes.WriteFault after s stream ms end status told framed fine takes whole closed broken =
     absurd (fine (failed_at asked before causes.WriteFault after s.connection refl))
-ends_at asked before causes.SinkTakesNothing after s stream ms end status told framed few fine takes whole broken =
+ends_at asked before causes.SinkTakesNothing after s stream ms end status told framed fine takes whole closed broken =
     absurd (takes (stalled_at asked before causes.SinkTakesNothing after s.connection refl))
-ends_at asked before causes.Memory after s stream ms end status told framed few fine takes whole broken = inr refl
-
-pub fault_not_finished : (fault : WireFault) → stream_ends.Fault fault ≡ stream_ends.Finished → ⊥
-fault_not_finished fault e = cc
-
-pub finished_no_fault : (fault : WireFault) → stream_ends.Finished ≡ stream_ends.Fault fault → ⊥
-finished_no_fault fault e = cc
+ends_at asked before causes.Memory after s stream ms end status told framed fine takes whole closed broken = inr refl

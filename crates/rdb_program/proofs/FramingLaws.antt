@@ -1,93 +1,140 @@
 -- What was answered, in the stream that was to be read.
-use Rattle.std.proofs.Common.{◌≡◌, ℕ, ◌≤◌, inl, inr, List, [], ◌++◌, length, take, drop, Option, Some, None, refl, sym, ap, ◌∙◌, subst, append_assoc, append-nil, arith, length-append}
-use Rattle.std.proofs.lemmas.List.{take-append-le, take-append-drop, take_at}
+use Rattle.std.proofs.Common.{◌≡◌, ◌⊎◌, ℕ, ◌+◌, inl, inr, true, List, [], ◌∷◌, ◌++◌, length, Option, Some, None, refl, sym, ap, ◌∙◌, subst, append_assoc, append-nil, zero-add}
+use Rattle.std.specs.Bool.{MatchBool}
 use Rattle.outside.specs.Bytes.{Gave, IsEnd}
 use Rattle.outside.specs.Ends.{Ends}
 use Rattle.record_desk.specs.Exchange.{Exchange}
-use Rattle.http_wire.specs.Stream.{IsUnread, HasEnd, Framed, Spells}
+use Rattle.http_wire.specs.Stream.{IsMessage, HasEnd, Framed, FramedFrom, Spells, StayOpen, closes}
 use Rattle.http_wire.specs.declared.message.End.{End}
 use Rattle.http_wire.specs.declared.message.End.TheVariants as stream_ends
 use Rattle.http_wire.specs.declared.message.Message.{Message}
 use Rattle.http_wire.specs.declared.message.WireFault.TheVariants as faults
-use Rattle.http_wire.proofs.StreamLaws.{spells_then_framed, reading_of_rest}
-use Rattle.rdb_program.specs.Turns.{messages_of}
-use Rattle.rdb_program.specs.Causes.{row_of, ReachesEnd, NothingLeft, IsRest}
+use Rattle.http_wire.proofs.StreamLaws.{spells_then_framed, reading_of_rest, fault_goes_on, no_message_at_end, same_messages}
+use Rattle.rdb_program.specs.Turns.{messages_of, OthersStay, LastCloses}
+use Rattle.rdb_program.specs.Causes.{row_of, ReachesEnd, NothingLeft, IsRest, AreOpen}
 use Rattle.rdb_program.specs.Connection.{Connection}
 use Rattle.rdb_program.specs.Framing.{Served, AreFirst, AreMessages}
 use Rattle.rdb_program.specs.declared.ending.Cause.{Cause}
 use Rattle.rdb_program.specs.declared.ending.Cause.TheVariants as causes
 
--- a front of the longer bytes that is no longer than the shorter ones is a front of these
-front_of_front : (bytes more text rest : List ℕ) → bytes ++ more ≡ text ++ rest → length text ≤ length bytes → bytes ≡ text ++ drop (length text) bytes
-front_of_front bytes more text rest e short =
-    let here : take (length text) bytes ≡ text =
-    sym (take-append-le (length text) bytes more short) ∙ ap (λ t. take (length text) t) e ∙ take_at text rest (length text) refl in
-    sym (take-append-drop (length text) bytes) ∙ ap (λ t. t ++ drop (length text) bytes) here
-
--- What isn't read stays unread, however the stream goes on.
-pub unread_goes_on : (bytes more : List ℕ) → IsUnread bytes → IsUnread (bytes ++ more)
-unread_goes_on bytes more (inl o) = inl (record {
-  text = o.text;
-  rest = o.rest ++ more;
-  count = o.count;
-  parts = ap (λ t. t ++ more) o.parts ∙ append_assoc o.text o.rest more;
-  head = o.head;
-  short = o.short;
-  other = o.other;
-})
-unread_goes_on bytes more (inr o) = inr (record {
-  long = omega (arith, o.long, length-append bytes more);
-  no_head = λ text rest count e short.
-      o.no_head text (drop (length text) bytes) count (front_of_front bytes more text rest e (omega (arith, short, o.long))) short;
-})
+-- ---- the end that was reached
 
 -- an end that was reached stays the stream's, with what is left behind it
-end_of_rest : (end : End) (rest left : List ℕ) → HasEnd rest end → NothingLeft end (Some left) → HasEnd (rest ++ left) end
-end_of_rest stream_ends.Finished rest left is nothing = ap (λ (t : List ℕ). rest ++ t) nothing ∙ append-nil rest ∙ is
-end_of_rest (stream_ends.Fault (faults.CutShort have)) rest left is nothing =
-    subst (λ (t : List ℕ). HasEnd t (stream_ends.Fault (faults.CutShort have))) (sym (ap (λ (t : List ℕ). rest ++ t) nothing ∙ append-nil rest)) is
-end_of_rest (stream_ends.Fault faults.Unread) rest left is nothing = unread_goes_on rest left is
-end_of_rest (stream_ends.Fault faults.ReadFault) rest left is nothing = absurd is
-end_of_rest (stream_ends.Fault faults.Memory) rest left is nothing = absurd is
+end_of_rest : (end : End) (rest left : List ℕ) → ReachesEnd end rest (Some left) → HasEnd (rest ++ left) end
+end_of_rest stream_ends.Finished rest left is = ap (λ (t : List ℕ). rest ++ t) is.1 ∙ append-nil rest ∙ is.0
+end_of_rest stream_ends.Closed rest left is = absurd is.0
+end_of_rest (stream_ends.Fault (faults.CutShort have)) rest left is =
+    subst (λ (t : List ℕ). HasEnd t (stream_ends.Fault (faults.CutShort have))) (sym (ap (λ (t : List ℕ). rest ++ t) is.1 ∙ append-nil rest)) is.0
+end_of_rest (stream_ends.Fault fault) rest left is = fault_goes_on rest left fault tt is.0
 
-framed_by : (ms : List Message) (text rest : List ℕ) (end : End) → Spells ms text → HasEnd rest end → Framed (text ++ rest) ms end
-framed_by ms text rest end spelled ends =
-    subst (λ (all : List Message). Framed (text ++ rest) all end) (append-nil ms) (spells_then_framed ms [] text rest end spelled ends)
+framed_by : (ms : List Message) (text rest : List ℕ) (end : End) → Spells ms text → StayOpen 0 ms → HasEnd rest end → Framed (text ++ rest) ms end
+framed_by ms text rest end spelled stay ends =
+    subst (λ (all : List Message). Framed (text ++ rest) all end) (append-nil ms) (spells_then_framed ms [] 0 text rest end spelled stay ends)
 
-are_first : (ms : List Message) (text rest : List ℕ) → Spells ms text → AreFirst ms (text ++ rest)
-are_first ms text rest spelled all end framed =
-    let reading = reading_of_rest ms all text rest end spelled framed in
+-- ---- the last message
+
+-- messages, and one more behind them
+record Parted (ms : List Message) (m : Message) (text : List ℕ) : Type 0 where
+  front : List ℕ
+  bytes : List ℕ
+  parts : text ≡ front ++ bytes
+  spelled : Spells ms front
+  is : IsMessage bytes m
+
+parted : (ms : List Message) (m : Message) (text : List ℕ) → Spells (ms ++ m ∷ []) text → Parted ms m text
+parted [] m text x = record {
+  front = [];
+  bytes = x.0;
+  parts = x.3 ∙ ap (λ (t : List ℕ). x.0 ++ t) x.4 ∙ append-nil x.0;
+  spelled = refl;
+  is = x.2;
+}
+parted (n ∷ ms) m text x =
+    let others = parted ms m x.1 x.4 in
+    record {
+      front = x.0 ++ others.front;
+      bytes = others.bytes;
+      parts = x.3 ∙ ap (λ (t : List ℕ). x.0 ++ t) others.parts ∙ sym (append_assoc x.0 others.front others.bytes);
+      spelled = (x.0, others.front, x.2, refl, others.spelled);
+      is = others.is;
+    }
+
+abbrev IsLastOne : List Message → Type 0
+IsLastOne ms = (ms ≡ []) × (stream_ends.Closed ≡ stream_ends.Closed)
+
+-- where the last one closes, whatever follows
+framed_closed : (others : List Message) (last : Message) (text rest : List ℕ) → Parted others last text → StayOpen 0 others → closes (length others) last ≡ true
+    → Framed (text ++ rest) (others ++ last ∷ []) stream_ends.Closed
+framed_closed others last text rest p stay closing =
+    let is_last : closes (0 + length others) last ≡ true = ap (λ (n : ℕ). closes n last) (zero-add (length others)) ∙ closing in
+    subst (λ (t : List ℕ). Framed t (others ++ last ∷ []) stream_ends.Closed)
+    (sym (ap (λ (t : List ℕ). t ++ rest) p.parts ∙ append_assoc p.front p.bytes rest))
+    (spells_then_framed others (last ∷ []) 0 p.front (p.bytes ++ rest) stream_ends.Closed p.spelled stay (
+      p.bytes,
+      rest,
+      p.is,
+      refl,
+      subst (λ b. MatchBool b (IsLastOne []) (FramedFrom (0 + length others + 1) rest [] stream_ends.Closed)) (sym is_last) (refl, refl),
+    ))
+
+-- ---- the first messages
+
+are_first : (ms : List Message) (text rest : List ℕ) → Spells ms text → StayOpen 0 ms → AreFirst ms (text ++ rest)
+are_first ms text rest spelled stay all end framed =
+    let reading = reading_of_rest ms all 0 text rest end spelled stay framed in
     (reading.0, reading.1)
 
--- the end that a cause's row names was reached
-reaches : (cause : Cause) (rest : List ℕ) (left : Option (List ℕ)) → IsRest cause rest left → ReachesEnd (row_of cause).end rest left
-reaches causes.End rest left is = is
-reaches (causes.Wire fault) rest left is = is
-reaches causes.Closed rest left is = tt
-reaches causes.ReadFault rest left is = tt
-reaches causes.WriteFault rest left is = tt
-reaches causes.SinkTakesNothing rest left is = tt
-reaches causes.Memory rest left is = tt
+-- the first of these messages is this one
+first_is : (before : ℕ) (m : Message) (bytes rest : List ℕ) (ms : List Message) (end : End) → IsMessage bytes m → FramedFrom before (bytes ++ rest) ms end
+    → (others : List Message) × (ms ≡ m ∷ others)
+first_is before m bytes rest [] end is framed = absurd (no_message_at_end (bytes ++ rest) end framed bytes rest m refl is)
+first_is before m bytes rest (n ∷ ms) end is framed =
+    let same = same_messages bytes rest framed.0 framed.1 m n framed.3 is framed.2 in
+    (ms, ap (λ (k : Message). k ∷ ms) (sym same.0))
 
-messages_by : (end : Option End) (ms : List Message) (text rest left : List ℕ) → Spells ms text → ReachesEnd end rest (Some left)
-    → AreMessages end ms (text ++ (rest ++ left))
-messages_by None ms text rest left spelled is = are_first ms text (rest ++ left) spelled
-messages_by (Some end) ms text rest left spelled is = framed_by ms text (rest ++ left) end spelled (end_of_rest end rest left is.0 is.1)
+first_with_last : (others : List Message) (last : Message) (text rest : List ℕ) → Parted others last text → StayOpen 0 others → AreFirst (others ++ last ∷ []) (text ++ rest)
+first_with_last others last text rest p stay all end framed =
+    let whole = subst (λ (t : List ℕ). Framed t all end) (ap (λ (t : List ℕ). t ++ rest) p.parts ∙ append_assoc p.front p.bytes rest) framed in
+    let reading = reading_of_rest others all 0 p.front (p.bytes ++ rest) end p.spelled stay whole in
+    let next = first_is (0 + length others) last p.bytes rest reading.0 end p.is reading.2 in
+    (next.0, reading.1 ∙ ap (λ (ms : List Message). others ++ ms) next.1 ∙ sym (append_assoc others (last ∷ []) next.0))
 
-framed_of : (end : Option End) (ms : List Message) (stream text rest : List ℕ) (after : Option (List ℕ)) → Gave (Some stream) (text ++ rest) after
-    → Spells ms text → ReachesEnd end rest after → AreMessages end ms stream
-framed_of end ms stream text rest after gave spelled is =
-    subst (λ (t : List ℕ). AreMessages end ms t) (sym (gave.2 ∙ append_assoc text rest gave.0))
-    (messages_by end ms text rest gave.0 spelled (subst (ReachesEnd end rest) gave.1 is))
+others_first : (ms : List Message) (text rest : List ℕ) → Spells ms text → OthersStay ms → AreFirst ms (text ++ rest)
+others_first ms text rest spelled o =
+    subst (λ (all : List Message). AreFirst all (text ++ rest)) (sym o.parts)
+    (first_with_last o.others o.last text rest (parted o.others o.last text (subst (λ (all : List Message). Spells all text) o.parts spelled)) o.stay)
+
+-- ---- by the cause
+
+messages_by : (cause : Cause) (ms : List Message) (text rest left : List ℕ) → Spells ms text → AreOpen cause ms → IsRest cause rest (Some left)
+    → AreMessages (row_of cause).end ms (text ++ (rest ++ left))
+messages_by causes.End ms text rest left spelled stay is =
+    framed_by ms text (rest ++ left) stream_ends.Finished spelled stay (end_of_rest stream_ends.Finished rest left is)
+messages_by (causes.Wire fault) ms text rest left spelled stay is =
+    framed_by ms text (rest ++ left) (stream_ends.Fault fault) spelled stay (end_of_rest (stream_ends.Fault fault) rest left is)
+messages_by causes.Closed ms text rest left spelled stay is =
+    subst (λ (all : List Message). Framed (text ++ (rest ++ left)) all stream_ends.Closed) (sym stay.parts)
+    (framed_closed stay.others stay.last text (rest ++ left)
+    (parted stay.others stay.last text (subst (λ (all : List Message). Spells all text) stay.parts spelled)) stay.stay stay.closing)
+messages_by causes.ReadFault ms text rest left spelled stay is = are_first ms text (rest ++ left) spelled stay
+messages_by causes.Memory ms text rest left spelled stay is = are_first ms text (rest ++ left) spelled stay
+messages_by causes.WriteFault ms text rest left spelled stay is = others_first ms text (rest ++ left) spelled stay
+messages_by causes.SinkTakesNothing ms text rest left spelled (inl stay) is = are_first ms text (rest ++ left) spelled stay
+messages_by causes.SinkTakesNothing ms text rest left spelled (inr stay) is = others_first ms text (rest ++ left) spelled stay
+
+framed_of : (cause : Cause) (ms : List Message) (stream text rest : List ℕ) (after : Option (List ℕ)) → Gave (Some stream) (text ++ rest) after
+    → Spells ms text → AreOpen cause ms → IsRest cause rest after → AreMessages (row_of cause).end ms stream
+framed_of cause ms stream text rest after gave spelled stay is =
+    subst (λ (t : List ℕ). AreMessages (row_of cause).end ms t) (sym (gave.2 ∙ append_assoc text rest gave.0))
+    (messages_by cause ms text rest gave.0 spelled stay (subst (IsRest cause rest) gave.1 is))
 
 pub served : (asked : List Exchange → Type 0) (before : Ends) (cause : Cause) (after : Ends) → Connection asked before cause after
     → Served asked before cause after
 served asked before cause after c = record {
   connection = c;
   framed = λ stream told.
-      framed_of (row_of cause).end (messages_of c.turns) stream c.text c.rest after.incoming.left
-      (subst (λ (o : Option (List ℕ)). Gave o (c.text ++ c.rest) after.incoming.left) told c.read) c.spelled
-      (reaches cause c.rest after.incoming.left c.rest_is);
+      framed_of cause (messages_of c.turns) stream c.text c.rest after.incoming.left
+      (subst (λ (o : Option (List ℕ)). Gave o (c.text ++ c.rest) after.incoming.left) told c.read) c.spelled c.stay c.rest_is;
 }
 
 -- what was asked, said in other words
@@ -102,6 +149,7 @@ asked_so asked asked' before cause after so c = record {
   result = c.result;
   read = c.read;
   spelled = c.spelled;
+  stay = c.stay;
   told = so _ c.told;
   few = c.few;
   sent = c.sent;

@@ -7,6 +7,34 @@ use Rattle.rdb_program.specs.Causes.{row_of}
 use Rattle.rdb_program.specs.Run.{refusal_line}
 use Rattle.permissions.specs.declared.faults.PolicyFault.TheVariants as refusals
 
+pub head_too_long_line : codes "rdb: wire 1 HeadTooLong\n" ≡ (row_of (causes.Wire faults.HeadTooLong)).line
+unfolding digits
+head_too_long_line = refl
+
+pub too_many_headers_line : codes "rdb: wire 2 TooManyHeaders\n" ≡ (row_of (causes.Wire faults.TooManyHeaders)).line
+unfolding digits
+too_many_headers_line = refl
+
+pub bad_head_line : (end : ℕ) → codes "rdb: wire 3 BadHead\n" ≡ (row_of (causes.Wire (faults.BadHead end))).line
+unfolding digits
+bad_head_line end = refl
+
+pub no_length_line : codes "rdb: wire 4 NoLength\n" ≡ (row_of (causes.Wire faults.NoLength)).line
+unfolding digits
+no_length_line = refl
+
+pub two_lengths_line : codes "rdb: wire 5 TwoLengths\n" ≡ (row_of (causes.Wire faults.TwoLengths)).line
+unfolding digits
+two_lengths_line = refl
+
+pub transfer_coded_line : codes "rdb: wire 6 TransferCoded\n" ≡ (row_of (causes.Wire faults.TransferCoded)).line
+unfolding digits
+transfer_coded_line = refl
+
+pub body_too_long_line : (said : ℕ) → codes "rdb: wire 7 BodyTooLong\n" ≡ (row_of (causes.Wire (faults.BodyTooLong said))).line
+unfolding digits
+body_too_long_line said = refl
+
 pub cut_short_line : (have : ℕ) → codes "rdb: wire 8 CutShort\n" ≡ (row_of (causes.Wire (faults.CutShort have))).line
 unfolding digits
 cut_short_line have = refl
@@ -18,10 +46,6 @@ read_fault_line = refl
 pub memory_line : codes "rdb: wire 10 Memory\n" ≡ (row_of (causes.Wire faults.Memory)).line
 unfolding digits
 memory_line = refl
-
-pub unread_line : codes "rdb: wire 11 Unread\n" ≡ (row_of (causes.Wire faults.Unread)).line
-unfolding digits
-unread_line = refl
 
 pub not_toml_line : codes "rdb: configuration refused: 1 NotToml\n" ≡ refusal_line refusals.NotToml
 unfolding digits

@@ -27,7 +27,7 @@ use Rattle.rdb_program.specs.Statuses.{IsShown, IsWorkDone, EndsFailed, HasFaile
 use Rattle.rdb_program.specs.declared.ending.Cause.{Cause}
 use Rattle.rdb_program.specs.declared.ending.Ending.{Ending}
 use Rattle.rdb_program.specs.declared.ending.Ending.TheVariants.{WordsRefused, Shown, ConfigFault, ConfigRefused, Unstarted, Served}
-use Rattle.rdb_program.proofs.CauseLaws.{status_at, not_one, not_two, faults_of, stalls_of, no_fault, no_stall, done_at, broken_at, failed_at, stalled_at, no_read_fault_at, not_fault_at, not_stall_at, ends_at, fault_not_finished, finished_no_fault, fault_there, stall_there}
+use Rattle.rdb_program.proofs.CauseLaws.{status_at, not_one, not_two, faults_of, stalls_of, no_fault, no_stall, done_at, broken_at, failed_at, stalled_at, no_read_fault_at, not_fault_at, not_stall_at, ends_at, fault_there, stall_there}
 use Rattle.rdb_program.proofs.ConfigLaws.{policy_apart, accepted_told, refused_told}
 
 -- ---- the words
@@ -75,8 +75,9 @@ says_still status words before after same n0 n8 n9 refused accepted unread asked
   no_stall = λ n8 n9. ap (λ (e : Ends). e.outgoing.stalls) same;
   config_unread = unasked;
   text_shown = λ text asks fine takes. inr (texts text asks);
-  whole_stream = λ are n2 stream ms told framed few fine takes. inr (seven are n2 fine);
-  broken_stream = λ are n2 fault stream ms told framed few fine takes. inr (seven are n2 fine);
+  whole_stream = λ are n2 stream ms told framed fine takes. inr (seven are n2 fine);
+  closed_stream = λ are n2 stream ms told framed fine takes. inr (seven are n2 fine);
+  broken_stream = λ are n2 fault stream ms told framed fine takes. inr (seven are n2 fine);
 }
   where
     to_serve : (status ≡ 2) ⊎ (status ≡ 8) → IsAnswerWords words
@@ -193,8 +194,9 @@ says_shown status words before after result tb ta s n1 n2 n7 n8 well failed stal
   no_stall = λ m8 n9. no_stall before.work.ends.outgoing.stalls after.work.ends.outgoing.stalls result s.ends.writes.stalls (unstalled n9);
   config_unread = λ other. s.config;
   text_shown = λ text asked fine takes. inl (shown fine takes);
-  whole_stream = λ are m2 stream ms told framed few fine takes. absurd (no_answer are);
-  broken_stream = λ are m2 fault stream ms told framed few fine takes. absurd (no_answer are);
+  whole_stream = λ are m2 stream ms told framed fine takes. absurd (no_answer are);
+  closed_stream = λ are m2 stream ms told framed fine takes. absurd (no_answer are);
+  broken_stream = λ are m2 fault stream ms told framed fine takes. absurd (no_answer are);
 }
   where
     no_answer : IsAnswerWords words → ⊥
@@ -249,12 +251,12 @@ says_served words before after tb ta cause run =
       no_stall = λ n8 n9. no_stall was.outgoing.stalls is_now.outgoing.stalls c.result (stalls_of _ was cause is_now c) (not_stall_at cause c.result c.last_write n8 n9);
       config_unread = λ other. absurd (other run.words_are);
       text_shown = λ text asked fine takes. absurd (answer_apart words text asked run.words_are);
-      whole_stream = λ are n2 stream ms told framed few fine takes.
-          ends_at _ was cause is_now s stream ms stream_ends.Finished 0 told framed few (λ f. fine (inr f)) takes (λ e. refl)
-          (λ fault e. absurd (finished_no_fault fault e));
-      broken_stream = λ are n2 fault stream ms told framed few fine takes.
-          ends_at _ was cause is_now s stream ms (stream_ends.Fault fault) 8 told framed few (λ f. fine (inr f)) takes
-          (λ e. absurd (fault_not_finished fault e)) (λ f e. refl);
+      whole_stream = λ are n2 stream ms told framed fine takes.
+          ends_at _ was cause is_now s stream ms stream_ends.Finished 0 told framed (λ f. fine (inr f)) takes (λ e. refl) (λ e. refl) (λ fault e. absurd cc);
+      closed_stream = λ are n2 stream ms told framed fine takes.
+          ends_at _ was cause is_now s stream ms stream_ends.Closed 0 told framed (λ f. fine (inr f)) takes (λ e. refl) (λ e. refl) (λ fault e. absurd cc);
+      broken_stream = λ are n2 fault stream ms told framed fine takes.
+          ends_at _ was cause is_now s stream ms (stream_ends.Fault fault) 8 told framed (λ f. fine (inr f)) takes (λ e. absurd cc) (λ e. absurd cc) (λ f e. refl);
     }
 
 -- What the status of a run says, with the line that the errors got.

@@ -1,6 +1,7 @@
 -- A connection that goes on: what holds between two messages.
-use Rattle.std.proofs.Common.{◌≡◌, ◌≢◌, ℕ, ◌+◌, ◌≤◌, ◌<◌, ◌⊎◌, inl, inr, Bool, true, List, [], ◌∷◌, ◌++◌, length, map, Option, Some, None, Result, Ok, Err, refl, sym, ap, ◌∙◌, subst, append_assoc, append-nil, arith, length-append}
-use Rattle.std.proofs.lemmas.List.{map-append}
+use Rattle.std.proofs.Common.{◌≡◌, ◌≢◌, ℕ, ◌+◌, ◌≤◌, ◌<◌, ◌⊎◌, inl, inr, Bool, true, false, List, [], ◌∷◌, ◌++◌, length, map, Option, Some, None, Result, Ok, Err, refl, sym, ap, ◌∙◌, subst, append_assoc, append-nil, arith, length-append}
+use Rattle.std.proofs.lemmas.Bool.{eqb-false, or_parts}
+use Rattle.std.proofs.lemmas.List.{map-append, length-map}
 use Rattle.outside.specs.Bytes.{Gave, Took}
 use Rattle.outside.specs.Ends.{Incoming, Outgoing, Ends}
 use Rattle.outside.specs.Whole.{WritesWhole}
@@ -9,23 +10,24 @@ use Rattle.outside.specs.declared.whole.WriteEnd.TheVariants as write_ends
 use Rattle.outside.proofs.Taken.{gave_nothing, gave_both, took_nothing, took_both}
 use Rattle.call_forms.specs.declared.forms.Told.{Told}
 use Rattle.record_desk.specs.Exchange.{Exchange}
+use Rattle.http_wire.specs.Head.{head_limit}
 use Rattle.http_wire.specs.WireState.{WireState}
 use Rattle.http_wire.specs.Held.{Reading}
-use Rattle.http_wire.specs.Stream.{IsMessage, Spells}
+use Rattle.http_wire.specs.Stream.{IsMessage, Spells, StayOpen, closes, reply_limit}
 use Rattle.http_wire.specs.declared.message.Message.{Message}
 use Rattle.http_wire.specs.declared.message.WireFault.{WireFault}
 use Rattle.http_wire.specs.declared.message.WireFault.TheVariants as faults
-use Rattle.http_wire.proofs.StreamLaws.{spells_more}
-use Rattle.rdb_program.specs.Turns.{Turn, messages_of, exchange_in, exchanges_of, reply_limit, closes, replies}
+use Rattle.http_wire.proofs.StreamLaws.{spells_more, stay_more}
+use Rattle.rdb_program.specs.Turns.{Turn, messages_of, exchange_in, exchanges_of, OthersStay, LastCloses, replies}
 use Rattle.fault_counts.specs.Causes.{Rose}
-use Rattle.rdb_program.specs.Causes.{cause_of, row_of, closing_standin, IsLastWrite, CountsReads, IsRest}
+use Rattle.rdb_program.specs.Causes.{cause_of, row_of, closing_standin, IsLastWrite, CountsReads, IsRest, AreOpen}
 use Rattle.rdb_program.specs.Closing.{Closes, ClosesBy, WroteNothing}
 use Rattle.rdb_program.specs.Connection.{Sent, IsLastReply, IsLast, Connection, Answers}
 use Rattle.rdb_program.specs.declared.ending.Cause.{Cause}
 use Rattle.rdb_program.specs.declared.ending.Cause.TheVariants as causes
 use Rattle.rdb_program.proofs.TurnLaws.{reply_of, replies_more}
 
--- So many messages were answered, and their replies were written whole.
+-- So many messages were answered, none of which closes the connection, and their replies were written whole.
 pub record Serving (asked : List Exchange → Type 0) (before : Ends) (wire : WireState) (number : ℕ) (now : Ends) : Type 0 where
   pub turns : List Turn
   pub text : List ℕ
@@ -33,6 +35,7 @@ pub record Serving (asked : List Exchange → Type 0) (before : Ends) (wire : Wi
   pub is_open : wire.is_open ≡ true
   pub read : Gave before.incoming.left (text ++ wire.held) now.incoming.left
   pub spelled : Spells (messages_of turns) text
+  pub stay : StayOpen 0 (messages_of turns)
   pub told : asked (exchanges_of turns)
   pub wrote : Took before.outgoing.written (replies turns) now.outgoing.written
   pub reads : now.incoming.faults ≡ before.incoming.faults
@@ -48,6 +51,7 @@ begins asked before wire nothing empty is_open = record {
   is_open = is_open;
   read = subst (λ (t : List ℕ). Gave before.incoming.left t before.incoming.left) (sym empty) (gave_nothing before.incoming.left);
   spelled = refl;
+  stay = tt;
   told = nothing;
   wrote = took_nothing before.outgoing.written;
   reads = refl;
@@ -94,6 +98,37 @@ spelled_more turns text bytes t spelled is =
     subst (λ (ms : List Message). Spells ms (text ++ bytes)) (sym (map-append (λ (u : Turn). u.message) turns (t ∷ [])))
     (spells_more (messages_of turns) text bytes t.message spelled is)
 
+counted_messages : (turns : List Turn) (n : ℕ) → length turns ≡ n → 0 + length (messages_of turns) ≡ n
+counted_messages turns n counted = let len = length-map turns (λ (t : Turn). t.message) in omega (arith, len, counted)
+
+stay_open : (turns : List Turn) (n : ℕ) (t : Turn) → length turns ≡ n → StayOpen 0 (messages_of turns) → closes n t.message ≡ false
+    → StayOpen 0 (messages_of (turns ++ t ∷ []))
+stay_open turns n t counted stay goes =
+    subst (StayOpen 0) (sym (map-append (λ (u : Turn). u.message) turns (t ∷ [])))
+    (stay_more (messages_of turns) 0 t.message stay (subst (λ k. closes k t.message ≡ false) (sym (counted_messages turns n counted)) goes))
+
+others_stay : (turns : List Turn) (t : Turn) → StayOpen 0 (messages_of turns) → OthersStay (messages_of (turns ++ t ∷ []))
+others_stay turns t stay = record {
+  others = messages_of turns;
+  last = t.message;
+  parts = map-append (λ (u : Turn). u.message) turns (t ∷ []);
+  stay = stay;
+}
+
+last_closes : (turns : List Turn) (n : ℕ) (t : Turn) → length turns ≡ n → StayOpen 0 (messages_of turns) → closes n t.message ≡ true
+    → LastCloses (messages_of (turns ++ t ∷ []))
+last_closes turns n t counted stay last = record {
+  others = messages_of turns;
+  last = t.message;
+  parts = map-append (λ (u : Turn). u.message) turns (t ∷ []);
+  stay = stay;
+  closing = subst (λ k. closes k t.message ≡ true) (sym (length-map turns (λ (u : Turn). u.message) ∙ counted)) last;
+}
+
+-- a reply that doesn't close isn't the last one
+pub not_last : (before : ℕ) (m : Message) → closes before m ≡ false → before < reply_limit → before + 1 < reply_limit
+not_last before m goes few = let other = eqb-false (before + 1) reply_limit (or_parts m.close _ goes).1 in omega (arith, few, other)
+
 -- what follows for exchanges where one more was told
 abbrev pub Extends : (List Exchange → Type 0) → Message → (Told → Type 0) → (List Exchange → Type 0) → Type 0
 Extends asked m is_told asked' =
@@ -101,10 +136,10 @@ Extends asked m is_told asked' =
 
 -- One message more was answered, and its reply was written whole.
 pub goes_on : (asked asked' : List Exchange → Type 0) (is_told : Told → Type 0) (before now then : Ends) (wire wire' : WireState) (n : ℕ) (m : Message)
-    → Serving asked before wire n now → Reading wire now.incoming (Ok (Some m)) then.incoming wire'
+    → closes n m ≡ false → Serving asked before wire n now → Reading wire now.incoming (Ok (Some m)) then.incoming wire'
     → Answers is_told (closes n m) now.outgoing (Ok tt) then.outgoing → Extends asked m is_told asked'
     → Serving asked' before wire' (n + 1) then
-goes_on asked asked' is_told before now then wire wire' n m s reading answers extends =
+goes_on asked asked' is_told before now then wire wire' n m goes s reading answers extends =
     let t : Turn = record { message = m; told = answers.told } in
     let bytes = reading.answer.0 in
     record {
@@ -114,6 +149,7 @@ goes_on asked asked' is_told before now then wire wire' n m s reading answers ex
       is_open = reading.stays_open;
       read = read_message before.incoming.left now.incoming.left then.incoming.left s.text wire.held reading.got bytes wire'.held s.read reading.gave reading.answer.2;
       spelled = spelled_more s.turns s.text bytes t s.spelled reading.answer.1;
+      stay = stay_open s.turns n t s.counted s.stay goes;
       told = turns_more asked asked' s.turns t s.told (extends answers.told answers.tells);
       wrote = subst (λ (r : List ℕ). Took before.outgoing.written r then.outgoing.written) (sym (replies_more n s.turns t s.counted))
           (took_both before.outgoing.written (replies s.turns) (reply_of n t) now.outgoing.written then.outgoing.written s.wrote answers.writes.written);
@@ -136,9 +172,10 @@ breaks_by : (asked asked' : List Exchange → Type 0) (is_told : Told → Type 0
     → n < reply_limit → Serving asked before wire n now → Reading wire now.incoming (Ok (Some m)) then.incoming wire'
     → Answers is_told (closes n m) now.outgoing (Err end) then.outgoing → Extends asked m is_told asked'
     → (cause : Cause) → ((turns : List Turn) (earlier last : List ℕ) → IsLastReply turns earlier last → IsLast cause turns earlier last)
+    → ((messages : List Message) → OthersStay messages → AreOpen cause messages)
     → IsLastWrite cause (Err end) → ((rest : List ℕ) (left : Option (List ℕ)) → IsRest cause rest left)
     → ((a b : ℕ) → b ≡ a → CountsReads cause a b) → Connection asked' before cause then
-breaks_by asked asked' is_told before now then wire wire' n m end few s reading answers extends cause is_last last_write is_rest reads =
+breaks_by asked asked' is_told before now then wire wire' n m end few s reading answers extends cause is_last stays last_write is_rest reads =
     let t : Turn = record { message = m; told = answers.told } in
     let bytes = reading.answer.0 in
     record {
@@ -150,6 +187,7 @@ breaks_by asked asked' is_told before now then wire wire' n m end few s reading 
       result = Err end;
       read = read_message before.incoming.left now.incoming.left then.incoming.left s.text wire.held reading.got bytes wire'.held s.read reading.gave reading.answer.2;
       spelled = spelled_more s.turns s.text bytes t s.spelled reading.answer.1;
+      stay = stays (messages_of (s.turns ++ t ∷ [])) (others_stay s.turns t s.stay);
       told = turns_more asked asked' s.turns t s.told (extends answers.told answers.tells);
       few = omega (arith, s.counted, few, length-append s.turns (t ∷ []));
       sent = sent_behind asked before now then wire n s (reply_of n t) (Err end) answers.writes;
@@ -165,18 +203,18 @@ pub breaks_off : (asked asked' : List Exchange → Type 0) (is_told : Told → T
     → Connection asked' before (cause_of end) then
 breaks_off asked asked' is_told before now then wire wire' n m write_ends.WriteFault few s reading answers extends =
     breaks_by asked asked' is_told before now then wire wire' n m write_ends.WriteFault few s reading answers extends causes.WriteFault
-    (λ turns earlier last is. is) refl (λ rest left. tt) (λ a b same. same)
+    (λ turns earlier last is. is) (λ messages stay. stay) refl (λ rest left. tt) (λ a b same. same)
 breaks_off asked asked' is_told before now then wire wire' n m write_ends.SinkTakesNothing few s reading answers extends =
     breaks_by asked asked' is_told before now then wire wire' n m write_ends.SinkTakesNothing few s reading answers extends causes.SinkTakesNothing
-    (λ turns earlier last is. inl is) refl (λ rest left. tt) (λ a b same. same)
+    (λ turns earlier last is. inl is) (λ messages stay. inr stay) refl (λ rest left. tt) (λ a b same. same)
 
 -- All replies went out whole, and then the cause's closing bytes were written, as far as they were.
 ends_by : (asked : List Exchange → Type 0) (before now after : Ends) (wire : WireState) (n : ℕ) → n ≤ reply_limit
     → (s : Serving asked before wire n now) (got : List ℕ) → Gave now.incoming.left got after.incoming.left
     → (cause : Cause) (last : List ℕ) (result : Result (Unit {0}) WriteEnd) → WritesWhole now.outgoing last result after.outgoing
-    → IsLast cause s.turns (replies s.turns) last → IsLastWrite cause result → IsRest cause (wire.held ++ got) after.incoming.left
+    → IsLast cause s.turns (replies s.turns) last → AreOpen cause (messages_of s.turns) → IsLastWrite cause result → IsRest cause (wire.held ++ got) after.incoming.left
     → CountsReads cause before.incoming.faults after.incoming.faults → Connection asked before cause after
-ends_by asked before now after wire n few s got gave cause last result writes last_is last_write rest_is reads = record {
+ends_by asked before now after wire n few s got gave cause last result writes last_is stays last_write rest_is reads = record {
   turns = s.turns;
   text = s.text;
   rest = wire.held ++ got;
@@ -185,6 +223,7 @@ ends_by asked before now after wire n few s got gave cause last result writes la
   result = result;
   read = read_on before.incoming.left now.incoming.left after.incoming.left s.text wire.held got s.read gave;
   spelled = s.spelled;
+  stay = stays;
   told = s.told;
   few = omega (arith, s.counted, few);
   sent = sent_behind asked before now after wire n s last result writes;
@@ -200,14 +239,41 @@ pub ended : (asked : List Exchange → Type 0) (before now after : Ends) (wire w
     → Connection asked before causes.End after
 ended asked before now after wire wire' n few s reading same =
     ends_by asked before now after wire n (omega (arith, few)) s reading.got reading.gave causes.End [] (Ok tt) (wrote_nothing now.outgoing after.outgoing same)
-    (refl, refl) refl (reading.answer.0, reading.answer.2) (reading.faults ∙ s.reads)
+    (refl, refl) s.stay refl (reading.answer.0, reading.answer.2) (reading.faults ∙ s.reads)
 
--- As many messages were answered as a connection answers.
-pub full : (asked : List Exchange → Type 0) (before now : Ends) (wire : WireState) (n : ℕ) → reply_limit ≤ n → n ≤ reply_limit
-    → Serving asked before wire n now → Connection asked before causes.Closed now
-full asked before now wire n least most s =
-    ends_by asked before now now wire n most s [] (gave_nothing now.incoming.left) causes.Closed [] (Ok tt) (wrote_nothing now.outgoing now.outgoing refl)
-    ((refl, refl), omega (arith, s.counted, least, most)) refl tt s.reads
+-- One message more was answered, which closes the connection, and its reply was written whole.
+pub finished : (asked asked' : List Exchange → Type 0) (is_told : Told → Type 0) (before now then : Ends) (wire wire' : WireState) (n : ℕ) (m : Message)
+    → n < reply_limit → closes n m ≡ true → Serving asked before wire n now → Reading wire now.incoming (Ok (Some m)) then.incoming wire'
+    → length wire'.held ≤ head_limit → Answers is_told (closes n m) now.outgoing (Ok tt) then.outgoing → Extends asked m is_told asked'
+    → Connection asked' before causes.Closed then
+finished asked asked' is_told before now then wire wire' n m few last s reading short answers extends =
+    let t : Turn = record { message = m; told = answers.told } in
+    let bytes = reading.answer.0 in
+    record {
+      turns = s.turns ++ t ∷ [];
+      text = s.text ++ bytes;
+      rest = wire'.held;
+      earlier = replies (s.turns ++ t ∷ []);
+      last = [];
+      result = Ok tt;
+      read = read_message before.incoming.left now.incoming.left then.incoming.left s.text wire.held reading.got bytes wire'.held s.read reading.gave reading.answer.2;
+      spelled = spelled_more s.turns s.text bytes t s.spelled reading.answer.1;
+      stay = last_closes s.turns n t s.counted s.stay last;
+      told = turns_more asked asked' s.turns t s.told (extends answers.told answers.tells);
+      few = omega (arith, s.counted, few, length-append s.turns (t ∷ []));
+      sent = record {
+        between = then.outgoing;
+        whole = subst (λ (r : List ℕ). Took before.outgoing.written r then.outgoing.written) (sym (replies_more n s.turns t s.counted))
+            (took_both before.outgoing.written (replies s.turns) (reply_of n t) now.outgoing.written then.outgoing.written s.wrote answers.writes.written);
+        faults = answers.writes.faults ∙ s.faults;
+        stalls = answers.writes.stalls ∙ s.stalls;
+        writes = wrote_nothing then.outgoing then.outgoing refl;
+      };
+      last_is = (refl, refl);
+      last_write = refl;
+      rest_is = short;
+      reads = reading.faults ∙ s.reads;
+    }
 
 -- The wire answered a fault, and the connection is closed.
 pub closed : (asked : List Exchange → Type 0) (before now after : Ends) (wire wire' : WireState) (n : ℕ) (fault : WireFault) (cause : Cause) → n < reply_limit
@@ -216,15 +282,11 @@ pub closed : (asked : List Exchange → Type 0) (before now after : Ends) (wire 
 closed asked before now after wire wire' n (faults.CutShort have) cause few s reading how =
     subst (λ (k : Cause). Connection asked before k after) (sym how.1.0)
     (ends_by asked before now after wire n (omega (arith, few)) s reading.got reading.gave (causes.Wire (faults.CutShort have)) [] (Ok tt)
-    (wrote_nothing now.outgoing after.outgoing how.1.1.1) (refl, refl) tt reading.answer (reading.faults ∙ s.reads))
-closed asked before now after wire wire' n faults.Unread cause few s reading how =
-    subst (λ (k : Cause). Connection asked before k after) (sym how.1.0)
-    (ends_by asked before now after wire n (omega (arith, few)) s reading.got reading.gave (causes.Wire faults.Unread) (row_of (causes.Wire faults.Unread)).closing how.0
-    how.1.1 (refl, refl) tt (reading.answer.0, tt) (reading.faults ∙ s.reads))
+    (wrote_nothing now.outgoing after.outgoing how.1.1.1) (refl, refl) s.stay tt reading.answer (reading.faults ∙ s.reads))
 closed asked before now after wire wire' n faults.ReadFault cause few s reading how =
     subst (λ (k : Cause). Connection asked before k after) (sym how.1.0)
     (ends_by asked before now after wire n (omega (arith, few)) s reading.got reading.gave causes.ReadFault [] (Ok tt)
-    (wrote_nothing now.outgoing after.outgoing how.1.1.1) (refl, refl) refl reading.answer
+    (wrote_nothing now.outgoing after.outgoing how.1.1.1) (refl, refl) s.stay refl reading.answer
     (subst (λ (k : ℕ). (k ≤ after.incoming.faults) × Rose k after.incoming.faults) s.reads reading.faults))
 closed asked before now after wire wire' n faults.Memory cause few s reading how =
     out_of_memory asked before now after wire n cause how.0 few s reading.got reading.gave (reading.faults ∙ s.reads) how.1.0 how.1.1
@@ -236,10 +298,14 @@ closed asked before now after wire wire' n faults.Memory cause few s reading how
         → Connection asked before cause after
     out_of_memory asked before now after wire n cause result few s got gave reads writes (inl memory) =
         subst (λ (k : Cause). Connection asked before k after) (sym memory.0)
-        (ends_by asked before now after wire n (omega (arith, few)) s got gave causes.Memory closing_standin result writes (refl, refl) memory.1 tt reads)
+        (ends_by asked before now after wire n (omega (arith, few)) s got gave causes.Memory closing_standin result writes (refl, refl) s.stay memory.1 tt reads)
     out_of_memory asked before now after wire n cause result few s got gave reads writes (inr stall) =
         subst (λ (k : Cause). Connection asked before k after) (sym stall.0)
-        (ends_by asked before now after wire n (omega (arith, few)) s got gave causes.SinkTakesNothing closing_standin result writes (inr (refl, refl)) stall.1 tt reads)
+        (ends_by asked before now after wire n (omega (arith, few)) s got gave causes.SinkTakesNothing closing_standin result writes (inr (refl, refl)) (inl s.stay) stall.1 tt reads)
+closed asked before now after wire wire' n fault cause few s reading how =
+    subst (λ (k : Cause). Connection asked before k after) (sym how.1.0)
+    (ends_by asked before now after wire n (omega (arith, few)) s reading.got reading.gave (causes.Wire fault) (row_of (causes.Wire fault)).closing how.0
+    how.1.1 (refl, refl) s.stay tt (reading.answer.0, tt) (reading.faults ∙ s.reads))
 
 -- ---- over the ends between a read and a write
 

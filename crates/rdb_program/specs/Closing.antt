@@ -18,13 +18,13 @@ WroteNothing result before after = (result ≡ Ok tt) × (after ≡ before)
 abbrev pub ClosesBy : WireFault → Cause → Result (Unit {0}) WriteEnd → Outgoing → Outgoing → Type 0
 ClosesBy (faults.CutShort have) cause result before after =
     (cause ≡ causes.Wire (faults.CutShort have)) × WroteNothing result before after
-ClosesBy faults.Unread cause result before after =
-    (cause ≡ causes.Wire faults.Unread) × WritesWhole before (row_of (causes.Wire faults.Unread)).closing result after
 ClosesBy faults.ReadFault cause result before after = (cause ≡ causes.ReadFault) × WroteNothing result before after
 ClosesBy faults.Memory cause result before after =
     WritesWhole before closing_standin result after
     × (((cause ≡ causes.Memory) × (result ≢ Err write_ends.SinkTakesNothing))
     ⊎ ((cause ≡ causes.SinkTakesNothing) × (result ≡ Err write_ends.SinkTakesNothing)))
+ClosesBy fault cause result before after =
+    (cause ≡ causes.Wire fault) × WritesWhole before (row_of (causes.Wire fault)).closing result after
 
 abbrev pub Closes : WireFault → Cause → Outgoing → Outgoing → Type 0
 Closes fault cause before after = (result : Result (Unit {0}) WriteEnd) × ClosesBy fault cause result before after

@@ -7,9 +7,9 @@ use Rattle.outside.specs.declared.whole.WriteEnd.{WriteEnd}
 use Rattle.call_forms.specs.ReplyBytes.{told_bytes}
 use Rattle.call_forms.specs.declared.forms.Told.{Told}
 use Rattle.record_desk.specs.Exchange.{Exchange}
-use Rattle.http_wire.specs.Stream.{Spells}
-use Rattle.rdb_program.specs.Turns.{Turn, messages_of, exchanges_of, reply_limit, closes, replies}
-use Rattle.rdb_program.specs.Causes.{row_of, closing_standin, IsLastWrite, CountsReads, IsRest}
+use Rattle.http_wire.specs.Stream.{Spells, reply_limit, closes}
+use Rattle.rdb_program.specs.Turns.{Turn, messages_of, exchanges_of, replies}
+use Rattle.rdb_program.specs.Causes.{row_of, closing_standin, IsLastWrite, CountsReads, IsRest, AreOpen}
 use Rattle.rdb_program.specs.declared.ending.Cause.{Cause}
 use Rattle.rdb_program.specs.declared.ending.Cause.TheVariants as causes
 
@@ -33,13 +33,13 @@ pub record IsLastReply (turns : List Turn) (earlier last : List ℕ) : Type 0 wh
 abbrev pub IsClosing : Cause → List Turn → List ℕ → List ℕ → Type 0
 IsClosing cause turns earlier last = (earlier ≡ replies turns) × (last ≡ (row_of cause).closing)
 
--- What was written last, by the cause. A connection is closed by its number of replies at the limit.
+-- What was written last, by the cause.
 abbrev pub IsLast : Cause → List Turn → List ℕ → List ℕ → Type 0
 IsLast causes.WriteFault turns earlier last = IsLastReply turns earlier last
 IsLast causes.SinkTakesNothing turns earlier last =
     IsLastReply turns earlier last ⊎ IsClosing causes.SinkTakesNothing turns earlier last
 IsLast causes.End turns earlier last = IsClosing causes.End turns earlier last
-IsLast causes.Closed turns earlier last = IsClosing causes.Closed turns earlier last × (length turns ≡ reply_limit)
+IsLast causes.Closed turns earlier last = IsClosing causes.Closed turns earlier last
 IsLast causes.ReadFault turns earlier last = IsClosing causes.ReadFault turns earlier last
 IsLast causes.Memory turns earlier last = IsClosing causes.Memory turns earlier last
 IsLast (causes.Wire fault) turns earlier last = IsClosing (causes.Wire fault) turns earlier last
@@ -55,6 +55,7 @@ pub record Connection (asked : List Exchange → Type 0) (before : Ends) (cause 
   -- the messages in what was read, each of which was asked
   pub read : Gave before.incoming.left (text ++ rest) after.incoming.left
   pub spelled : Spells (messages_of turns) text
+  pub stay : AreOpen cause (messages_of turns)
   pub told : asked (exchanges_of turns)
   pub few : length turns ≤ reply_limit
   -- what was written

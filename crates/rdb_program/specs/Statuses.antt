@@ -1,5 +1,5 @@
 -- What each exit status says of the words, the configuration, the input and the output.
-use Rattle.std.specs.Prelude.{◌≡◌, ◌≢◌, ℕ, ◌<◌, ◌⊎◌, List, Some, length}
+use Rattle.std.specs.Prelude.{◌≡◌, ◌≢◌, ℕ, ◌⊎◌, List, Some}
 use Rattle.fault_counts.specs.Causes.{Rose}
 use Rattle.outside.specs.Bytes.{Took, IsEnd}
 use Rattle.outside.specs.Ends.{Ends}
@@ -8,14 +8,12 @@ use Rattle.permissions.specs.Faults.{IsPolicyOf, IsFirstFault}
 use Rattle.permissions.specs.declared.faults.PolicyFault.{PolicyFault}
 use Rattle.http_wire.specs.Stream.{Framed}
 use Rattle.http_wire.specs.declared.message.End.{End}
-use Rattle.http_wire.specs.declared.message.End.TheVariants.{Finished, Fault}
+use Rattle.http_wire.specs.declared.message.End.TheVariants.{Finished, Closed, Fault}
 use Rattle.http_wire.specs.declared.message.Message.{Message}
 use Rattle.http_wire.specs.declared.message.WireFault.{WireFault}
 use Rattle.program_words.specs.Grammar.{Says}
 use Rattle.program_words.specs.declared.command.Command.{Command}
 use Rattle.rdb_program.specs.Words.{SayNothing, IsAnswerWords, AskForText}
-use Rattle.rdb_program.specs.Turns.{reply_limit}
-use Rattle.rdb_program.specs.Framing.{AreFirst}
 use Rattle.rdb_program.specs.Run.{Work, Outside, IsReported, refusal_line}
 
 -- The stream that was to be read, where it is told, is messages to its end.
@@ -23,17 +21,16 @@ abbrev pub IsWhole : Ends → Type 0
 IsWhole before =
     (stream : List ℕ) → before.incoming.left ≡ Some stream → (messages : List Message) × Framed stream messages Finished
 
--- The stream begins with as many messages as one connection answers.
-abbrev pub IsFull : Ends → Type 0
-IsFull before =
-    (stream : List ℕ) → before.incoming.left ≡ Some stream
-    → (messages : List Message) × AreFirst messages stream × (length messages ≡ reply_limit)
+-- The stream that was to be read, where it is told, is messages of which the last one closes the connection.
+abbrev pub IsClosed : Ends → Type 0
+IsClosed before =
+    (stream : List ℕ) → before.incoming.left ≡ Some stream → (messages : List Message) × Framed stream messages Closed
 
--- All was read, and it was messages to its end; or the connection was closed at the limit of replies.
+-- All was read, and it was messages to its end; or the connection was closed by a reply.
 abbrev pub IsDone : Ends → Ends → Type 0
-IsDone before after = (IsEnd after.incoming.left × IsWhole before) ⊎ IsFull before
+IsDone before after = (IsEnd after.incoming.left × IsWhole before) ⊎ IsClosed before
 
--- The stream that was to be read, where it is told, ends by a fault: inside a message, or in one that isn't read.
+-- The stream that was to be read, where it is told, ends by a fault.
 abbrev pub IsBroken : Ends → Type 0
 IsBroken before =
     (stream : List ℕ) → before.incoming.left ≡ Some stream
@@ -75,7 +72,7 @@ HasStalled before after = Rose before.ends.outgoing.stalls after.ends.outgoing.s
 abbrev pub EndsIn : End → ℕ → ℕ → Work → Work → Type 0
 EndsIn end status found before after =
     (stream : List ℕ) (messages : List Message) → before.ends.incoming.left ≡ Some stream → Framed stream messages end
-    → length messages < reply_limit → ¬ HasFailed before after → ¬ HasStalled before after
+    → ¬ HasFailed before after → ¬ HasStalled before after
     → (found ≡ status) ⊎ (found ≡ 7)
 
 -- No read of the configuration failed.
@@ -124,4 +121,5 @@ pub record StatusSays (status : ℕ) (words : List (List ℕ)) (before after : O
   pub text_shown : (text : List ℕ) → AskForText words text → ¬ HasFailed before.work after.work → ¬ HasStalled before.work after.work
       → (status ≡ 0) ⊎ (status ≡ 7)
   pub whole_stream : IsAnswerWords words → status ≢ 2 → EndsIn Finished 0 status before.work after.work
+  pub closed_stream : IsAnswerWords words → status ≢ 2 → EndsIn Closed 0 status before.work after.work
   pub broken_stream : IsAnswerWords words → status ≢ 2 → (fault : WireFault) → EndsIn (Fault fault) 8 status before.work after.work

@@ -1,8 +1,9 @@
 -- Messages and what was told for them.
-use Rattle.std.specs.Prelude.{ℕ, ◌+◌, ◌==◌, ◌||◌, Bool, List, [], ◌∷◌, ◌++◌, map}
+use Rattle.std.specs.Prelude.{◌≡◌, ℕ, ◌+◌, true, List, [], ◌∷◌, ◌++◌, length, map}
 use Rattle.call_forms.specs.ReplyBytes.{told_bytes}
 use Rattle.call_forms.specs.declared.forms.Told.{Told}
 use Rattle.record_desk.specs.Exchange.{Exchange}
+use Rattle.http_wire.specs.Stream.{closes, StayOpen}
 use Rattle.http_wire.specs.declared.message.Message.{Message}
 
 -- A message, and what was told for it.
@@ -19,13 +20,20 @@ exchange_in t = record { asked = t.message.asked; told = t.told }
 abbrev pub exchanges_of : List Turn → List Exchange
 exchanges_of turns = map exchange_in turns
 
--- the most replies of one connection: the last of them closes it
-abbrev pub reply_limit : ℕ
-reply_limit = 1048576
+-- No message but the last one closes the connection.
+pub record OthersStay (messages : List Message) : Type 0 where
+  pub others : List Message
+  pub last : Message
+  pub parts : messages ≡ others ++ last ∷ []
+  pub stay : StayOpen 0 others
 
--- The connection ends after the reply to this message, before which there were so many.
-abbrev pub closes : ℕ → Message → Bool
-closes before m = m.close || (before + 1 == reply_limit)
+-- The last message closes the connection, and no other one does.
+pub record LastCloses (messages : List Message) : Type 0 where
+  pub others : List Message
+  pub last : Message
+  pub parts : messages ≡ others ++ last ∷ []
+  pub stay : StayOpen 0 others
+  pub closing : closes (length others) last ≡ true
 
 -- the replies of these turns, before which there were so many
 abbrev pub replies_from : ℕ → List Turn → List ℕ

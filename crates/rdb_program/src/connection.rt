@@ -1,22 +1,18 @@
 //! One connection, from its first message to its end.
-ghost use Rattle.std.specs.Prelude.{◌≡◌, ◌<◌, List, [], ◌∷◌, ◌++◌, true};
+ghost use Rattle.std.specs.Prelude.{◌≡◌, List, [], ◌∷◌, ◌++◌, true};
 ghost use Rattle.outside.specs.Ends.{OnlyWrites};
 ghost use Rattle.outside.specs.Whole.{WritesWhole};
 ghost use Rattle.call_forms.specs.ReplyBytes.{told_bytes};
 ghost use Rattle.record_desk.specs.Exchange.{Exchange};
-ghost use Rattle.rdb_program.specs.Turns.{reply_limit, closes};
 ghost use Rattle.rdb_program.specs.Connection.{Answers, Connection};
 ghost use Rattle.rdb_program.specs.Closing.{Closes, LeavesWire};
 
 use crate::ending::Cause;
 use call_forms::{Standin, Told};
-use http_wire::{Message, Wire, WireFault, write_farewell, write_response, write_standin};
+use http_wire::{Message, Wire, WireFault, closes, write_farewell, write_response, write_standin};
 use outside::{Link, WriteEnd};
 use record_desk::Teller;
 use std::alloc::Global;
-
-/// The most replies of one connection. The last of them closes it.
-const REPLY_LIMIT: usize = 1_048_576;
 
 fn write_told<L: Link>(link: &mut L, told: &Told, close: bool) -> Result<(), WriteEnd>
     ensures written { WritesWhole (L.ends link.old).outgoing (told_bytes told.now close) result
@@ -28,14 +24,6 @@ fn write_told<L: Link>(link: &mut L, told: &Told, close: bool) -> Result<(), Wri
         Told::Made(answer) => write_response(link, answer, close),
         Told::Standin(which) => write_standin(link, *which, close),
     }
-}
-
-/// Whether the connection ends after the reply to this message, before which there were so many.
-fn closes(answered: usize, message: &Message) -> bool
-    requires { answered < reply_limit }
-    ensures { result ≡ closes answered message.now }
-{
-    message.close || answered + 1 == REPLY_LIMIT
 }
 
 /// Asks the teller one message, and writes what it tells.
@@ -69,7 +57,8 @@ fn close_for_memory<L: Link>(link: &mut L) -> Cause
     }
 }
 
-/// Ends a connection from which no more is read: `Unread` gets a farewell, want of memory a stand-in.
+/// Ends a connection from which no more is read: a fault of the stream gets a farewell, unless the stream ended itself,
+/// and want of memory gets a stand-in.
 fn close_after<L: Link>(link: &mut L, fault: WireFault) -> Cause
     ensures closes { Closes fault result (L.ends link.old).outgoing (L.ends link.new).outgoing }
     ensures only { OnlyWrites (L.ends link.old) (L.ends link.new) }
@@ -77,12 +66,12 @@ fn close_after<L: Link>(link: &mut L, fault: WireFault) -> Cause
 {
     match fault {
         WireFault::CutShort { .. } => Cause::Wire(fault),
-        WireFault::Unread => {
+        WireFault::ReadFault => Cause::ReadFault,
+        WireFault::Memory => close_for_memory(link),
+        _ => {
             let _ = write_farewell(link, &fault);
             Cause::Wire(fault)
         }
-        WireFault::ReadFault => Cause::ReadFault,
-        WireFault::Memory => close_for_memory(link),
     }
 }
 
@@ -103,17 +92,21 @@ pub fn serve_connection<T: Teller, L: Link>(
     ensures teller_holds { T.holds teller.new ≡ T.holds teller.old }
     ensures link_holds { L.holds link.new ≡ L.holds link.old }
 {
-    for answered in 0..REPLY_LIMIT {
+    let mut answered: usize = 0;
+    'messages: loop {
         match wire.next(alloc, link) {
             Ok(Some(message)) => {
-                let close = closes(answered, &message);
+                let close = closes(answered, message.close);
                 if let Err(end) = answer_message(teller, link, &message, close) {
                     return Cause::from(end);
                 }
+                if close {
+                    return Cause::Closed;
+                }
+                answered += 1;
             }
             Ok(None) => return Cause::End,
             Err(fault) => return close_after(link, fault),
         }
     }
-    Cause::Closed
 }

@@ -12,9 +12,9 @@ use permissions::PolicyFault;
 pub enum Cause {
     /// The input was read to its end, and each message was answered.
     End,
-    /// The reply that closes the connection went out: so many are its most.
+    /// The reply that closes the connection went out.
     Closed,
-    /// The input isn't messages to its end: `CutShort` or `Unread`.
+    /// The input isn't messages to its end: it has one of the faults 1 to 8.
     Wire(WireFault),
     /// A read failed.
     ReadFault,
@@ -122,10 +122,16 @@ fn wire_line(fault: &WireFault) -> &'static str
     ensures { result.now ≡ (row_of (Cause.Wire fault.now)).line }
 {
     match fault {
+        WireFault::HeadTooLong => "rdb: wire 1 HeadTooLong\n",
+        WireFault::TooManyHeaders => "rdb: wire 2 TooManyHeaders\n",
+        WireFault::BadHead { .. } => "rdb: wire 3 BadHead\n",
+        WireFault::NoLength => "rdb: wire 4 NoLength\n",
+        WireFault::TwoLengths => "rdb: wire 5 TwoLengths\n",
+        WireFault::TransferCoded => "rdb: wire 6 TransferCoded\n",
+        WireFault::BodyTooLong { .. } => "rdb: wire 7 BodyTooLong\n",
         WireFault::CutShort { .. } => "rdb: wire 8 CutShort\n",
         WireFault::ReadFault => "rdb: wire 9 ReadFault\n",
         WireFault::Memory => "rdb: wire 10 Memory\n",
-        WireFault::Unread => "rdb: wire 11 Unread\n",
     }
 }
 

@@ -125,7 +125,7 @@ pub fn report<O: Sink>(ending: &Ending, errors: &mut O)
 /// | 2 | the configuration is refused |
 /// | 4 | a read of the configuration or of the input failed, or a write to the output did |
 /// | 7 | memory was wanting outside a reply |
-/// | 8 | the input ends inside a message, or has one of a form that isn't read |
+/// | 8 | the input isn't messages to its end: it has a message with a fault, or ends inside one |
 /// | 9 | the output took nothing of bytes that it was given |
 ///
 /// Nothing is read from `input` and nothing is written to `output` before the words and the configuration are accepted.

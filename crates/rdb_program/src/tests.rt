@@ -25,6 +25,16 @@ const OTHER_BODY: &str = "{\"invocationId\":\"u-b\",\"invocation\":{\"realm\":\"
 
 const GET: &str = "GET / HTTP/1.1\r\n\r\n";
 
+const CLOSING: &str = "POST /x HTTP/1.1\r\nConnection: close\r\nContent-Length: 0\r\n\r\n";
+
+const NO_LENGTH: &str = "POST /x HTTP/1.1\r\n\r\n";
+
+const TWO_LENGTHS: &str = "POST /x HTTP/1.1\r\nContent-Length: 3\r\nContent-Length: 3\r\n\r\nabc";
+
+const TOO_LONG: &str = "POST /x HTTP/1.1\r\nContent-Length: 4194305\r\n\r\n";
+
+const CODED: &str = "POST /x HTTP/1.1\r\nTransfer-Encoding: chunked\r\n\r\n";
+
 /// What a reply begins with, up to what differs between two replies.
 const OK: &str =
     "HTTP/1.1 200 OK\r\nContent-Type: application/json\r\nX-Prpc-Grpc-Code: 0\r\nUpdate-Token: ";
@@ -49,7 +59,17 @@ const NO_CALLER: &str = "16\r\nContent-Length: 11\r\n\r\n2 NoCaller\n";
 const DENIED: &str =
     "7\r\nContent-Length: 47\r\n\r\n11 Denied: resultdb.invocations.create proj:ci\n";
 
-const UNREAD: &str = "3\r\nConnection: close\r\nContent-Length: 15\r\n\r\nwire 11 Unread\n";
+const NO_METHOD: &str = "12\r\nConnection: close\r\nContent-Length: 14\r\n\r\n1 NoMethod: /\n";
+
+const NO_METHOD_X: &str = "12\r\nConnection: close\r\nContent-Length: 15\r\n\r\n1 NoMethod: /x\n";
+
+const WIRE_4: &str = "3\r\nConnection: close\r\nContent-Length: 16\r\n\r\nwire 4 NoLength\n";
+
+const WIRE_5: &str = "3\r\nConnection: close\r\nContent-Length: 18\r\n\r\nwire 5 TwoLengths\n";
+
+const WIRE_6: &str = "3\r\nConnection: close\r\nContent-Length: 21\r\n\r\nwire 6 TransferCoded\n";
+
+const WIRE_7: &str = "3\r\nConnection: close\r\nContent-Length: 19\r\n\r\nwire 7 BodyTooLong\n";
 
 /// A piece of the input: a request by the user of a token, the front of one, or other bytes.
 #[derive(Clone, Copy)]
@@ -77,7 +97,9 @@ const NEW: Gets = Created("a", TOKEN);
 
 const AGAIN: Gets = Refusal("409 Conflict", TAKEN);
 
-const FAREWELL: Gets = Refusal("400 Bad Request", UNREAD);
+const CLOSED: Gets = Refusal("501 Not Implemented", NO_METHOD);
+
+const CLOSED_X: Gets = Refusal("501 Not Implemented", NO_METHOD_X);
 
 /// Which calls fail, by their numbers: reads of the configuration, reads of the input, and writes to the output, where
 /// a number that stands twice takes nothing.
@@ -177,9 +199,15 @@ const STALLED: &str = "rdb: output takes nothing\n";
 
 const CUT_SHORT: &str = "rdb: wire 8 CutShort\n";
 
-const UNREAD_END: &str = "rdb: wire 11 Unread\n";
+const END_4: &str = "rdb: wire 4 NoLength\n";
 
-const CASES: [Case; 19] = [
+const END_5: &str = "rdb: wire 5 TwoLengths\n";
+
+const END_6: &str = "rdb: wire 6 TransferCoded\n";
+
+const END_7: &str = "rdb: wire 7 BodyTooLong\n";
+
+const CASES: [Case; 26] = [
     ("", CONFIG, &[ONE], NONE, &[], 1, WORDS, true),
     ("serve", CONFIG, &[ONE], NONE, &[], 1, WORDS, true),
     ("--help me", CONFIG, &[ONE], NONE, &[], 1, WORDS, true),
@@ -257,9 +285,9 @@ const CASES: [Case; 19] = [
         CONFIG,
         &[Bytes(GET), ONE],
         NONE,
-        &[FAREWELL],
-        8,
-        UNREAD_END,
+        &[CLOSED],
+        0,
+        "",
         false,
     ),
     (
@@ -268,8 +296,78 @@ const CASES: [Case; 19] = [
         &[Bytes(GET)],
         WRITE_FAILS,
         &[],
+        4,
+        WRITE_FAULT,
+        false,
+    ),
+    (
+        ANSWER,
+        CONFIG,
+        &[ONE, Bytes(CLOSING), Bytes(NO_LENGTH)],
+        NONE,
+        &[NEW, CLOSED_X],
+        0,
+        "",
+        false,
+    ),
+    (
+        ANSWER,
+        CONFIG,
+        &[Bytes("GET")],
+        NONE,
+        &[],
         8,
-        UNREAD_END,
+        CUT_SHORT,
+        false,
+    ),
+    (
+        ANSWER,
+        CONFIG,
+        &[ONE, Bytes(NO_LENGTH), ONE],
+        NONE,
+        &[NEW, Refusal("400 Bad Request", WIRE_4)],
+        8,
+        END_4,
+        false,
+    ),
+    (
+        ANSWER,
+        CONFIG,
+        &[Bytes(NO_LENGTH)],
+        WRITE_FAILS,
+        &[],
+        8,
+        END_4,
+        false,
+    ),
+    (
+        ANSWER,
+        CONFIG,
+        &[Bytes(TWO_LENGTHS)],
+        NONE,
+        &[Refusal("400 Bad Request", WIRE_5)],
+        8,
+        END_5,
+        false,
+    ),
+    (
+        ANSWER,
+        CONFIG,
+        &[Bytes(CODED)],
+        NONE,
+        &[Refusal("400 Bad Request", WIRE_6)],
+        8,
+        END_6,
+        false,
+    ),
+    (
+        ANSWER,
+        CONFIG,
+        &[Bytes(TOO_LONG), ONE],
+        NONE,
+        &[Refusal("400 Bad Request", WIRE_7)],
+        8,
+        END_7,
         false,
     ),
     (

@@ -1,5 +1,5 @@
 use Rattle.std.proofs.Common.{arith}
-use Rattle.http_wire.proofs.PlainLaws.{ends_in_whole, cut_where_short, unread_where_long, not_empty}
+use Rattle.http_wire.proofs.PlainLaws.{ends_in_whole, cut_where_short, long_where_none, not_empty}
 use Rattle.http_wire.proofs.plain.first_of.Goals as goal
 
 pub behind_head-requires-clause-short : goal.behind_head-requires-clause-short
@@ -21,4 +21,4 @@ returns-in-Goes c =
 pub returns-in-Goes-2 : goal.returns-in-Goes-2
 returns-in-Goes-2 c =
     let limit = c.min.ensures in
-    unread_where_long c.args.stream.now c.min.result c.in-Goes-2.field-0 c.in-Goes-2.ensures (omega (arith, limit)) c.if-stream-lt-HEAD_LIMIT.false
+    long_where_none c.args.stream.now c.min.result c.in-Goes-2.field-0 c.in-Goes-2.ensures (omega (arith, limit)) c.if-stream-lt-HEAD_LIMIT.false

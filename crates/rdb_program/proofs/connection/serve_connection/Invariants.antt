@@ -1,10 +1,12 @@
-use Rattle.std.proofs.Common.{◌≡◌, List, ◌++◌}
+use Rattle.std.proofs.Common.{◌≡◌, ◌<◌, ◌-◌, List, ◌++◌}
 use Rattle.record_desk.specs.Exchange.{Exchange}
+use Rattle.http_wire.specs.Stream.{reply_limit}
 use Rattle.rdb_program.proofs.Serving.{Serving}
 use Rattle.rdb_program.proofs.connection.serve_connection.Given as goal
 
-abbrev pub invariant-loop-answered : goal.invariant-loop-answered
-invariant-loop-answered g l = record {
+abbrev pub invariant-messages : goal.invariant-messages
+invariant-messages g l = record {
+  few : l.answered < reply_limit;
   serving : Serving
       (λ exchanges. (first : g.row.T.Denot) (before : List Exchange) → g.T.Teller.stands first l.fn.teller before
       → g.T.Teller.stands first l.teller (before ++ exchanges))
@@ -12,3 +14,6 @@ invariant-loop-answered g l = record {
   teller_holds : g.T.Teller.holds l.teller ≡ g.T.Teller.holds l.fn.teller;
   link_holds : g.L.Link.holds l.link ≡ g.L.Link.holds l.fn.link;
 }
+
+abbrev pub decreases-messages : goal.decreases-messages
+decreases-messages g l = reply_limit - l.answered
