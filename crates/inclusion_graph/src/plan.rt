@@ -1,5 +1,5 @@
 //! Edges that are to be added, and why they can't be.
-ghost use Rattle.std.specs.Prelude.{◌≡◌, ◌≢◌, ◌+◌, ◌<◌, ◌≤◌, ◌++◌, ◌∷◌, [], IfOk, OnOk, MatchOption, Some, All, length, take, slice_get, vec_len};
+ghost use Rattle.std.specs.Prelude.{◌≡◌, ◌≢◌, ◌↔◌, ◌+◌, ◌<◌, ◌≤◌, ◌++◌, ◌∷◌, [], IsTrue, IfOk, OnOk, MatchOption, Some, All, length, take, slice_get, vec_len};
 ghost use Rattle.inclusion_graph.specs.Edges.{fresh, has};
 ghost use Rattle.inclusion_graph.specs.Searches.{HasMarks};
 ghost use Rattle.inclusion_graph.specs.Plans.{IsElsewhere, PlanState};
@@ -51,6 +51,15 @@ impl Model for EdgePlan {
     } };
 
     ghost invariant = { λ p. p.held ≤ vec_len p.all };
+}
+
+impl EdgePlan {
+    /// Whether it has no edges.
+    pub fn is_empty(&self) -> bool
+        ensures { IsTrue result ↔ (self.now.targets ≡ []) }
+    {
+        self.all[self.held..].is_empty()
+    }
 }
 
 /// The first place of a number.

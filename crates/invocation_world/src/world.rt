@@ -3,10 +3,12 @@ ghost use Rattle.std.specs.Prelude.{◌≡◌, ◌≢◌, ◌+◌, ◌<◌, ◌�
 ghost use Rattle.std.specs.Option.{ForSome};
 ghost use Rattle.inclusion_graph.specs.Edges.{edges_from, targets_of};
 ghost use Rattle.inclusion_graph.specs.Plans.{IsEdgeFault, IsElsewhere, new_targets};
+ghost use Rattle.invocations.specs.declared.invocation.Invocation.{Invocation};
 ghost use Rattle.invocations.specs.Faults.{CanAdd, IsAddFault};
 ghost use Rattle.invocations.specs.Rows.{HasId, IsInState, IsPlaceOf};
 ghost use Rattle.invocation_world.specs.Advancing.{Advances, IsDueAt, IsQuiet};
 ghost use Rattle.invocation_world.specs.Changes.{with_begun, with_edges, with_update};
+ghost use Rattle.invocation_world.specs.Changes as changes;
 ghost use Rattle.invocation_world.specs.Settling.{Settles};
 ghost use Rattle.invocation_world.specs.States.{Fits, graph_of};
 ghost use Rattle.invocation_world.specs.World.{IsCallMoment, IsPair, IsRow, IsValid, ReachesActive, empty_world, latest_deadline, with_row};
@@ -65,6 +67,14 @@ impl InvocationWorld {
         self.table.rows()
     }
 
+    /// The table of the rows.
+    pub fn table(&self) -> &Table
+        ensures rows { result.now.rows ≡ self.now.world.invocations }
+        ensures valid { IsValid self.now.world }
+    {
+        &self.table
+    }
+
     /// The row at a place, counted from 0.
     pub fn row(&self, place: u32) -> &Invocation
         requires { place < length self.now.world.invocations }
@@ -119,7 +129,8 @@ impl InvocationWorld {
 
     /// Whether something is due at a moment: an active row whose deadline it is, or an earlier one.
     pub fn is_due(&self, moment: Moment) -> bool
-        ensures { MatchBool result (IsDueAt self.now.world moment) (IsQuiet self.now.world moment) }
+        ensures due { MatchBool result (IsDueAt self.now.world moment) (IsQuiet self.now.world moment) }
+        ensures valid { IsValid self.now.world }
     {
         self.table.next_due(moment).is_some()
     }
@@ -246,6 +257,20 @@ impl InvocationWorld {
     {
         retire_row(&mut self.table, &mut self.finaliser, place, moment);
         self.last = moment;
+    }
+
+    /// Whether an update would change the row at a place.
+    pub fn would_update(
+        &self,
+        place: u32,
+        deadline: Option<Moment>,
+        tags: &Option<Listed<Pair>>,
+    ) -> bool
+        requires { place < length self.now.world.invocations }
+        ensures { (row : Invocation) → slice_get self.now.world.invocations place ≡ Some row
+            → result ≡ changes.is_update deadline tags.now row }
+    {
+        is_update(self.table.row(place), &deadline, tags)
     }
 
     /// Sets the deadline and the tags of an active row, each where it is given. An update to what

@@ -1,3 +1,4 @@
+pub mod NameLaws
 pub mod ListLaws
 pub mod WriteLaws
 pub mod TextLaws

@@ -9,6 +9,7 @@ mod faults;
 mod fields;
 mod kinds;
 pub mod laws;
+mod moves;
 mod names;
 mod tags;
 #[cfg(test)]
@@ -21,8 +22,9 @@ pub use body::{BodyFault, read_body, read_json};
 pub use faults::{FaultKind, FieldFault, ReadFault, path_text};
 pub use fields::{Form, optional, optional_list, or_empty_text, required};
 pub use kinds::{UnbuiltList, UnbuiltText, object};
+pub use moves::{ids_from, pairs_from};
 pub use names::{Name, Step};
-pub use tags::{Tag, TagKey, TagValue};
+pub use tags::{Tag, TagKey, TagValue, tag_value};
 pub use texts::{InvocationName, Spelled, SpelledOut, read_text, write_text};
 pub use whys::Why;
 pub use writing::{Written, put, write_list, write_optional, write_required};

@@ -10,8 +10,9 @@ use crate::kinds::object;
 use crate::names::Name;
 use crate::texts::{Spelled, is_empty_text, read_text};
 use crate::writing::{Written, put};
+use lists::Bytes;
 use name_parts::{PartForm, limited, owned_text, read_part, utf8_len};
-use names_realms::{NameFault, PairFault};
+use names_realms::{NameFault, Pair, PairFault};
 use serde_json::{Map, Value};
 use std::alloc::{AllocError, Global};
 use std::marker::Model;
@@ -182,6 +183,33 @@ impl Tag {
         let value = &self.value;
         value.text.as_str()
     }
+
+    /// The pair that a row keeps. Takes no memory.
+    pub fn into_pair(self) -> Pair
+        ensures { result ≡ self }
+    {
+        let Tag { key, value } = self;
+        Pair {
+            key: key.into_bytes(),
+            value: value.into_bytes(),
+        }
+    }
+}
+
+impl TagKey {
+    fn into_bytes(self) -> Bytes
+        ensures { result ≡ self }
+    {
+        Bytes::new(self.text.into_bytes())
+    }
+}
+
+impl TagValue {
+    fn into_bytes(self) -> Bytes
+        ensures { result ≡ self }
+    {
+        Bytes::new(self.text.into_bytes())
+    }
 }
 
 fn key_name() -> Name
@@ -234,8 +262,8 @@ pub fn put_filled(
     put(alloc, map, name, Value::try_from_str(alloc, text)?)
 }
 
-/// The JSON object of a tag.
-fn tag_value(alloc: Global, key: &str, value: &str) -> Result<Value, AllocError>
+/// The JSON object of a tag with this key and value.
+pub fn tag_value(alloc: Global, key: &str, value: &str) -> Result<Value, AllocError>
     ensures { IfOk result (λ v. view v ≡ tag_data (record { key = key.now; value = value.now })) }
 {
     let mut map = Map::new(alloc);

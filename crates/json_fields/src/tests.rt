@@ -1,7 +1,7 @@
 //! Kinds of values, and what is told of others.
 use crate::{
-    BodyFault, FaultKind, Form, InvocationName, ReadFault, Tag, UnbuiltList, Why, Written, laws,
-    path_text, read_body,
+    BodyFault, FaultKind, Form, InvocationName, ReadFault, Tag, UnbuiltList, Why, Written,
+    ids_from, laws, pairs_from, path_text, read_body,
 };
 use lists::Listed;
 use names_realms::{
@@ -128,5 +128,23 @@ fn writes_each_kind(rt: HostRuntime) -> Result<(), Fail> {
     laws::moment_without_fault();
     laws::span_fault_is_of_grammar();
     laws::span_without_fault();
+    Ok(())
+}
+
+#[test]
+fn tags_and_names_are_moved_into_rows(rt: HostRuntime) -> Result<(), Fail> {
+    let alloc = rt.alloc();
+    let mut tags = Vec::new(alloc);
+    tags.push(Tag::parse(alloc, b"os", b"linux").map_err(|_| "no tag")?)?;
+    tags.push(Tag::parse(alloc, b"a/b", b"").map_err(|_| "no tag")?)?;
+    let pairs = pairs_from(alloc, Listed::new(tags))?.into_vec();
+    assert!(rt; pairs.len() == 2);
+    assert!(rt; pairs[0].key.as_slice() == b"os".as_slice());
+    assert!(rt; pairs[0].value.as_slice() == b"linux".as_slice());
+    assert!(rt; pairs[1].key.as_slice() == b"a/b".as_slice());
+    let body = b"[\"invocations/u-b\",\"invocations/u-a\"]";
+    let names = read_body::<Listed<InvocationName>>(alloc, body).map_err(|_| "no names")?;
+    let ids = ids_from(alloc, names)?.into_vec();
+    assert!(rt; ids.len() == 2 && ids[0].as_str() == "u-b" && ids[1].as_str() == "u-a");
     Ok(())
 }

@@ -18,6 +18,7 @@ use names_realms::{
 };
 use serde_json::Value;
 use std::alloc::{AllocError, Global};
+use std::marker::Model;
 
 /// What a text is read as by a grammar: `text_fault` is what is wrong with a text, and `spells` which value it spells.
 pub trait Spelled: Sized + Drop {
@@ -446,10 +447,32 @@ impl SpelledOut for Moment {
     }
 }
 
-/// An invocation by its name: `invocations/` and the id.
+/// An invocation by its name: `invocations/` and the id. Contracts see it as the id.
 #[derive(Debug, Drop)]
 pub struct InvocationName {
-    pub id: InvocationId,
+    id: InvocationId,
+}
+
+impl Model for InvocationName {
+    ghost Value = { List ℕ };
+
+    ghost view = { λ n. n.id };
+}
+
+impl InvocationName {
+    /// The id.
+    pub fn id(&self) -> &InvocationId
+        ensures { result.now ≡ self.now }
+    {
+        &self.id
+    }
+
+    /// The id, moved out.
+    pub fn into_id(self) -> InvocationId
+        ensures { result ≡ self }
+    {
+        self.id
+    }
 }
 
 impl Spelled for InvocationName {
@@ -457,7 +480,7 @@ impl Spelled for InvocationName {
 
     ghost text_fault = { invocation_name_fault };
 
-    ghost spells = { λ text x. IsInvocationName x.id text };
+    ghost spells = { λ text x. IsInvocationName x text };
 
     fn parse_text(alloc: Global, text: &[u8]) -> Result<InvocationName, NameFault> {
         let id = InvocationId::parse_name(alloc, text)?;
@@ -470,7 +493,7 @@ impl Form for InvocationName {
 
     ghost fault = { a_text invocation_name_fault };
 
-    ghost means = { IsText (λ text x. IsInvocationName x.id text) };
+    ghost means = { IsText (λ text x. IsInvocationName x text) };
 
     ghost empty = { empty_text };
 
@@ -557,10 +580,10 @@ impl Written for Moment {
 impl SpelledOut for InvocationName {
     ghost use Rattle.names_realms.specs.Names.{invocation_name};
 
-    ghost spelling = { λ x. invocation_name x.id };
+    ghost spelling = { λ x. invocation_name x };
 
     fn to_spelling(&self, alloc: Global) -> Result<String, AllocError> {
-        let id = self.id.as_str();
+        let id = self.id().as_str();
         format!(in alloc; "invocations/{id}")
     }
 }
@@ -568,7 +591,7 @@ impl SpelledOut for InvocationName {
 impl Written for InvocationName {
     ghost use Rattle.names_realms.specs.Names.{invocation_name};
 
-    ghost json = { λ x. string (invocation_name x.id) };
+    ghost json = { λ x. string (invocation_name x) };
 
     ghost blank = { λ _. false };
 

@@ -1,28 +1,27 @@
--- Requests: a value asks for one at most, for some where it has no fault, and is written so that it is read again.
-use Rattle.std.proofs.Common.{◌≡◌, ℕ, ℤ, false, List, Option, Some, None, IfSome, refl, sym, subst, ◌∙◌}
-use Rattle.moments_spans.specs.Moments.{moment_text}
-use Rattle.moments_spans.specs.MomentGrammar.{IsMomentText}
-use Rattle.names_realms.specs.Names.{invocation_id_fault}
+-- Requests: a value asks for one at most, and for some where it has no fault.
+use Rattle.std.proofs.Common.{◌≡◌, ℕ, ℤ, Bool, true, false, List, Option, Some, None, refl, sym, ap, subst, ◌∙◌}
+use Rattle.names_realms.specs.Names.{invocation_id_fault, invocation_name_fault, IsInvocationName}
 use Rattle.names_realms.specs.Realms.{realm_fault}
 use Rattle.names_realms.specs.declared.pairs.Pair.{Pair}
-use Rattle.serde_json.specs.Data.{Data, string, object, Members, no_members, put}
-use Rattle.json_fields.specs.Fields.{IsJson, member, required, optional, filled_at, set_at}
-use Rattle.json_fields.specs.Kinds.{an_object, a_list, an_unbuilt_text, empty_text, never_empty}
+use Rattle.moments_spans.specs.MomentGrammar.{IsMomentText}
+use Rattle.serde_json.specs.Data.{Data, string}
+use Rattle.json_fields.specs.Fields.{IsJson, required, optional, filled_at, set_at, Holds}
+use Rattle.json_fields.specs.Kinds.{an_object, a_list, an_unbuilt_text, an_unbuilt_list, empty_text, never_empty}
 use Rattle.json_fields.specs.Texts.{a_text, IsText, IsSame, moment_fault}
-use Rattle.json_fields.specs.Tags.{a_tag, IsTag, tag_data}
-use Rattle.json_fields.specs.Writing.{IsWritten, AllWritten, put_required, put_optional, put_list}
+use Rattle.json_fields.specs.Tags.{a_tag, IsTag}
+use Rattle.json_fields.specs.declared.faults.FieldFault.{FieldFault}
 use Rattle.json_fields.proofs.MeaningLaws.{first_left, first_right, holds_one, maybe_one, list_one, same_one, moment_one, tag_one, required_there, optional_there, list_there, same_there, moment_there, tag_there}
-use Rattle.json_fields.proofs.WriteLaws.{member_put, member_other, member_beside_optional, member_beside_list, filled_found, required_found, optional_lost, optional_written, list_written, kept_none, kept_set}
+use Rattle.json_fields.proofs.NameLaws.{name_one, name_there}
 use Rattle.message_forms.specs.Names as name
-use Rattle.message_forms.specs.Requests.{a_new_invocation, IsNewInvocation, a_create_request, IsCreateOf, IsCreate}
+use Rattle.message_forms.specs.Masks.{a_mask, is_named, where_named, only_where, HoldsWhere}
+use Rattle.message_forms.specs.Requests.{a_new_invocation, IsNewInvocation, a_create_request, IsCreate, an_invocation_name, IsNameOf, a_named, IsNamed, a_changed_deadline, IsChangedDeadline, some_changed_tags, AreChangedTags, an_update_request, IsUpdate, an_include_request, IsInclude, method_asked, AsksFor}
 use Rattle.message_forms.specs.Methods.{request_fault, Means}
-use Rattle.message_forms.specs.Writing.{create_data}
 use Rattle.message_forms.specs.Laws.{OneRequestAsked}
 use Rattle.message_forms.specs.declared.methods.Method.{Method}
 use Rattle.message_forms.specs.declared.methods.Method.TheVariants as method
 use Rattle.message_forms.specs.declared.requests.NewInvocation.{NewInvocation}
 use Rattle.message_forms.specs.declared.requests.Request.{Request}
-use Rattle.message_forms.specs.declared.requests.Request.TheVariants.{CreateInvocation}
+use Rattle.message_forms.specs.declared.requests.Request.TheVariants.{CreateInvocation, UpdateInvocation, FinalizeInvocation, UpdateIncludedInvocations, GetInvocation}
 
 new_one : (d : Data) (a b : NewInvocation) → IsNewInvocation d a → IsNewInvocation d b → a ≡ b
 new_one d a b h k =
@@ -31,16 +30,59 @@ new_one d a b h k =
     let tags : a.tags ≡ b.tags = list_one IsTag tag_one (set_at name.tags d) a.tags b.tags h.tags_are k.tags_are in
     λ i. record { realm = realm i; deadline = deadline i; tags = tags i }
 
-create_one : (d : Data) (q r : Request) → IsCreate d q → IsCreate d r → q ≡ r
-create_one d (CreateInvocation id realm deadline tags) (CreateInvocation id' realm' deadline' tags') h k =
-    let a : NewInvocation = record { realm = realm; deadline = deadline; tags = tags } in
-    let b : NewInvocation = record { realm = realm'; deadline = deadline'; tags = tags' } in
-    let ids : id ≡ id' = holds_one (IsText IsSame) same_one (filled_at name.invocation_id empty_text d) id id' h.id_is k.id_is in
+named_one : (d : Data) (a b : List ℕ) → IsNamed d a → IsNamed d b → a ≡ b
+named_one d a b h k = holds_one IsNameOf name_one (filled_at name.name empty_text d) a b h k
+
+deadline_one : (d : Data) (a b : ℤ) → IsChangedDeadline d a → IsChangedDeadline d b → a ≡ b
+deadline_one d a b h k = holds_one (IsText IsMomentText) moment_one (filled_at name.deadline empty_text d) a b h k
+
+tags_one : (d : Data) (a b : List Pair) → AreChangedTags d a → AreChangedTags d b → a ≡ b
+tags_one d a b h k = list_one IsTag tag_one (set_at name.tags d) a b h k
+
+-- what a mask names means one thing
+where_one : {A : Type 0} (named : Bool) (holds : A → Type 0) → ((a b : A) → holds a → holds b → a ≡ b)
+    → (o p : Option A) → HoldsWhere named holds o → HoldsWhere named holds p → o ≡ p
+where_one true holds law None p h k = absurd h
+where_one true holds law (Some a) None h k = absurd k
+where_one true holds law (Some a) (Some b) h k = ap Some (law a b h k)
+where_one false holds law None None h k = refl
+where_one false holds law None (Some b) h k = absurd k
+where_one false holds law (Some a) p h k = absurd h
+
+create_one : (d : Data) (i j : List ℕ) (a b : NewInvocation) → IsCreate d i a → IsCreate d j b
+    → CreateInvocation i a.realm a.deadline a.tags ≡ CreateInvocation j b.realm b.deadline b.tags
+create_one d i j a b h k =
+    let ids : i ≡ j = holds_one (IsText IsSame) same_one (filled_at name.invocation_id empty_text d) i j h.id_is k.id_is in
     let news : a ≡ b = holds_one IsNewInvocation new_one (filled_at name.invocation never_empty d) a b h.new_is k.new_is in
-    λ i. CreateInvocation (ids i) (news i).realm (news i).deadline (news i).tags
+    λ x. CreateInvocation (ids x) (news x).realm (news x).deadline (news x).tags
+
+update_one : (d : Data) (i j : List ℕ) (y z : Option ℤ) (s t : Option (List Pair)) → IsUpdate d i y s → IsUpdate d j z t
+    → UpdateInvocation i y s ≡ UpdateInvocation j z t
+update_one d i j y z s t h k =
+    let at : Option Data = filled_at name.invocation never_empty d in
+    let ids : i ≡ j = holds_one IsNamed named_one at i j h.id_is k.id_is in
+    let deadlines : y ≡ z = where_one (is_named name.deadline d) (Holds IsChangedDeadline at) (holds_one IsChangedDeadline deadline_one at) y z h.deadline_is k.deadline_is in
+    let tags : s ≡ t = where_one (is_named name.tags d) (Holds AreChangedTags at) (holds_one AreChangedTags tags_one at) s t h.tags_are k.tags_are in
+    λ x. UpdateInvocation (ids x) (deadlines x) (tags x)
+
+include_one : (d : Data) (i j : List ℕ) (a b : List (List ℕ)) → IsInclude d i a → IsInclude d j b
+    → UpdateIncludedInvocations i a ≡ UpdateIncludedInvocations j b
+include_one d i j a b h k =
+    let ids : i ≡ j = holds_one IsNameOf name_one (filled_at name.including_invocation empty_text d) i j h.including_is k.including_is in
+    let others : a ≡ b = list_one IsNameOf name_one (set_at name.add_invocations d) a b h.added_are k.added_are in
+    λ x. UpdateIncludedInvocations (ids x) (others x)
+
+one_of : (d : Data) (q r : Request) → method_asked q ≡ method_asked r → AsksFor d q → AsksFor d r → q ≡ r
+one_of d (CreateInvocation i realm deadline tags) (CreateInvocation j realm' deadline' tags') e h k =
+    create_one d i j (record { realm = realm; deadline = deadline; tags = tags }) (record { realm = realm'; deadline = deadline'; tags = tags' }) h k
+one_of d (UpdateInvocation i y s) (UpdateInvocation j z t) e h k = update_one d i j y z s t h k
+one_of d (FinalizeInvocation i) (FinalizeInvocation j) e h k = ap FinalizeInvocation (named_one d i j h k)
+one_of d (UpdateIncludedInvocations i a) (UpdateIncludedInvocations j b) e h k = include_one d i j a b h k
+one_of d (GetInvocation i) (GetInvocation j) e h k = ap GetInvocation (named_one d i j h k)
+one_of d q r e h k = absurd cc
 
 one_meant : (m : Method) (d : Data) (q r : Request) → Means m d q → Means m d r → q ≡ r
-one_meant method.CreateInvocation d q r h k = create_one d q r h k
+one_meant m d q r h k = one_of d q r (h.0 ∙ sym k.0) h.1 k.1
 
 one_json : (body : List ℕ) (d e : Data) → IsJson body d → IsJson body e → d ≡ e
 one_json body d e is also = let both : Some d ≡ Some e = sym is.1 ∙ also.1 in cc
@@ -63,7 +105,24 @@ new_there d h =
     let tags = list_there name.tags a_tag IsTag tag_there d (first_left _ _ three) in
     (record { realm = realm.0; deadline = deadline.0; tags = tags.0 }, record { realm_is = realm.1; deadline_is = deadline.1; tags_are = tags.1 })
 
-create_there : (d : Data) → a_create_request d ≡ None → (q : Request) × IsCreate d q
+named_there : (d : Data) → a_named d ≡ None → (id : List ℕ) × IsNamed d id
+unfolding a_named
+named_there d h =
+    required_there name.name empty_text an_invocation_name IsNameOf name_there d (first_left _ _ (first_right (an_object d) _ h))
+
+deadline_there : (d : Data) → a_changed_deadline d ≡ None → (z : ℤ) × IsChangedDeadline d z
+deadline_there d h = required_there name.deadline empty_text (a_text moment_fault) (IsText IsMomentText) moment_there d h
+
+tags_there : (d : Data) → some_changed_tags d ≡ None → (tags : List Pair) × AreChangedTags d tags
+tags_there d h = list_there name.tags a_tag IsTag tag_there d h
+
+-- what a mask names is there, where it has no fault
+where_there : {A : Type 0} (named : Bool) (fault : Option FieldFault) (holds : A → Type 0) → (fault ≡ None → (a : A) × holds a)
+    → only_where named fault ≡ None → (o : Option A) × HoldsWhere named holds o
+where_there true fault holds law h = let there = law h in (Some there.0, there.1)
+where_there false fault holds law h = (None, tt)
+
+create_there : (d : Data) → a_create_request d ≡ None → (q : Request) × Means method.CreateInvocation d q
 unfolding a_create_request
 create_there d h =
     let one = first_right (an_object d) _ h in
@@ -71,74 +130,35 @@ create_there d h =
     let three = first_right (required name.invocation_id empty_text (a_text invocation_id_fault) d) _ two in
     let id = required_there name.invocation_id empty_text (a_text invocation_id_fault) (IsText IsSame) (same_there invocation_id_fault) d (first_left _ _ two) in
     let new = required_there name.invocation never_empty a_new_invocation IsNewInvocation new_there d (first_left _ _ three) in
-    (CreateInvocation id.0 new.0.realm new.0.deadline new.0.tags, record { id_is = id.1; new_is = new.1 })
+    (CreateInvocation id.0 new.0.realm new.0.deadline new.0.tags, (refl, record { id_is = id.1; new_is = new.1 }))
+
+update_there : (d : Data) → an_update_request d ≡ None → (q : Request) × Means method.UpdateInvocation d q
+unfolding an_update_request where_named
+update_there d h =
+    let at : Option Data = filled_at name.invocation never_empty d in
+    let one = first_right (an_object d) _ h in
+    let two = first_right (required name.invocation never_empty a_named d) _ one in
+    let three = first_right (required name.update_mask empty_text a_mask d) _ two in
+    let four = first_right (where_named name.deadline (required name.invocation never_empty a_changed_deadline) d) _ three in
+    let id = required_there name.invocation never_empty a_named IsNamed named_there d (first_left _ _ one) in
+    let deadline = where_there (is_named name.deadline d) _ (Holds IsChangedDeadline at)
+    (required_there name.invocation never_empty a_changed_deadline IsChangedDeadline deadline_there d) (first_left _ _ three) in
+    let tags = where_there (is_named name.tags d) _ (Holds AreChangedTags at)
+    (required_there name.invocation never_empty some_changed_tags AreChangedTags tags_there d) (first_left _ _ four) in
+    (UpdateInvocation id.0 deadline.0 tags.0, (refl, record { id_is = id.1; deadline_is = deadline.1; tags_are = tags.1 }))
+
+include_there : (d : Data) → an_include_request d ≡ None → (q : Request) × Means method.UpdateIncludedInvocations d q
+unfolding an_include_request
+include_there d h =
+    let one = first_right (an_object d) _ h in
+    let two = first_right (required name.including_invocation empty_text an_invocation_name d) _ one in
+    let id = required_there name.including_invocation empty_text an_invocation_name IsNameOf name_there d (first_left _ _ one) in
+    let others = list_there name.add_invocations an_invocation_name IsNameOf name_there d (first_left _ _ two) in
+    (UpdateIncludedInvocations id.0 others.0, (refl, record { including_is = id.1; added_are = others.1 }))
 
 pub asked_there : (m : Method) (d : Data) → request_fault m d ≡ None → (q : Request) × Means m d q
 asked_there method.CreateInvocation d h = create_there d h
-
--- what is written of the invocation in a request
-module _ (realm : List ℕ) (deadline : Option ℤ) (tags : List Pair)
-    (w : IsWritten (a_text realm_fault) (IsText IsSame) empty_text (λ _. false) realm (string realm))
-    (v : IfSome deadline (λ z. IsWritten (a_text moment_fault) (IsText IsMomentText) empty_text (λ _. false) z (string (moment_text z))))
-    (all : AllWritten a_tag IsTag never_empty (λ _. false) tag_data tags) where
-  abbrev behind : Members
-  behind = put_list name.tags tag_data tags no_members
-
-  abbrev beside : Members
-  beside = put_required name.realm string realm behind
-
-  abbrev whole : Members
-  whole = put_optional name.deadline (λ z. string (moment_text z)) deadline beside
-
-  realm_there : member name.realm (object whole) ≡ Some (string realm)
-  realm_there = member_beside_optional name.realm name.deadline (λ z. string (moment_text z)) deadline beside refl refl ∙ member_put name.realm (string realm) behind
-
-  no_deadline : member name.deadline (object beside) ≡ None
-  no_deadline = member_other name.deadline name.realm (string realm) behind refl refl
-      ∙ member_beside_list name.deadline name.tags tag_data tags no_members refl refl
-
-  tags_same : member name.tags (object whole) ≡ member name.tags (object behind)
-  tags_same = member_beside_optional name.tags name.deadline (λ z. string (moment_text z)) deadline beside refl refl
-      ∙ member_other name.tags name.realm (string realm) behind refl refl
-
-  pub new_written : IsWritten a_new_invocation IsNewInvocation never_empty (λ _. false) (record { realm = realm; deadline = deadline; tags = tags }) (object whole)
-  unfolding a_new_invocation
-  new_written =
-      let late = optional_written (a_text moment_fault) (IsText IsMomentText) empty_text (λ _. false) (λ z. string (moment_text z)) name.deadline deadline beside no_deadline v in
-      let tagged = list_written a_tag IsTag never_empty (λ _. false) tag_data name.tags tags no_members refl all in
-      let tags_none = kept_none name.tags (a_list a_tag) (object whole) (object behind) tags_same tagged.0 in
-      let found = required_found name.realm (object whole) empty_text (a_text realm_fault) (string realm) realm_there refl w.emptiness w.no_fault in
-      record {
-        is_set = refl;
-        no_fault = rw (found, late.0, tags_none) refl;
-        meant = record {
-          realm_is = rw (filled_found name.realm (object whole) empty_text (string realm) realm_there refl w.emptiness) w.meant;
-          deadline_is = late.1;
-          tags_are = rw (kept_set name.tags (object whole) (object behind) tags_same) tagged.1;
-        };
-        emptiness = refl;
-      }
-
-pub create_written : (id : List ℕ) (new : NewInvocation) (d : Data)
-    → IsWritten (a_text invocation_id_fault) (IsText IsSame) empty_text (λ _. false) id (string id)
-    → IsWritten a_new_invocation IsNewInvocation never_empty (λ _. false) new d
-    → (a_create_request (create_data id d) ≡ None) × IsCreateOf (create_data id d) id new
-unfolding a_create_request
-create_written id new d w v =
-    let behind : Members = put_required name.invocation_id string id no_members in
-    let whole : Members = put name.invocation.camel d behind in
-    let id_there : member name.invocation_id (object whole) ≡ Some (string id) =
-    member_other name.invocation_id name.invocation d behind refl refl ∙ member_put name.invocation_id (string id) no_members in
-    let new_there : member name.invocation (object whole) ≡ Some d = member_put name.invocation d behind in
-    let no_id : member name.request_id (object whole) ≡ None =
-    member_other name.request_id name.invocation d behind refl refl ∙ member_other name.request_id name.invocation_id (string id) no_members refl refl in (
-      rw (
-        optional_lost name.request_id (object whole) an_unbuilt_text no_id,
-        required_found name.invocation_id (object whole) empty_text (a_text invocation_id_fault) (string id) id_there refl w.emptiness w.no_fault,
-        required_found name.invocation (object whole) never_empty a_new_invocation d new_there v.is_set refl v.no_fault,
-      ) refl,
-      record {
-        id_is = rw (filled_found name.invocation_id (object whole) empty_text (string id) id_there refl w.emptiness) w.meant;
-        new_is = rw (filled_found name.invocation (object whole) never_empty d new_there v.is_set refl) v.meant;
-      },
-    )
+asked_there method.UpdateInvocation d h = update_there d h
+asked_there method.FinalizeInvocation d h = let there = named_there d h in (FinalizeInvocation there.0, (refl, there.1))
+asked_there method.UpdateIncludedInvocations d h = include_there d h
+asked_there method.GetInvocation d h = let there = named_there d h in (GetInvocation there.0, (refl, there.1))

@@ -1,11 +1,16 @@
--- The names of users are ASCII.
-use Rattle.std.proofs.Common.{◌≡◌, ◌<◌, ℕ, zero, suc, true, List, [], ◌∷◌, IsUtf8, arith, lit<}
+-- The names of users are ASCII, and what a row shows is UTF-8.
+use Rattle.std.proofs.Common.{◌≡◌, ◌<◌, ℕ, zero, suc, true, List, [], ◌∷◌, IsUtf8, slice_index_or, arith, lit<}
 use Rattle.std.specs.List.{list_all}
 use Rattle.std.specs.Char.{is_ascii_lowercase}
 use Rattle.std.specs.Str.{IsAscii}
 use Rattle.std.proofs.lemmas.Bool.{and_parts}
 use Rattle.std.proofs.lemmas.Bool.Decides.{nat_tests}
 use Rattle.std.proofs.lemmas.Str.{IsUtf8-from_ascii}
+use Rattle.name_parts.proofs.PartLemmas.{IsPart-utf8}
+use Rattle.name_parts.specs.declared.parts.PartForm.TheVariants.{PairKey}
+use Rattle.names_realms.specs.declared.pairs.Pair.{Pair}
+use Rattle.message_forms.specs.Laws.{IsPairOfGrammar, RowIsShowable}
+use Rattle.message_forms.specs.Shown.{IsUtf8Pair}
 use Rattle.message_forms.specs.Users.{is_user_name, may_follow}
 
 follows_small : (b : ℕ) → may_follow b ≡ true → b < 128
@@ -26,3 +31,12 @@ user_ascii (b ∷ bs) e (suc i) = others_ascii bs (and_parts _ _ e).1 i
 
 pub user_utf8 : (text : List ℕ) → is_user_name text ≡ true → IsUtf8 text
 user_utf8 text e = IsUtf8-from_ascii text (user_ascii text e)
+
+pair_utf8 : (pair : Pair) → IsPairOfGrammar pair → IsUtf8Pair pair
+pair_utf8 pair is = (IsPart-utf8 PairKey pair.key is.0, is.1.0)
+
+pub row_is_showable : RowIsShowable
+row_is_showable s named tags = record {
+  creator = user_utf8 s.creator named;
+  tags = λ k d below. pair_utf8 (slice_index_or s.tags k d) (tags k d below);
+}

@@ -1,9 +1,16 @@
 -- Laws of requests and their faults: each service, method and body asks for one request or has one fault.
-use Rattle.std.specs.Prelude.{◌≡◌, ◌⊎◌, ◌≤◌, ◌≢◌, ℕ, List, Some}
+use Rattle.std.specs.Prelude.{◌≡◌, ◌⊎◌, ◌≤◌, ◌≢◌, ℕ, true, List, All, Some, None}
+use Rattle.names_realms.specs.Pairs.{IsPairKey, IsPairValue}
+use Rattle.names_realms.specs.declared.pairs.Pair.{Pair}
+use Rattle.message_forms.specs.Replies.{IsShowable}
+use Rattle.message_forms.specs.Shown.{InvocationShown}
+use Rattle.message_forms.specs.Users.{is_user_name}
+use Rattle.message_forms.specs.declared.replies.Reply.TheVariants.{Invocation}
 use Rattle.message_forms.specs.Reading.{Asks, HasFault}
 use Rattle.message_forms.specs.Refusals.{refusal_of}
 use Rattle.message_forms.specs.declared.reading.FormFault.{FormFault}
 use Rattle.message_forms.specs.declared.requests.Request.{Request}
+use Rattle.message_forms.specs.declared.requests.Request.TheVariants.{UpdateInvocation}
 use Rattle.call_forms.specs.declared.forms.Refusal.{Refusal}
 
 -- One body asks for at most one request.
@@ -31,3 +38,14 @@ IsRefusedByForm target f = (r : Refusal) × (refusal_of target f ≡ Some r) × 
 
 abbrev pub FaultIsRefused : Type 0
 FaultIsRefused = (service method body target : List ℕ) (f : FormFault) → HasFault service method body f → IsRefusedByForm target f
+
+-- No body asks for an update that changes nothing.
+abbrev pub UpdateChangesSomething : Type 0
+UpdateChangesSomething = (service method body id : List ℕ) → ¬ Asks service method body (UpdateInvocation id None None)
+
+-- What a row shows can be shown: its creator has the form of a user's name, and its tags are pairs of their grammar.
+abbrev pub IsPairOfGrammar : Pair → Type 0
+IsPairOfGrammar pair = IsPairKey pair.key × IsPairValue pair.value
+
+abbrev pub RowIsShowable : Type 0
+RowIsShowable = (s : InvocationShown) → is_user_name s.creator ≡ true → All IsPairOfGrammar s.tags → IsShowable (Invocation s)

@@ -1,9 +1,11 @@
 pub mod Names
-pub mod Methods
+pub mod Masks
 pub mod Requests
+pub mod Methods
 pub mod Reading
 pub mod Refusals
 pub mod Users
+pub mod Shown
 pub mod Replies
 pub mod Writing
 pub mod Laws

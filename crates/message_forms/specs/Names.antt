@@ -40,3 +40,15 @@ name = word (codes "name")
 
 abbrev pub state : NameForm
 state = word (codes "state")
+
+abbrev pub update_mask : NameForm
+update_mask = named (codes "updateMask") (codes "update_mask")
+
+abbrev pub including_invocation : NameForm
+including_invocation = named (codes "includingInvocation") (codes "including_invocation")
+
+abbrev pub add_invocations : NameForm
+add_invocations = named (codes "addInvocations") (codes "add_invocations")
+
+abbrev pub remove_invocations : NameForm
+remove_invocations = named (codes "removeInvocations") (codes "remove_invocations")

@@ -1,5 +1,5 @@
 -- The texts of replies: JSON (RFC 8259) by the Proto3 mapping, without blanks, the members in byte order of their names.
-use Rattle.std.specs.Prelude.{ℕ, ℤ, List, ◌++◌, codes}
+use Rattle.std.specs.Prelude.{ℕ, ℤ, List, ◌++◌, codes, ⊤}
 use Rattle.serde_json.specs.Data.{Data, string, object, Members, no_members}
 use Rattle.serde_json.specs.Written.{compact_text}
 use Rattle.moments_spans.specs.Moments.{moment_text}
@@ -9,9 +9,10 @@ use Rattle.names_realms.specs.declared.states.State.TheVariants.{Active, Finaliz
 use Rattle.json_fields.specs.Tags.{tag_data}
 use Rattle.json_fields.specs.Writing.{put_required, put_optional, put_list}
 use Rattle.message_forms.specs.Names as name
+use Rattle.message_forms.specs.Writing.{name_data}
 use Rattle.message_forms.specs.declared.replies.Reply.{Reply}
-use Rattle.message_forms.specs.declared.replies.Reply.TheVariants.{Invocation}
-use Rattle.message_forms.specs.declared.replies.ShownInvocation.{ShownInvocation}
+use Rattle.message_forms.specs.declared.replies.Reply.TheVariants.{Empty, Invocation}
+use Rattle.message_forms.specs.Shown.{InvocationShown, IsShowableInvocation}
 
 abbrev pub state_text : State → List ℕ
 state_text Active = codes "ACTIVE"
@@ -24,25 +25,21 @@ text_data text = string text
 abbrev pub moment_data : ℤ → Data
 moment_data moment = string (moment_text moment)
 
--- an invocation by its name
-abbrev pub name_data : List ℕ → Data
-name_data id = string (invocation_name id)
-
 -- a user, as who made an invocation
 abbrev pub user_text : List ℕ → List ℕ
 user_text name = codes "user:" ++ name
 
 -- what an invocation is
-abbrev pub what_members : ShownInvocation → Members
+abbrev pub what_members : InvocationShown → Members
 what_members s =
-    put_list name.included_invocations name_data s.included.now
-    (put_required name.name text_data (invocation_name s.id.now)
-    (put_required name.realm text_data s.realm.now
+    put_list name.included_invocations name_data s.included
+    (put_required name.name text_data (invocation_name s.id)
+    (put_required name.realm text_data s.realm
     (put_required name.state text_data (state_text s.state)
-    (put_list name.tags tag_data s.tags.now no_members))))
+    (put_list name.tags tag_data s.tags no_members))))
 
 -- and when it ends
-abbrev pub ends_members : ShownInvocation → Members
+abbrev pub ends_members : InvocationShown → Members
 ends_members s =
     put_required name.deadline moment_data s.deadline
     (put_optional name.finalize_start_time moment_data s.started
@@ -50,14 +47,20 @@ ends_members s =
     (what_members s)))
 
 -- All that is shown of an invocation. Moments that are unset and lists that are empty are left out.
-abbrev pub invocation_members : ShownInvocation → Members
+abbrev pub invocation_members : InvocationShown → Members
 invocation_members s =
     put_required name.create_time moment_data s.created
-    (put_required name.created_by text_data (user_text s.creator.now)
+    (put_required name.created_by text_data (user_text s.creator)
     (ends_members s))
 
 abbrev pub reply_data : Reply → Data
+reply_data Empty = object no_members
 reply_data (Invocation s) = object (invocation_members s)
+
+-- its texts are UTF-8
+abbrev pub IsShowable : Reply → Type 0
+IsShowable Empty = ⊤
+IsShowable (Invocation s) = IsShowableInvocation s
 
 -- what every pRPC reply in JSON begins with, so that no browser takes it for a script
 abbrev pub reply_prefix : List ℕ

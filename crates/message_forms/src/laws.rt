@@ -1,5 +1,5 @@
 //! Laws of the definitions that the contracts cite. These functions do nothing: what each of them ensures is the law.
-ghost use Rattle.message_forms.specs.Laws.{OneRequestAsked, OneFault, NeverBoth, AsksOrHasFault, FaultIsRefused};
+ghost use Rattle.message_forms.specs.Laws.{OneRequestAsked, OneFault, NeverBoth, AsksOrHasFault, FaultIsRefused, UpdateChangesSomething, RowIsShowable};
 
 /// One body asks for one request.
 pub fn one_request_asked()
@@ -24,4 +24,14 @@ pub fn asks_or_has_fault()
 /// Each fault is refused by one of the rules 1 and 3 to 6.
 pub fn fault_is_refused()
     ensures { FaultIsRefused }
+{}
+
+/// No body asks for an update that changes nothing.
+pub fn update_changes_something()
+    ensures { UpdateChangesSomething }
+{}
+
+/// What a row shows is UTF-8: a creator of the form of a user's name, and tags of the grammar of pairs.
+pub fn row_is_showable()
+    ensures { RowIsShowable }
 {}

@@ -2,23 +2,24 @@
 #![tactic(auto)]
 
 pub mod laws;
+mod masks;
 mod methods;
 mod names;
 mod reading;
 mod refusals;
 mod replies;
 mod requests;
+mod shown;
 #[cfg(test)]
 mod tests;
-mod users;
+mod updates;
 mod writing;
 
 pub use call_forms::{Answer, Asked, Refusal, Standin, Told, write_refusal};
-pub use json_fields::{FaultKind, FieldFault, Step, Tag, Why};
+pub use json_fields::{FaultKind, FieldFault, Step, Tag, Why, pairs_from};
 pub use methods::Method;
 pub use reading::{FormFault, read_request};
 pub use refusals::refusal_of;
-pub use replies::{Reply, ShownInvocation, write_reply};
+pub use replies::{Reply, ShownInvocation, state_name, write_reply};
 pub use requests::{NewInvocation, Request};
-pub use users::UserName;
 pub use writing::write_request;

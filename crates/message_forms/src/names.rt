@@ -1,6 +1,6 @@
 //! The names of the members of messages.
 ghost use Rattle.std.specs.Prelude.{◌≡◌};
-ghost use Rattle.message_forms.specs.Names.{request_id, invocation_id, invocation, realm, deadline, tags, create_time, created_by, finalize_start_time, finalize_time, included_invocations, name, state};
+ghost use Rattle.message_forms.specs.Names.{request_id, invocation_id, invocation, realm, deadline, tags, create_time, created_by, finalize_start_time, finalize_time, included_invocations, name, state, update_mask, including_invocation, add_invocations, remove_invocations};
 
 use json_fields::Name;
 
@@ -80,4 +80,28 @@ pub(crate) fn state() -> Name
     ensures { result ≡ state }
 {
     Name::word("state")
+}
+
+pub(crate) fn update_mask() -> Name
+    ensures { result ≡ update_mask }
+{
+    Name::new("updateMask", "update_mask")
+}
+
+pub(crate) fn including_invocation() -> Name
+    ensures { result ≡ including_invocation }
+{
+    Name::new("includingInvocation", "including_invocation")
+}
+
+pub(crate) fn add_invocations() -> Name
+    ensures { result ≡ add_invocations }
+{
+    Name::new("addInvocations", "add_invocations")
+}
+
+pub(crate) fn remove_invocations() -> Name
+    ensures { result ≡ remove_invocations }
+{
+    Name::new("removeInvocations", "remove_invocations")
 }

@@ -1,16 +1,24 @@
 //! Requests and replies, byte for byte, and each cause of a refusal.
+ghost use Rattle.std.specs.Prelude.{◌≡◌, true, All};
+ghost use Rattle.std.specs.Str.{IsUtf8};
+ghost use Rattle.message_forms.specs.Shown.{IsUtf8Pair};
+
 use crate::{
-    Answer, FormFault, Reply, ShownInvocation, Tag, UserName, laws, read_request, refusal_of,
+    Answer, FormFault, Reply, Request, ShownInvocation, laws, read_request, refusal_of,
     write_refusal, write_reply, write_request,
 };
 use lists::Bytes;
-use names_realms::{InvocationId, Moment, Realm, State};
+use names_realms::{InvocationId, Moment, Pair, Realm, State};
 use std::alloc::{AllocError, Global};
+use std::process::Abort;
+use std::str::from_utf8;
 use std::test::Fail;
 
 const RECORDER: &str = "luci.resultdb.v1.Recorder";
 
-/// Bodies, and the texts of their refusals.
+const READER: &str = "luci.resultdb.v1.ResultDB";
+
+/// Bodies for new invocations, and the texts of their refusals.
 const REFUSED: [(&str, &str); 38] = [
     ("", "3 NotJson\n"),
     ("{", "3 NotJson\n"),
@@ -106,7 +114,7 @@ const REFUSED: [(&str, &str); 38] = [
     ),
 ];
 
-/// Bodies that ask for a request, and the text that is written of it.
+/// Bodies that ask for a new invocation, and the text that is written of the request.
 const READ: [(&str, &str); 8] = [
     (
         "{\"invocationId\":\"u-a\",\"invocation\":{\"realm\":\"proj:ci\"}}",
@@ -142,7 +150,193 @@ const READ: [(&str, &str); 8] = [
     ),
 ];
 
-/// The body of a row: `D` begins a deadline and `T` tags of an invocation that is right otherwise.
+/// Bodies for the other methods, and the texts of their refusals. `N` begins what stands beside the name of a right invocation.
+const OTHERS_REFUSED: [(&str, &str, &str); 31] = [
+    ("UpdateInvocation", "5", "4 WrongKind: body\n"),
+    ("UpdateInvocation", "{}", "5 Missing: invocation\n"),
+    (
+        "UpdateInvocation",
+        "{\"invocation\":[],\"updateMask\":\"state\"}",
+        "4 WrongKind: invocation\n",
+    ),
+    (
+        "UpdateInvocation",
+        "{\"invocation\":{},\"updateMask\":\"state\"}",
+        "5 Missing: invocation.name\n",
+    ),
+    (
+        "UpdateInvocation",
+        "{\"invocation\":{\"name\":\"u-a\"}}",
+        "6 BadValue: invocation.name BadByte 0\n",
+    ),
+    ("UpdateInvocation", "N}}", "5 Missing: updateMask\n"),
+    (
+        "UpdateInvocation",
+        "N},\"updateMask\":\"\"}",
+        "5 Missing: updateMask\n",
+    ),
+    (
+        "UpdateInvocation",
+        "N},\"updateMask\":[\"tags\"]}",
+        "4 WrongKind: updateMask\n",
+    ),
+    (
+        "UpdateInvocation",
+        "N},\"updateMask\":\"state\"}",
+        "6 BadValue: updateMask NotUpdatable\n",
+    ),
+    (
+        "UpdateInvocation",
+        "N},\"updateMask\":\"tags,\"}",
+        "6 BadValue: updateMask NotUpdatable\n",
+    ),
+    (
+        "UpdateInvocation",
+        "N},\"updateMask\":\",\"}",
+        "6 BadValue: updateMask NotUpdatable\n",
+    ),
+    (
+        "UpdateInvocation",
+        "N},\"updateMask\":\"tags, deadline\"}",
+        "6 BadValue: updateMask NotUpdatable\n",
+    ),
+    (
+        "UpdateInvocation",
+        "N},\"updateMask\":\"deadline\"}",
+        "5 Missing: invocation.deadline\n",
+    ),
+    (
+        "UpdateInvocation",
+        "N,\"deadline\":\"\"},\"updateMask\":\"deadline\"}",
+        "5 Missing: invocation.deadline\n",
+    ),
+    (
+        "UpdateInvocation",
+        "N,\"tags\":5,\"deadline\":5},\"updateMask\":\"tags,deadline\"}",
+        "4 WrongKind: invocation.deadline\n",
+    ),
+    (
+        "UpdateInvocation",
+        "N,\"tags\":5,\"deadline\":5},\"updateMask\":\"tags\"}",
+        "4 WrongKind: invocation.tags\n",
+    ),
+    (
+        "UpdateInvocation",
+        "N,\"tags\":[{}]},\"updateMask\":\"tags\"}",
+        "6 BadValue: invocation.tags[0].key Empty\n",
+    ),
+    ("FinalizeInvocation", "null", "4 WrongKind: body\n"),
+    ("FinalizeInvocation", "{}", "5 Missing: name\n"),
+    ("FinalizeInvocation", "{\"name\":\"\"}", "5 Missing: name\n"),
+    (
+        "FinalizeInvocation",
+        "{\"name\":\"invocations/A\"}",
+        "6 BadValue: name BadByte 12\n",
+    ),
+    ("GetInvocation", "{\"name\":5}", "4 WrongKind: name\n"),
+    (
+        "GetInvocation",
+        "{\"name\":\"invocations/\"}",
+        "6 BadValue: name Empty\n",
+    ),
+    (
+        "UpdateIncludedInvocations",
+        "{\"addInvocations\":5}",
+        "5 Missing: includingInvocation\n",
+    ),
+    (
+        "UpdateIncludedInvocations",
+        "{\"including_invocation\":\"u-a\"}",
+        "6 BadValue: includingInvocation BadByte 0\n",
+    ),
+    (
+        "UpdateIncludedInvocations",
+        "I\"x\"}",
+        "4 WrongKind: addInvocations\n",
+    ),
+    (
+        "UpdateIncludedInvocations",
+        "I[\"invocations/u-b\",null]}",
+        "4 WrongKind: addInvocations[1]\n",
+    ),
+    (
+        "UpdateIncludedInvocations",
+        "I[\"\"]}",
+        "6 BadValue: addInvocations[0] Empty\n",
+    ),
+    (
+        "UpdateIncludedInvocations",
+        "I[\"b\"],\"removeInvocations\":[5]}",
+        "6 BadValue: addInvocations[0] BadByte 0\n",
+    ),
+    (
+        "UpdateIncludedInvocations",
+        "I[],\"removeInvocations\":5}",
+        "4 WrongKind: removeInvocations\n",
+    ),
+    (
+        "UpdateIncludedInvocations",
+        "I[],\"removeInvocations\":[5]}",
+        "6 BadValue: removeInvocations NotBuilt\n",
+    ),
+];
+
+/// Bodies that ask for a request of another method, and the text that is written of it.
+const OTHERS_READ: [(&str, &str, &str); 10] = [
+    (
+        "UpdateInvocation",
+        "N,\"tags\":5,\"deadline\":\"2023-11-14T22:13:20Z\"},\"updateMask\":\"deadline,deadline\"}",
+        "{\"invocation\":{\"deadline\":\"2023-11-14T22:13:20Z\",\"name\":\"invocations/u-a\"},\"updateMask\":\"deadline\"}",
+    ),
+    (
+        "UpdateInvocation",
+        "N,\"deadline\":5},\"update_mask\":\"tags\"}",
+        "{\"invocation\":{\"name\":\"invocations/u-a\"},\"updateMask\":\"tags\"}",
+    ),
+    (
+        "UpdateInvocation",
+        "N,\"tags\":null},\"updateMask\":\"tags\"}",
+        "{\"invocation\":{\"name\":\"invocations/u-a\"},\"updateMask\":\"tags\"}",
+    ),
+    (
+        "UpdateInvocation",
+        "N,\"tags\":[{\"key\":\"k\"}],\"deadline\":\"2023-11-14T22:13:20Z\"},\"updateMask\":\"tags,deadline\"}",
+        "{\"invocation\":{\"deadline\":\"2023-11-14T22:13:20Z\",\"name\":\"invocations/u-a\",\"tags\":[{\"key\":\"k\"}]},\"updateMask\":\"deadline,tags\"}",
+    ),
+    (
+        "FinalizeInvocation",
+        "{\"name\":\"invocations/u-a\",\"x\":1}",
+        "{\"name\":\"invocations/u-a\"}",
+    ),
+    (
+        "GetInvocation",
+        "{\"name\":\"invocations/u-a\"}",
+        "{\"name\":\"invocations/u-a\"}",
+    ),
+    (
+        "UpdateIncludedInvocations",
+        "Inull,\"removeInvocations\":null}",
+        "{\"includingInvocation\":\"invocations/u-a\"}",
+    ),
+    (
+        "UpdateIncludedInvocations",
+        "I[],\"removeInvocations\":[]}",
+        "{\"includingInvocation\":\"invocations/u-a\"}",
+    ),
+    (
+        "UpdateIncludedInvocations",
+        "I[\"invocations/u-c\",\"invocations/u-b\",\"invocations/u-c\"]}",
+        "{\"addInvocations\":[\"invocations/u-c\",\"invocations/u-b\",\"invocations/u-c\"],\"includingInvocation\":\"invocations/u-a\"}",
+    ),
+    (
+        "UpdateIncludedInvocations",
+        "I[\"invocations/u-a\"]}",
+        "{\"addInvocations\":[\"invocations/u-a\"],\"includingInvocation\":\"invocations/u-a\"}",
+    ),
+];
+
+/// The body of a row: `D` begins a deadline and `T` tags of a new invocation that is right otherwise, `N` what stands beside the name
+/// of one that is updated, and `I` the invocations to add to one.
 fn body_of(alloc: Global, row: &str) -> Result<String, AllocError> {
     let front = "{\"invocationId\":\"u-a\",\"invocation\":{\"realm\":\"proj:ci\",";
     if let Some(rest) = row.strip_prefix("D") {
@@ -151,12 +345,33 @@ fn body_of(alloc: Global, row: &str) -> Result<String, AllocError> {
     if let Some(rest) = row.strip_prefix("T") {
         return format!(in alloc; "{front}\"tags\":{rest}}}}}");
     }
+    if let Some(rest) = row.strip_prefix("N") {
+        return format!(in alloc; "{{\"invocation\":{{\"name\":\"invocations/u-a\"{rest}");
+    }
+    if let Some(rest) = row.strip_prefix("I") {
+        return format!(in alloc;
+            "{{\"includingInvocation\":\"invocations/u-a\",\"addInvocations\":{rest}"
+        );
+    }
     String::from_str(alloc, row)
+}
+
+fn service_of(method: &str) -> &'static str {
+    if method == "GetInvocation" {
+        READER
+    } else {
+        RECORDER
+    }
 }
 
 /// What a caller is told of a request that is refused, and none where it is read.
 fn refusal_text(alloc: Global, method: &str, body: &[u8]) -> Result<Option<Answer>, AllocError> {
-    match read_request(alloc, RECORDER.as_bytes(), method.as_bytes(), body) {
+    match read_request(
+        alloc,
+        service_of(method).as_bytes(),
+        method.as_bytes(),
+        body,
+    ) {
         Ok(_) => Ok(None),
         Err(fault) => {
             let refusal = refusal_of(alloc, b"/x", &fault)?;
@@ -169,37 +384,81 @@ fn refusal_text(alloc: Global, method: &str, body: &[u8]) -> Result<Option<Answe
 }
 
 /// What is written of the request that a body asks for.
-fn again(alloc: Global, body: &[u8]) -> Result<Bytes, FormFault> {
-    let request = read_request(alloc, RECORDER.as_bytes(), b"CreateInvocation", body)?;
+fn again(alloc: Global, method: &str, body: &[u8]) -> Result<Bytes, FormFault> {
+    let service = service_of(method).as_bytes();
+    let request = read_request(alloc, service, method.as_bytes(), body)?;
     match write_request(alloc, &request) {
         Ok(text) => Ok(text),
         Err(_) => Err(FormFault::Memory),
     }
 }
 
+/// The row is refused with this text.
+fn refused(
+    rt: &impl Abort,
+    alloc: Global,
+    method: &str,
+    row: &str,
+    text: &str,
+) -> Result<(), AllocError> {
+    let body = body_of(alloc, row)?;
+    match refusal_text(alloc, method, body.as_bytes())? {
+        Some(told) => assert!(rt; told.body.as_slice() == text.as_bytes(), "{row}"),
+        None => assert!(rt; false, "{row}"),
+    }
+    Ok(())
+}
+
+/// The row is read, and written as this text, which is read again as the same.
+fn read_again(
+    rt: &impl Abort,
+    alloc: Global,
+    method: &str,
+    row: &str,
+    text: &str,
+) -> Result<(), FormFault> {
+    let Ok(body) = body_of(alloc, row) else {
+        return Err(FormFault::Memory);
+    };
+    let written = again(alloc, method, body.as_bytes())?;
+    assert!(rt; written.as_slice() == text.as_bytes(), "{row}");
+    let twice = again(alloc, method, written.as_slice())?;
+    assert!(rt; twice.as_slice() == text.as_bytes(), "{row}");
+    Ok(())
+}
+
 #[test]
 fn refuses_by_the_first_fault(rt: HostRuntime) -> Result<(), Fail> {
-    for (row, text) in REFUSED {
-        let body = body_of(rt.alloc(), row)?;
-        let told = refusal_text(rt.alloc(), "CreateInvocation", body.as_bytes())?;
-        let told = told.ok_or("was read")?;
-        assert!(rt; told.body.as_slice() == text.as_bytes(), "{row}");
+    for (row, text) in &REFUSED {
+        refused(&rt, rt.alloc(), "CreateInvocation", *row, *text)?;
+    }
+    for (method, row, text) in &OTHERS_REFUSED {
+        refused(&rt, rt.alloc(), *method, *row, *text)?;
     }
     let told = refusal_text(rt.alloc(), "createInvocation", b"")?.ok_or("was read")?;
     assert!(rt; told.status == 501 && told.body.as_slice() == b"1 NoMethod: /x\n".as_slice());
+    let name = b"{\"name\":\"invocations/u-a\"}";
     assert!(rt; read_request(rt.alloc(), b"x", b"CreateInvocation", b"{}").is_err());
+    assert!(rt; read_request(rt.alloc(), RECORDER.as_bytes(), b"GetInvocation", name).is_err());
+    assert!(rt; read_request(rt.alloc(), READER.as_bytes(), b"FinalizeInvocation", name).is_err());
     Ok(())
 }
 
 #[test]
 fn reads_and_writes_requests(rt: HostRuntime) -> Result<(), Fail> {
-    for (row, text) in READ {
-        let body = body_of(rt.alloc(), row)?;
-        let written = again(rt.alloc(), body.as_bytes())?;
-        assert!(rt; written.as_slice() == text.as_bytes(), "{row}");
-        let twice = again(rt.alloc(), written.as_slice())?;
-        assert!(rt; twice.as_slice() == text.as_bytes(), "{row}");
+    for (row, text) in &READ {
+        read_again(&rt, rt.alloc(), "CreateInvocation", *row, *text)?;
     }
+    for (method, row, text) in &OTHERS_READ {
+        read_again(&rt, rt.alloc(), *method, *row, *text)?;
+    }
+    let id = InvocationId::parse(rt.alloc(), b"u-a").map_err(|_| "no id")?;
+    let nothing = Request::UpdateInvocation {
+        id,
+        deadline: None,
+        tags: None,
+    };
+    assert!(rt; write_request(rt.alloc(), &nothing).is_err());
     Ok(())
 }
 
@@ -250,25 +509,67 @@ fn limits_stand_where_they_stand(rt: HostRuntime) -> Result<(), Fail> {
     Ok(())
 }
 
-/// The text of a reply that shows an invocation of alice's, with these tags and as many others included.
-fn shown_text(
+fn is_utf8(bytes: &[u8]) -> bool
+    ensures { result ≡ true → IsUtf8 bytes.now }
+{
+    from_utf8(bytes).is_ok()
+}
+
+fn is_utf8_pair(pair: &Pair) -> bool
+    ensures { result ≡ true → IsUtf8Pair pair.now }
+{
+    is_utf8(pair.key.as_slice()) && is_utf8(pair.value.as_slice())
+}
+
+/// Whether the texts of pairs are UTF-8.
+fn are_utf8(pairs: &[Pair]) -> bool
+    ensures { result ≡ true → All IsUtf8Pair pairs.now }
+{
+    for pair in pairs {
+        let good = is_utf8_pair(pair);
+        if !good {
+            return false;
+        }
+    }
+    true
+}
+
+/// What a reply shows of an invocation that lies elsewhere.
+#[derive(Drop)]
+struct Held {
+    id: InvocationId,
+    realm: Realm,
+    creator: Bytes,
+}
+
+fn make_held(alloc: Global) -> Result<Held, AllocError> {
+    Ok(Held {
+        id: InvocationId::parse(alloc, b"u-a").map_err(|_| AllocError)?,
+        realm: Realm::parse(alloc, b"proj:ci").map_err(|_| AllocError)?,
+        creator: Bytes::new(Vec::from_slice(alloc, b"alice")?),
+    })
+}
+
+/// The text of a reply that shows an invocation of alice's, with these tags and others included.
+fn shown_text<'t>(
     alloc: Global,
-    ends: Option<Moment>,
-    state: State,
-    tags: &[Tag],
-    included: &[InvocationId],
+    held: &'t Held,
+    ends: (Option<Moment>, Option<Moment>, State),
+    tags: &'t [Pair],
+    included: &'t [&'t InvocationId],
 ) -> Result<Bytes, AllocError> {
-    let id = InvocationId::parse(alloc, b"u-a").map_err(|_| AllocError)?;
-    let realm = Realm::parse(alloc, b"proj:ci").map_err(|_| AllocError)?;
-    let creator = UserName::parse(alloc, b"alice")?.ok_or(AllocError)?;
+    if !is_utf8(held.creator.as_slice()) || !are_utf8(tags) {
+        return Err(AllocError);
+    }
+    let (started, finished, state) = ends;
     let shown = ShownInvocation {
-        id: &id,
-        realm: &realm,
-        creator: &creator,
+        id: &held.id,
+        realm: &held.realm,
+        creator: &held.creator,
         created: Moment::new(1_700_000_000_000_000),
         deadline: Moment::new(1_700_172_800_000_000),
-        started: ends,
-        finished: ends,
+        started,
+        finished,
         state,
         tags,
         included,
@@ -278,44 +579,35 @@ fn shown_text(
 
 #[test]
 fn replies_have_their_texts(rt: HostRuntime) -> Result<(), Fail> {
-    let text = shown_text(rt.alloc(), None, State::Active, &[], &[])?;
+    let text = write_reply(rt.alloc(), &Reply::Empty)?;
+    assert!(rt; text.as_slice() == b")]}'\n{}".as_slice());
+    let held = make_held(rt.alloc())?;
+    let text = shown_text(rt.alloc(), &held, (None, None, State::Active), &[], &[])?;
     let want =
         ")]}'\n{\"createTime\":\"2023-11-14T22:13:20Z\",\"createdBy\":\"user:alice\",\"deadline\":\"2023-11-16T22:13:20Z\",\"name\":\"invocations/u-a\",\"realm\":\"proj:ci\",\"state\":\"ACTIVE\"}";
     assert!(rt; text.len() == 161 && text.as_slice() == want.as_bytes());
     let mut tags = Vec::new(rt.alloc());
-    tags.push(Tag::parse(rt.alloc(), b"k", b"").map_err(|_| "no tag")?)?;
-    tags.push(Tag::parse(rt.alloc(), b"os", "\u{e9}\"".as_bytes()).map_err(|_| "no tag")?)?;
-    let mut included = Vec::new(rt.alloc());
-    included.push(InvocationId::parse(rt.alloc(), b"u-c").map_err(|_| "no id")?)?;
-    included.push(InvocationId::parse(rt.alloc(), b"u-b").map_err(|_| "no id")?)?;
-    let ends = Some(Moment::new(1_700_000_002_500_000));
+    tags.push(Pair::read(rt.alloc(), b"k", b"").map_err(|_| "no tag")?)?;
+    tags.push(Pair::read(rt.alloc(), b"os", "\u{e9}\"".as_bytes()).map_err(|_| "no tag")?)?;
+    let first = InvocationId::parse(rt.alloc(), b"u-c").map_err(|_| "no id")?;
+    let second = InvocationId::parse(rt.alloc(), b"u-b").map_err(|_| "no id")?;
+    let end = Some(Moment::new(1_700_000_002_500_000));
     let text = shown_text(
         rt.alloc(),
-        ends,
-        State::Finalized,
+        &held,
+        (end, end, State::Finalized),
         tags.as_slice(),
-        included.as_slice(),
+        &[&first, &second],
     )?;
     let want =
         ")]}'\n{\"createTime\":\"2023-11-14T22:13:20Z\",\"createdBy\":\"user:alice\",\"deadline\":\"2023-11-16T22:13:20Z\",\"finalizeStartTime\":\"2023-11-14T22:13:22.500Z\",\"finalizeTime\":\"2023-11-14T22:13:22.500Z\",\"includedInvocations\":[\"invocations/u-c\",\"invocations/u-b\"],\"name\":\"invocations/u-a\",\"realm\":\"proj:ci\",\"state\":\"FINALIZED\",\"tags\":[{\"key\":\"k\"},{\"key\":\"os\",\"value\":\"\u{e9}\\\"\"}]}";
     assert!(rt; text.as_slice() == want.as_bytes());
-    for (name, is) in [
-        ("a", true),
-        ("alice-1_b.c", true),
-        ("", false),
-        ("1a", false),
-        ("Alice", false),
-        ("a b", false),
-    ] {
-        assert!(rt;
-            UserName::parse(rt.alloc(), name.as_bytes())?.is_some() == is,
-            "{name}"
-        );
-    }
     laws::one_request_asked();
     laws::one_fault();
     laws::never_both();
     laws::asks_or_has_fault();
     laws::fault_is_refused();
+    laws::update_changes_something();
+    laws::row_is_showable();
     Ok(())
 }

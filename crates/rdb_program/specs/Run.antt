@@ -6,7 +6,7 @@ use Rattle.outside.specs.declared.whole.WriteEnd.{WriteEnd}
 use Rattle.policy_tables.specs.declared.tables.PolicyTables.{PolicyTables}
 use Rattle.permissions.specs.Faults.{fault_number, fault_name}
 use Rattle.permissions.specs.declared.faults.PolicyFault.{PolicyFault}
-use Rattle.service_core.specs.World.{empty_world}
+use Rattle.invocation_world.specs.World.{empty_world}
 use Rattle.service_core.specs.CoreState.{CoreState}
 use Rattle.record_desk.specs.Exchange.{Exchange}
 use Rattle.record_desk.specs.Clocked.{IsClocked}

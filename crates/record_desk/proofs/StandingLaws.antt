@@ -2,9 +2,9 @@
 use Rattle.std.proofs.Common.{◌≡◌, ℕ, ℤ, List, [], ◌∷◌, ◌++◌, map, refl, sym, ap, ◌∙◌, subst}
 use Rattle.std.proofs.lemmas.List.{map-append}
 use Rattle.std.specs.List.{AllByRecursion}
-use Rattle.service_core.specs.Settings.{Settings}
+use Rattle.request_rules.specs.Settings.{Settings}
 use Rattle.service_core.specs.CoreState.{CoreState}
-use Rattle.service_core.specs.World.{World}
+use Rattle.invocation_world.specs.World.{World}
 use Rattle.service_core.specs.Step.{moment_of}
 use Rattle.service_core.specs.History.{Entry, Serves}
 use Rattle.call_forms.specs.declared.asked.Asked.{Asked}

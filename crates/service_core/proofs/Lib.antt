@@ -1,10 +1,1 @@
-pub mod FormLaws
-pub mod AskedForms
-pub mod RuleOrder
-pub mod RuleFacts
-pub mod WorldLaws
-pub mod PolicyLaws
-pub mod StepLaws
-pub mod UniqueLaws
-pub mod HistoryLaws
-pub mod PlanLaws
+pub mod CoreLaws

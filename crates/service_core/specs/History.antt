@@ -1,12 +1,13 @@
 -- Histories: what was asked and told, one call after the other.
 use Rattle.std.specs.Prelude.{◌≡◌, ◌⊎◌, ℕ, ℤ, ◌≤ℤ◌, List, [], ◌∷◌}
-use Rattle.service_core.specs.Settings.{Settings}
+use Rattle.request_rules.specs.Settings.{Settings}
 use Rattle.call_forms.specs.declared.asked.Asked.{Asked}
 use Rattle.call_forms.specs.declared.forms.Standin.TheVariants.{Unavailable, Memory, Spent}
 use Rattle.call_forms.specs.declared.forms.Told.{Told}
 use Rattle.call_forms.specs.declared.forms.Told.TheVariants.{Made, Standin as Instead}
-use Rattle.service_core.specs.World.{World, IsCallMoment}
-use Rattle.service_core.specs.Step.{Step, Advances, moment_of}
+use Rattle.invocation_world.specs.World.{World, IsCallMoment}
+use Rattle.invocation_world.specs.Advancing.{Advances}
+use Rattle.service_core.specs.Step.{Step, moment_of}
 
 -- One call: whose seat it came from, its moment, what was asked and what was told.
 pub record Entry : Type 0 where

@@ -1,10 +1,12 @@
 -- Laws of steps and histories.
-use Rattle.std.specs.Prelude.{◌≡◌, ℤ, List, [], ◌∷◌, ◌++◌}
+use Rattle.std.specs.Prelude.{◌≡◌, ℕ, ℤ, List, [], ◌∷◌, ◌++◌, Some, slice_get}
 use Rattle.call_forms.specs.declared.asked.Asked.{Asked}
 use Rattle.call_forms.specs.declared.forms.Answer.{Answer}
 use Rattle.invocations.specs.declared.invocation.Invocation.{Invocation}
-use Rattle.service_core.specs.Settings.{Settings, HasNames}
-use Rattle.service_core.specs.World.{World, IsValid}
+use Rattle.request_rules.specs.Settings.{Settings, HasNames}
+use Rattle.invocation_world.specs.World.{World, IsValid}
+use Rattle.invocation_world.specs.Laws.{KeepsFinal}
+use Rattle.service_core.specs.Finality.{AllInTime}
 use Rattle.service_core.specs.Step.{Step, moment_of}
 use Rattle.service_core.specs.History.{Entry, Leads, IsLegal, IsTimed}
 
@@ -27,11 +29,31 @@ LegalKeepsValid =
     (s : Settings) (w : World) (h : List Entry) (v : World)
     → HasNames s → IsLegal s w h v → IsValid w → IsValid v
 
--- A history takes no invocation away and alters none: it adds some behind those that were there.
+-- What is so of a row is so of it later: whose it is, where, and since when.
+pub record IsSameInvocation (row later : Invocation) : Type 0 where
+  pub id : later.id ≡ row.id
+  pub realm : later.realm ≡ row.realm
+  pub creator : later.creator ≡ row.creator
+  pub created : later.created ≡ row.created
+
+-- A history takes no invocation away: each stands at its place, the same one.
 abbrev pub RowsStay : Type 0
 RowsStay =
     (s : Settings) (w : World) (h : List Entry) (v : World) → IsLegal s w h v
-    → (more : List Invocation) × (v.invocations ≡ w.invocations ++ more)
+    → (place : ℕ) (row : Invocation) → slice_get w.invocations place ≡ Some row
+    → (later : Invocation) × (slice_get v.invocations place ≡ Some later) × IsSameInvocation row later
+
+-- What is final stays as it is, with all that it reaches.
+abbrev pub FinalStays : Type 0
+FinalStays =
+    (s : Settings) (w : World) (h : List Entry) (v : World)
+    → HasNames s → IsValid w → IsLegal s w h v → KeepsFinal w v
+
+-- In a history from a valid world each finalizing row becomes final with the first change after which it reaches no active one.
+abbrev pub FinalInTime : Type 0
+FinalInTime =
+    (s : Settings) (w : World) (h : List Entry) (v : World)
+    → HasNames s → IsValid w → IsLegal s w h v → AllInTime s w h v
 
 -- A history of calls whose moments a clock made is legal.
 abbrev pub TimedIsLegal : Type 0

@@ -1,12 +1,9 @@
-pub mod Settings
-pub mod World
-pub mod Broken
 pub mod Answers
 pub mod Step
 pub mod History
 pub mod CoreState
-pub mod Understood
 pub mod Plans
+pub mod Finality
 pub mod Laws
-pub mod Breaches
-pub mod NewRows
+pub mod Judged
+pub mod Planning

@@ -1,50 +1,75 @@
 -- What the service does with one request.
-use Rattle.std.specs.Prelude.{◌≡◌, ◌⊎◌, ℕ, ℤ, pos}
+use Rattle.std.specs.Prelude.{◌≡◌, ◌⊎◌, ℕ, ℤ, pos, List, Option, Some, None, slice_get}
 use Rattle.std.specs.Int.{int_min, int_max}
-use Rattle.permissions.specs.Hash.{token_text}
-use Rattle.invocations.specs.declared.invocation.Invocation.{Invocation}
+use Rattle.names_realms.specs.declared.states.State.{State}
+use Rattle.names_realms.specs.declared.states.State.TheVariants.{Active, Finalizing, Finalized}
+use Rattle.invocations.specs.Rows.{states_of}
 use Rattle.call_forms.specs.declared.asked.Asked.{Asked}
 use Rattle.call_forms.specs.declared.forms.Answer.{Answer}
 use Rattle.call_forms.specs.declared.forms.Refusal.{Refusal}
 use Rattle.call_forms.specs.Rules.{refusal_answer}
 use Rattle.message_forms.specs.declared.requests.Request.{Request}
-use Rattle.message_forms.specs.declared.requests.Request.TheVariants.{CreateInvocation}
-use Rattle.service_core.specs.Settings.{Settings, secret_of, caller_name}
-use Rattle.service_core.specs.World.{World, new_row, with_row, latest_call}
-use Rattle.service_core.specs.Broken.{Wants, Broken, IsFirst, IsUnbroken}
-use Rattle.service_core.specs.Answers.{created_answer}
+use Rattle.message_forms.specs.declared.requests.Request.TheVariants.{CreateInvocation, UpdateInvocation, FinalizeInvocation, UpdateIncludedInvocations, GetInvocation}
+use Rattle.invocation_world.specs.World.{World, new_row, with_row, latest_call}
+use Rattle.invocation_world.specs.Settling.{Settles}
+use Rattle.invocation_world.specs.Changes.{with_begun, with_inclusions, with_update}
+use Rattle.invocation_world.specs.Advancing.{Advances}
+use Rattle.request_rules.specs.Settings.{Settings, caller_name}
+use Rattle.request_rules.specs.Named.{place_named, places_named}
+use Rattle.request_rules.specs.Order.{IsFirst, IsUnbroken}
+use Rattle.request_rules.specs.Broken.{Scene, Wants, Broken}
+use Rattle.service_core.specs.Answers.{IsReplyTo}
 
 -- The moment of a call: what the clock says, brought into the years from 1970 to 9998, and no earlier than the last change.
 abbrev pub moment_of : ℤ → ℤ → ℤ
 moment_of last now = int_max last (int_max (pos 0) (int_min now latest_call))
 
--- Due deadlines are carried out before a request is judged. As yet nothing falls due.
-abbrev pub Advances : World → ℤ → World → Type 0
-Advances w moment after = after ≡ w
+-- what rules look at in a world, at a moment
+abbrev pub scene_of : World → ℤ → Scene
+scene_of w moment = record { rows = w.invocations; inclusions = w.inclusions; moment = moment }
 
 -- What is refused is the broken rule that comes first.
 abbrev pub IsRefusal : Settings → World → ℤ → Asked → Refusal → Type 0
-IsRefusal s w moment asked r = IsFirst (Broken s w moment asked) r
+IsRefusal s w moment asked r = IsFirst (Broken s (scene_of w moment) asked) r
 
 -- The request breaks no rule, and this caller asks for this.
 pub record IsAccepted (s : Settings) (w : World) (moment : ℤ) (asked : Asked) (caller : ℕ) (request : Request) : Type 0 where
   pub wants : Wants s asked caller request
-  pub unbroken : IsUnbroken (Broken s w moment asked)
+  pub unbroken : IsUnbroken (Broken s (scene_of w moment) asked)
 
--- the invocation that a request makes
-abbrev pub row_made : Settings → ℤ → ℕ → Request → Invocation
-row_made s moment caller (CreateInvocation id realm deadline tags) =
-    new_row moment (caller_name s caller) id realm deadline tags
+-- the world changed at this place, if there is one
+abbrev pub changed_at : World → (ℕ → World) → Option ℕ → World
+changed_at w change None = w
+changed_at w change (Some place) = change place
 
--- What an accepted request changes.
-abbrev pub acted : Settings → World → ℤ → ℕ → Request → World
-acted s w moment caller (CreateInvocation id realm deadline tags) =
-    with_row w (row_made s moment caller (CreateInvocation id realm deadline tags))
+-- the world with the finalization of an active row begun; of another one nothing changes
+abbrev pub begun_from : Option State → World → World → World
+begun_from None begun w = w
+begun_from (Some Active) begun w = begun
+begun_from (Some Finalizing) begun w = w
+begun_from (Some Finalized) begun w = w
 
--- The reply to it: the invocation, and the update token with which its caller may change it.
-abbrev pub reply_to : Settings → World → ℤ → ℕ → Request → Answer
-reply_to s w moment caller (CreateInvocation id realm deadline tags) =
-    created_answer (token_text (secret_of s) id) (row_made s moment caller (CreateInvocation id realm deadline tags))
+abbrev pub with_end_begun : ℤ → ℕ → World → World
+with_end_begun moment place w =
+    begun_from (slice_get (states_of w.invocations) place) (with_begun moment place w) w
+
+-- What a request changes: it adds an active invocation of its caller's; it gives one another deadline or other tags; it begins
+-- the finalization of an active one; it adds the inclusions that aren't there yet; or it only reads.
+abbrev pub changed : Settings → World → ℤ → ℕ → Request → World
+changed s w moment caller (CreateInvocation id realm deadline tags) =
+    with_row w (new_row moment (caller_name s caller) id realm deadline tags)
+changed s w moment caller (UpdateInvocation id deadline tags) =
+    changed_at w (λ place. with_update moment place deadline tags w) (place_named w.invocations id)
+changed s w moment caller (FinalizeInvocation id) =
+    changed_at w (λ place. with_end_begun moment place w) (place_named w.invocations id)
+changed s w moment caller (UpdateIncludedInvocations including add) =
+    changed_at w (λ place. with_inclusions moment place (places_named w.invocations add) w)
+    (place_named w.invocations including)
+changed s w moment caller (GetInvocation id) = w
+
+-- An accepted request is acted on: what it changes is changed, and what then reaches no active invocation becomes final.
+abbrev pub Acts : Settings → World → ℤ → ℕ → Request → World → Type 0
+Acts s w moment caller request after = Settles moment (changed s w moment caller request) after
 
 -- A refused request changes nothing.
 pub record Refuses (s : Settings) (w : World) (moment : ℤ) (asked : Asked) (after : World) (answer : Answer) : Type 0 where
@@ -58,8 +83,8 @@ pub record Performs (s : Settings) (w : World) (moment : ℤ) (asked : Asked) (a
   pub caller : ℕ
   pub request : Request
   pub accepted : IsAccepted s w moment asked caller request
-  pub acted_on : after ≡ acted s w moment caller request
-  pub answer_is : answer ≡ reply_to s w moment caller request
+  pub acts : Acts s w moment caller request after
+  pub replied : IsReplyTo s after request answer
 
 -- At this moment this request leads from the world w to the world after, with this answer: first due deadlines are carried
 -- out, and then the request is judged in the world between.

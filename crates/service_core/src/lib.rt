@@ -1,17 +1,13 @@
 //! The service itself: what it holds, and what one request changes and answers.
 #![tactic(auto)]
 
-mod breaches;
-mod judging;
-pub mod laws;
-mod new_rows;
+mod core;
+mod making;
 mod plan;
-mod reading;
-mod refusals;
+mod planning;
+mod showing;
 #[cfg(test)]
 mod tests;
-mod world;
 
-pub use plan::{Plan, Prepared};
-pub use reading::{Call, Understood, understand};
-pub use world::Core;
+pub use crate::core::Core;
+pub use plan::{Change, Plan, Prepared};

@@ -2,14 +2,43 @@
 ghost use Rattle.std.specs.Prelude.{◌≡◌};
 
 use call_forms::Answer;
+use inclusion_graph::EdgePlan;
 use invocations::Invocation;
+use lists::Listed;
+use names_realms::{Moment, Pair};
 use std::marker::Model;
 
-/// A change that is ready to be made: the invocation that it adds, and the answer that it gives.
+/// What a plan changes.
+#[derive(Drop)]
+pub enum Change {
+    /// The deadlines that are due at this moment are carried out.
+    Tick(Moment),
+    /// This invocation is added.
+    Add(Invocation),
+    /// The invocation at a place gets another deadline or other tags, each where it is given.
+    Update {
+        moment: Moment,
+        place: u32,
+        deadline: Option<Moment>,
+        tags: Option<Listed<Pair>>,
+    },
+    /// The finalization of the invocation at a place begins.
+    End {
+        moment: Moment,
+        place: u32,
+    },
+    /// These inclusions are added.
+    Include {
+        moment: Moment,
+        plan: EdgePlan,
+    },
+}
+
+/// A change that is ready to be made, and the answer that it gives, where it answers a request.
 #[derive(Drop)]
 pub struct Plan {
-    row: Invocation,
-    answer: Answer,
+    change: Change,
+    answer: Option<Answer>,
 }
 
 impl Model for Plan {
@@ -17,23 +46,23 @@ impl Model for Plan {
 
     ghost Value = { PlanState };
 
-    ghost view = { λ p. record { row = p.row; answer = p.answer } };
+    ghost view = { λ p. record { change = p.change; answer = p.answer } };
 }
 
 impl Plan {
-    /// The plan that adds a new invocation.
-    pub(crate) fn new(row: Invocation, answer: Answer) -> Plan
-        ensures { result ≡ record { row = row; answer = answer } }
+    /// The plan of a change, with its answer.
+    pub(crate) fn new(change: Change, answer: Option<Answer>) -> Plan
+        ensures { result ≡ record { change = change; answer = answer } }
     {
-        Plan { row, answer }
+        Plan { change, answer }
     }
 
-    /// The new invocation and the answer.
-    pub(crate) fn into_parts(self) -> (Invocation, Answer)
-        ensures row { result.0 ≡ self.row }
+    /// The change and the answer.
+    pub(crate) fn into_parts(self) -> (Change, Option<Answer>)
+        ensures change { result.0 ≡ self.change }
         ensures answer { result.1 ≡ self.answer }
     {
-        (self.row, self.answer)
+        (self.change, self.answer)
     }
 }
 
@@ -42,6 +71,8 @@ impl Plan {
 pub enum Prepared {
     /// It is refused, by this answer.
     Refused(Answer),
+    /// It is accepted and changes nothing, and this is its answer.
+    Answered(Answer),
     /// It is accepted, and this is left to be done.
     Change(Plan),
 }

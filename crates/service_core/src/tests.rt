@@ -1,4 +1,6 @@
 //! What is told under the sample configuration, in turn.
+mod lives;
+
 use crate::Core;
 use call_forms::{Answer, Asked, Told};
 use lists::Bytes;

@@ -12,5 +12,7 @@ returns c =
       c.created_by.ensures,
       c.as_str.ensures.value,
       c.in_ok-text.ensures,
+      c.as_slice.ensures,
       c.in_ok-map.ensures,
+      ← c.shown.view_is,
     ) refl

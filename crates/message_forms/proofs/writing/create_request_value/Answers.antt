@@ -1,5 +1,5 @@
 use Rattle.std.proofs.lemmas.Result.{on_ok_weaker}
-use Rattle.message_forms.proofs.RequestLaws.{create_written}
+use Rattle.message_forms.proofs.WriteLaws.{create_written}
 use Rattle.message_forms.proofs.writing.create_request_value.Goals as goal
 
 pub returns-clause-again : goal.returns-clause-again

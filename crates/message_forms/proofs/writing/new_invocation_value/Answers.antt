@@ -1,4 +1,4 @@
-use Rattle.message_forms.proofs.RequestLaws.{new_written}
+use Rattle.message_forms.proofs.WriteLaws.{new_written}
 use Rattle.message_forms.proofs.writing.new_invocation_value.Goals as goal
 
 pub returns-clause-again : goal.returns-clause-again

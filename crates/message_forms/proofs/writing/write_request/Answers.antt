@@ -1,4 +1,4 @@
-use Rattle.std.proofs.Common.{Some, ap, ◌∙◌, arith}
+use Rattle.std.proofs.Common.{Some, refl, ap, ◌∙◌, arith}
 use Rattle.serde_json.specs.Written.{has_float, compact_text}
 use Rattle.message_forms.specs.Requests.{method_asked}
 use Rattle.message_forms.specs.Writing.{request_data}
@@ -22,5 +22,5 @@ returns-clause-reads_back c =
         rw c.new.ensures (c.in_ok-text.ensures.reads_back (rw v (omega (arith, (request_plain c.args.request.now).deep))) ∙ ap Some v),
       );
       no_fault = c.in_ok-value.ensures.again.no_fault;
-      meant = c.in_ok-value.ensures.again.meant;
+      meant = (refl, c.in_ok-value.ensures.again.meant);
     }

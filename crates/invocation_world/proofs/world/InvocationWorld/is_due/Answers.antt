@@ -6,8 +6,8 @@ use Rattle.invocation_world.specs.States.{WorldState}
 use Rattle.invocation_world.proofs.CodeFacts.{due_or_quiet}
 use Rattle.invocation_world.proofs.world.InvocationWorld.is_due.Goals as goal
 
-pub returns : goal.returns
-returns c =
+pub returns-clause-due : goal.returns-clause-due
+returns-clause-due c =
     let rows = c.self.inside.table.rows in
     let moment = c.args.moment in
     let told = due_or_quiet rows moment c.next_due.result c.next_due.ensures in

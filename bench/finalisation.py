@@ -1,0 +1,86 @@
+#!/usr/bin/env python3
+"""Measures how invocations end, over one connection by the built program: 3,000 and 30,000 are created, each included by an
+earlier one, and then finalised, once from the last to the first (each is final at once) and once from the first to the
+last (all become final with the last one).
+
+Prints the seconds of each and their ratio, which is 10 where the time is linear.
+"""
+
+import hashlib
+import hmac
+import pathlib
+import subprocess
+import sys
+import tempfile
+import time
+
+TOP = pathlib.Path(__file__).resolve().parent.parent
+RDB = TOP / "rdb"
+COUNTS = (3_000, 30_000)
+TURNS = 3  # of each, the fastest counts
+SECRET = bytes([0x0B] * 20)  # that of examples/farm.toml
+RECORDER = "/prpc/luci.resultdb.v1.Recorder/"
+
+
+def token(name):
+    return hmac.new(SECRET, b"rdb-update/" + name.encode(), hashlib.sha256).hexdigest()
+
+
+def request(method, body, changes=None):
+    shown = f"Update-Token: {token(changes)}\r\n" if changes else ""
+    return (
+        f"POST {RECORDER}{method} HTTP/1.1\r\nAuthorization: Bearer tok-a\r\n{shown}"
+        f"Content-Length: {len(body)}\r\n\r\n{body}"
+    ).encode()
+
+
+def earlier(number):
+    """An earlier one, drawn by a linear congruence, so that each run has the same tree."""
+    return (number * 6364136223846793005 + 1442695040888963407) % 2**64 // 2**33 % number
+
+
+def requests(count, order):
+    for number in range(count):
+        yield request("CreateInvocation", '{"invocationId":"u-%d","invocation":{"realm":"proj:ci"}}' % number)
+        if number:
+            name = f"u-{earlier(number)}"
+            body = '{"includingInvocation":"invocations/%s","addInvocations":["invocations/u-%d"]}' % (name, number)
+            yield request("UpdateIncludedInvocations", body, name)
+    for number in order(count):
+        yield request("FinalizeInvocation", '{"name":"invocations/u-%d"}' % number, f"u-{number}")
+
+
+ORDERS = {
+    "leaf by leaf": lambda count: range(count - 1, -1, -1),
+    "root first": range,
+}
+
+
+def seconds(path, folder, count):
+    words = [RDB, "answer", "--config", TOP / "examples/farm.toml", "--journal", f"{folder}/farm.journal"]
+    with open(path, "rb") as feed, open(f"{folder}/replies", "wb") as replies:
+        start = time.monotonic()
+        subprocess.run(words, stdin=feed, stdout=replies, check=True)
+        taken = time.monotonic() - start
+    made = (pathlib.Path(folder) / "replies").read_bytes()
+    if made.count(b"HTTP/1.1 200 OK\r\n") != 3 * count - 1 or not made.count(b'"state":"FINALIZED"'):
+        raise SystemExit("not every request was accepted, or nothing became final")
+    return taken
+
+
+def main():
+    few, many = COUNTS
+    with tempfile.TemporaryDirectory(dir=sys.argv[1] if len(sys.argv) > 1 else None) as folder:
+        for name, order in ORDERS.items():
+            found = {}
+            for count in COUNTS:
+                path = pathlib.Path(folder) / f"{count}.http"
+                path.write_bytes(b"".join(requests(count, order)))
+                found[count] = min(seconds(path, folder, count) for _ in range(TURNS))
+                print(f"{count} invocations, {name}: {found[count]:.2f} s, {3 * count / found[count]:.0f} requests/s")
+            print(f"ratio of {many} to {few}, {name}: {found[many] / found[few]:.1f} (linear: {many / few:.0f})")
+    return 0
+
+
+if __name__ == "__main__":
+    sys.exit(main())

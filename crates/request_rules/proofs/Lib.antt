@@ -1,0 +1,10 @@
+pub mod FormLaws
+pub mod PolicyLaws
+pub mod RuleOrder
+pub mod OrderLaws
+pub mod PlaceLaws
+pub mod RuleFacts
+pub mod RuleChain
+pub mod RightLaws
+pub mod ReadLaws
+pub mod JudgeLaws

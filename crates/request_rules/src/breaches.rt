@@ -1,0 +1,189 @@
+//! Broken rules whose texts aren't written yet.
+ghost use Rattle.std.specs.Prelude.{◌≡◌, ◌++◌, IfOk, codes, decimal};
+ghost use Rattle.moments_spans.specs.Moments.{moment_text};
+ghost use Rattle.policy_checks.specs.Permissions.{permission_text};
+ghost use Rattle.call_forms.specs.Rules.{IsRuleNumber, refusal_answer};
+ghost use Rattle.message_forms.specs.Replies.{state_text};
+ghost use Rattle.request_rules.specs.Broken.{table_full};
+ghost use Rattle.request_rules.specs.Breaches.{refusal_of};
+
+use crate::refusals::refused;
+use call_forms::Answer;
+use message_forms::state_name;
+use names_realms::{InvocationId, Moment, Realm, State};
+use permissions::Permission;
+use std::alloc::{AllocError, Global};
+
+/// The rule that there is room for what is added.
+const TABLE_FULL: u8 = 20;
+
+/// A rule that a request breaks, with what breaks it. It is found without memory.
+#[derive(Clone, Copy)]
+pub enum Breach<'r> {
+    /// An invocation that the request names isn't there.
+    NotThere {
+        id: &'r InvocationId,
+    },
+    /// The request changes the invocation, and shows no update token.
+    NoToken {
+        id: &'r InvocationId,
+    },
+    /// It shows another token than the invocation's.
+    BadToken {
+        id: &'r InvocationId,
+    },
+    /// The caller lacks the permission in the realm.
+    LacksRight {
+        permission: Permission,
+        realm: &'r Realm,
+    },
+    /// The invocation that the request changes isn't active.
+    Inactive {
+        id: &'r InvocationId,
+        state: State,
+    },
+    /// The deadline isn't in reach of the moment of the call.
+    BadDeadline {
+        deadline: Moment,
+        moment: Moment,
+    },
+    /// The invocation would include itself.
+    Itself {
+        id: &'r InvocationId,
+    },
+    /// The request names so many invocations to include, which are more than it may.
+    TooMany {
+        count: usize,
+    },
+    /// An invocation has the id.
+    NameTaken {
+        id: &'r InvocationId,
+    },
+}
+
+/// A permission and a realm, with a space between.
+fn right_text(alloc: Global, permission: Permission, realm: &Realm) -> Result<Vec<u8>, AllocError>
+    ensures { IfOk result (λ text.
+        text.items ≡ permission_text permission ++ (codes " " ++ realm.now)) }
+{
+    let name = permission.text();
+    let realm = realm.as_str();
+    Ok(format!(in alloc; "{name} {realm}")?.into_bytes())
+}
+
+/// Two moments, with a space between.
+fn moments_text(alloc: Global, first: Moment, second: Moment) -> Result<Vec<u8>, AllocError>
+    ensures { IfOk result (λ text.
+        text.items ≡ moment_text first ++ (codes " " ++ moment_text second)) }
+{
+    let mut text = Vec::new(alloc);
+    first.write_to(alloc, &mut text)?;
+    text.push(b' ')?;
+    second.write_to(alloc, &mut text)?;
+    Ok(text)
+}
+
+/// The name of an invocation.
+fn name_text(alloc: Global, id: &InvocationId) -> Result<Vec<u8>, AllocError>
+    ensures { IfOk result (λ text. text.items ≡ codes "invocations/" ++ id.now) }
+{
+    let id = id.as_str();
+    Ok(format!(in alloc; "invocations/{id}")?.into_bytes())
+}
+
+/// The name of an invocation and its state, with a space between.
+fn state_of(alloc: Global, id: &InvocationId, state: State) -> Result<Vec<u8>, AllocError>
+    ensures { IfOk result (λ text.
+        text.items ≡ (codes "invocations/" ++ id.now) ++ (codes " " ++ state_text state)) }
+{
+    let mut text = name_text(alloc, id)?;
+    text.push(b' ')?;
+    text.extend_from_slice(state_name(state).as_bytes())?;
+    Ok(text)
+}
+
+/// A number.
+fn number_text(alloc: Global, number: usize) -> Result<Vec<u8>, AllocError>
+    ensures { IfOk result (λ text. text.items ≡ decimal number) }
+{
+    Ok(format!(in alloc; "{number}")?.into_bytes())
+}
+
+/// A table of rows, and how many it has.
+fn rows_text(alloc: Global, count: u32) -> Result<Vec<u8>, AllocError>
+    ensures { IfOk result (λ text.
+        text.items ≡ codes "invocations" ++ (codes " " ++ decimal count)) }
+{
+    Ok(format!(in alloc; "invocations {count}")?.into_bytes())
+}
+
+/// The table of inclusions, and how many it has.
+fn inclusions_text(alloc: Global, count: u32) -> Result<Vec<u8>, AllocError>
+    ensures { IfOk result (λ text.
+        text.items ≡ codes "inclusions" ++ (codes " " ++ decimal count)) }
+{
+    Ok(format!(in alloc; "inclusions {count}")?.into_bytes())
+}
+
+impl Breach<'_> {
+    /// The number of the broken rule.
+    fn rule(&self) -> u8
+        ensures number { result ≡ (refusal_of self.now).rule }
+        ensures known { IsRuleNumber result }
+    {
+        match self {
+            Breach::NotThere { .. } => 8,
+            Breach::NoToken { .. } => 9,
+            Breach::BadToken { .. } => 10,
+            Breach::LacksRight { .. } => 11,
+            Breach::Inactive { .. } => 12,
+            Breach::BadDeadline { .. } => 13,
+            Breach::Itself { .. } => 14,
+            Breach::TooMany { .. } => 15,
+            Breach::NameTaken { .. } => 19,
+        }
+    }
+
+    /// What breaks it.
+    fn subject(&self, alloc: Global) -> Result<Vec<u8>, AllocError>
+        ensures { IfOk result (λ text. text.items ≡ (refusal_of self.now).subject) }
+    {
+        match *self {
+            Breach::NotThere { id } => name_text(alloc, id),
+            Breach::NoToken { id } => name_text(alloc, id),
+            Breach::BadToken { id } => name_text(alloc, id),
+            Breach::LacksRight { permission, realm } => right_text(alloc, permission, realm),
+            Breach::Inactive { id, state } => state_of(alloc, id, state),
+            Breach::BadDeadline { deadline, moment } => moments_text(alloc, deadline, moment),
+            Breach::Itself { id } => name_text(alloc, id),
+            Breach::TooMany { count } => number_text(alloc, count),
+            Breach::NameTaken { id } => name_text(alloc, id),
+        }
+    }
+
+    /// The answer that names the rule, and what breaks it. `Err` where there is no memory for its
+    /// text.
+    pub fn answer(&self, alloc: Global) -> Result<Answer, AllocError>
+        ensures { IfOk result (λ answer. answer ≡ refusal_answer (refusal_of self.now)) }
+    {
+        refused(alloc, self.rule(), self.subject(alloc)?)
+    }
+}
+
+/// The answer that there are so many invocations, which are as many as there may be. `Err` where
+/// there is no memory for its text.
+pub fn rows_full(alloc: Global, count: u32) -> Result<Answer, AllocError>
+    ensures { IfOk result (λ answer.
+        answer ≡ refusal_answer (table_full (codes "invocations") count)) }
+{
+    refused(alloc, TABLE_FULL, rows_text(alloc, count)?)
+}
+
+/// The answer that there are so many inclusions that the new ones would be too many. `Err` where
+/// there is no memory for its text.
+pub fn inclusions_full(alloc: Global, count: u32) -> Result<Answer, AllocError>
+    ensures { IfOk result (λ answer.
+        answer ≡ refusal_answer (table_full (codes "inclusions") count)) }
+{
+    refused(alloc, TABLE_FULL, inclusions_text(alloc, count)?)
+}

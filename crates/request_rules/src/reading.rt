@@ -1,0 +1,144 @@
+//! What a request says by itself, whatever the world and the moment.
+ghost use Rattle.std.specs.Prelude.{◌≡◌, ◌<◌, Some, IfOk, IfSome, IsSome, length};
+ghost use Rattle.message_forms.specs.Methods.{method_of};
+ghost use Rattle.message_forms.specs.declared.requests.Request.{Request};
+ghost use Rattle.request_rules.specs.Settings.{caller_of};
+ghost use Rattle.request_rules.specs.Demands.{changed_id};
+ghost use Rattle.request_rules.specs.Understood.{IsChecked, IsUnderstood, token_handed};
+
+use crate::judging::{changed_id, new_id};
+use crate::refusals::{bad_body, no_caller, no_method};
+use call_forms::{Answer, Asked};
+use message_forms::{Method, Request, read_request};
+use names_realms::InvocationId;
+use permissions::{CallerId, Policy, token_is, update_token};
+use std::alloc::{AllocError, Global};
+
+/// What the update token of a request comes to.
+#[derive(Clone, Copy)]
+pub enum TokenCheck {
+    /// The request makes an invocation, and this is its token.
+    New([u8; 64]),
+    /// The request changes an invocation, and shows no token.
+    Missing,
+    /// It shows another one.
+    Wrong,
+    /// It shows the right one.
+    Right,
+    /// None is asked.
+    Unasked,
+}
+
+impl TokenCheck {
+    /// The token that is handed out.
+    pub fn handed_out(self) -> Option<[u8; 64]>
+        ensures { result ≡ token_handed self }
+    {
+        match self {
+            TokenCheck::New(token) => Some(token),
+            TokenCheck::Missing => None,
+            TokenCheck::Wrong => None,
+            TokenCheck::Right => None,
+            TokenCheck::Unasked => None,
+        }
+    }
+}
+
+/// What a caller asks for, with what its update token comes to.
+#[derive(Drop)]
+pub struct Call {
+    pub caller: CallerId,
+    pub request: Request,
+    pub token: TokenCheck,
+}
+
+/// What is understood of a request.
+#[derive(Drop)]
+pub enum Understood {
+    /// It breaks a rule by itself, and this is the answer.
+    Refused(Answer),
+    /// A caller asks for this.
+    Wanted(Call),
+}
+
+/// The caller who shows the bearer token of a request.
+fn caller_of(policy: &Policy, asked: &Asked) -> Option<CallerId>
+    ensures caller { result ≡ caller_of (record { policy = policy.now }) asked.now.bearer }
+    ensures there { IfSome result (λ c. c < length policy.now.users) }
+{
+    match &asked.bearer {
+        Some(token) => policy.caller_of(token.as_slice()),
+        None => None,
+    }
+}
+
+/// What the update token that a request shows comes to, where it changes the invocation with this
+/// id. The token is compared in the same time wherever it differs.
+fn check_shown(policy: &Policy, asked: &Asked, id: &InvocationId) -> TokenCheck
+    ensures { (request : Request) → changed_id request ≡ Some id.now
+        → IsChecked (record { policy = policy.now }) asked.now request result }
+{
+    match &asked.update_token {
+        None => TokenCheck::Missing,
+        Some(text) => {
+            if token_is(policy.secret(), id, text.as_slice()) {
+                TokenCheck::Right
+            } else {
+                TokenCheck::Wrong
+            }
+        }
+    }
+}
+
+/// What the update token of a request comes to.
+fn check_token(policy: &Policy, asked: &Asked, request: &Request) -> TokenCheck
+    ensures { IsChecked (record { policy = policy.now }) asked.now request.now result }
+{
+    if let Some(id) = changed_id(request) {
+        return check_shown(policy, asked, id);
+    }
+    match new_id(request) {
+        Some(id) => TokenCheck::New(update_token(policy.secret(), id)),
+        None => TokenCheck::Unasked,
+    }
+}
+
+/// Understands the body of a request whose method is there.
+fn understand_body(
+    alloc: Global,
+    policy: &Policy,
+    asked: &Asked,
+    caller: CallerId,
+) -> Result<Understood, AllocError>
+    requires method { IsSome (method_of asked.now.service asked.now.method) }
+    requires caller { caller_of (record { policy = policy.now }) asked.now.bearer ≡ Some caller }
+    ensures { IfOk result (IsUnderstood (record { policy = policy.now }) asked.now) }
+{
+    let service = asked.service.as_slice();
+    let method = asked.method.as_slice();
+    match read_request(alloc, service, method, asked.body.as_slice()) {
+        Ok(request) => {
+            let token = check_token(policy, asked, &request);
+            Ok(Understood::Wanted(Call {
+                caller,
+                request,
+                token,
+            }))
+        }
+        Err(fault) => Ok(Understood::Refused(bad_body(alloc, asked, &fault)?)),
+    }
+}
+
+/// Understands a request: its method is looked up first, then its caller, and only then its body
+/// is read. `Err` where there is no memory.
+pub fn understand(alloc: Global, policy: &Policy, asked: &Asked) -> Result<Understood, AllocError>
+    ensures { IfOk result (IsUnderstood (record { policy = policy.now }) asked.now) }
+{
+    let Some(_) = Method::of(asked.service.as_slice(), asked.method.as_slice()) else {
+        return Ok(Understood::Refused(no_method(alloc, asked)?));
+    };
+    let Some(caller) = caller_of(policy, asked) else {
+        return Ok(Understood::Refused(no_caller(alloc)?));
+    };
+    understand_body(alloc, policy, asked, caller)
+}

@@ -1,0 +1,27 @@
+-- The code's own words: a call that was judged, and what was told for a request at a moment at which nothing is due.
+use Rattle.std.specs.Prelude.{◌≡◌, ℤ}
+use Rattle.call_forms.specs.declared.asked.Asked.{Asked}
+use Rattle.call_forms.specs.declared.forms.Standin.TheVariants.{Unavailable, Memory, Spent}
+use Rattle.call_forms.specs.declared.forms.Told.{Told}
+use Rattle.call_forms.specs.declared.forms.Told.TheVariants.{Made, Standin as Instead}
+use Rattle.std.specs.Prelude.{◌⊎◌}
+use Rattle.invocation_world.specs.World.{World}
+use Rattle.request_rules.specs.declared.reading.Call.{Call}
+use Rattle.request_rules.specs.Settings.{Settings}
+use Rattle.request_rules.specs.Order.{IsUnbroken}
+use Rattle.request_rules.specs.Understood.{IsCallOf}
+use Rattle.request_rules.specs.Breaches.{BrokenBelow}
+use Rattle.service_core.specs.CoreState.{CoreState}
+use Rattle.service_core.specs.Step.{scene_of, Refuses, Performs}
+
+-- The call is of the request, and breaks no rule below the last one.
+pub record IsJudged (core : CoreState) (moment : ℤ) (asked : Asked) (call : Call) : Type 0 where
+  pub call_is : IsCallOf core.settings asked call
+  pub none : IsUnbroken (BrokenBelow 20 core.settings (scene_of core.world moment) asked call.caller call.request)
+
+-- The request is refused or performed, or want of memory was told and nothing changed.
+abbrev pub IsAnswered : Settings → World → ℤ → Asked → Told → World → Type 0
+IsAnswered s w moment asked (Made answer) after = Refuses s w moment asked after answer ⊎ Performs s w moment asked after answer
+IsAnswered s w moment asked (Instead Memory) after = after ≡ w
+IsAnswered s w moment asked (Instead Unavailable) after = ⊥
+IsAnswered s w moment asked (Instead Spent) after = ⊥

@@ -1,0 +1,331 @@
+//! The core: the world in memory, and its steps.
+ghost use Rattle.std.specs.Prelude.{◌≡◌, ◌≤ℤ◌, ◌<◌, ◌≤◌, pos, IfOk, MatchBool, None, OnErr, OnOk, Some, length};
+ghost use Rattle.std.specs.Int.{int_min, int_max};
+ghost use Rattle.permissions.specs.Faults.{IsSound};
+ghost use Rattle.invocation_world.specs.World.{empty_world, IsCallMoment, IsValid, latest_call};
+ghost use Rattle.invocation_world.specs.Advancing.{Advances, IsDueAt, IsQuiet};
+ghost use Rattle.request_rules.specs.Settings.{HasNames};
+ghost use Rattle.request_rules.specs.Understood.{IsCallOf};
+ghost use Rattle.service_core.specs.Step.{moment_of};
+ghost use Rattle.service_core.specs.Plans.{Carries, Fits, IsPrepared, IsTimely};
+ghost use Rattle.service_core.specs.Judged.{IsAnswered, IsJudged};
+ghost use Rattle.service_core.specs.History.{Serves};
+ghost use Rattle.invocations.specs.Rows.{HasId};
+ghost use Rattle.request_rules.specs.Named.{place_named};
+
+use crate::making::{Wish, pairs_of};
+use crate::plan::{Change, Plan, Prepared};
+use crate::planning::{Place, plan_end, plan_inclusions, plan_row, plan_update};
+use crate::showing::show_at;
+use call_forms::{Answer, Asked, Standin, Told};
+use invocation_world::InvocationWorld;
+use invocations::Invocation;
+use message_forms::Request;
+use names_realms::{InvocationId, Moment};
+use permissions::Policy;
+use request_rules::{Call, Situation, Understood, place_of, places_of, understand};
+use std::alloc::{AllocError, Global};
+use std::marker::Model;
+
+/// 9999-01-01T00:00:00Z
+const LATEST_CALL: i64 = 253_370_764_800_000_000;
+
+/// All that the service holds, under a policy.
+#[derive(Drop)]
+pub struct Core {
+    policy: Policy,
+    world: InvocationWorld,
+}
+
+impl Model for Core {
+    ghost use Rattle.request_rules.specs.Settings.{HasNames};
+    ghost use Rattle.service_core.specs.CoreState.{CoreState};
+
+    ghost Value = { CoreState };
+
+    ghost view = { λ c. record {
+      settings = record { policy = c.policy };
+      world = c.world.world;
+      spare_rows = c.world.spare_rows;
+      spare_inclusions = c.world.spare_inclusions;
+    } };
+
+    ghost invariant = { λ c. HasNames (record { policy = c.policy }) };
+}
+
+impl Core {
+    /// The empty world under a policy without a fault, as `Policy::from_toml` reads it. `Err` where
+    /// there is no memory.
+    pub fn new(alloc: Global, policy: Policy) -> Result<Core, AllocError>
+        requires { IsSound policy }
+        ensures world { IfOk result (λ core. core.world ≡ empty_world) }
+        ensures settings { IfOk result (λ core. core.settings.policy ≡ policy) }
+    {
+        let world = InvocationWorld::new(alloc)?;
+        Ok(Core { policy, world })
+    }
+
+    /// The invocations, in order of creation.
+    pub fn invocations(&self) -> &[Invocation]
+        ensures value { result.now ≡ self.now.world.invocations }
+        ensures valid { IsValid self.now.world }
+    {
+        self.world.rows()
+    }
+
+    /// The moment of a call: what the clock says, in microseconds since 1970, brought into the
+    /// years from 1970 to 9998, and no earlier than the last change.
+    pub fn moment_of(&self, now: i64) -> Moment
+        ensures value { result ≡ moment_of self.now.world.last now }
+        ensures in_range { IsCallMoment result }
+        ensures later { self.now.world.last ≤ℤ result }
+    {
+        Moment::new(later_of(within_years(now), self.world.last().micros()))
+    }
+
+    /// Whether a deadline is due at a moment.
+    pub fn is_due(&self, moment: Moment) -> bool
+        ensures due { MatchBool result (IsDueAt self.now.world moment) (IsQuiet self.now.world moment) }
+        ensures valid { IsValid self.now.world }
+    {
+        self.world.is_due(moment)
+    }
+
+    /// The plan that carries out the deadlines that are due at a moment. It changes nothing yet.
+    /// `Err` where there is no memory.
+    pub fn prepare_tick(&mut self, alloc: Global, moment: Moment) -> Result<Plan, AllocError>
+        requires in_range { IsCallMoment moment }
+        requires later { self.old.world.last ≤ℤ moment }
+        requires due { IsDueAt self.old.world moment }
+        ensures core { self.new ≡ self.old }
+        ensures change { IfOk result (λ plan. plan.change ≡ Change.Tick moment) }
+        ensures answer { IfOk result (λ plan. plan.answer ≡ None) }
+        ensures fits { IfOk result (λ plan. Fits self.new plan.change) }
+    {
+        let _ = alloc;
+        Ok(Plan::new(Change::Tick(moment), None))
+    }
+
+    /// What a call at this moment is judged by.
+    fn situation(&self, moment: Moment) -> Situation<'_>
+        ensures policy { record { policy = result.policy.now } ≡ self.now.settings }
+        ensures rows { result.table.now.rows ≡ self.now.world.invocations }
+        ensures moment { result.moment ≡ moment }
+        ensures valid { IsValid self.now.world }
+    {
+        Situation {
+            policy: &self.policy,
+            table: self.world.table(),
+            moment,
+        }
+    }
+
+    /// The place of an invocation that is there, at a moment.
+    fn place(&self, moment: Moment, id: &InvocationId) -> Place
+        requires { HasId self.now.world.invocations id.now }
+        ensures place { place_named self.now.world.invocations id.now ≡ Some result.place }
+        ensures within { result.place < length self.now.world.invocations }
+        ensures moment { result.moment ≡ moment }
+    {
+        match place_of(self.world.table(), id) {
+            Some(place) => Place { place, moment },
+            None => unreachable!(),
+        }
+    }
+
+    /// What a call comes to that breaks no rule below 20.
+    fn plan(
+        &mut self,
+        alloc: Global,
+        moment: Moment,
+        asked: &Asked,
+        call: Call,
+    ) -> Result<Prepared, AllocError>
+        requires timely { IsTimely self.old.world moment }
+        requires judged { IsJudged self.old moment asked.now call }
+        ensures world { self.new.world ≡ self.old.world }
+        ensures settings { self.new.settings ≡ self.old.settings }
+        ensures spare_rows { self.old.spare_rows ≤ self.new.spare_rows }
+        ensures spare_inclusions { self.old.spare_inclusions ≤ self.new.spare_inclusions }
+        ensures prepared { IfOk result (IsPrepared self.new moment asked.now) }
+    {
+        let _ = asked;
+        let Call {
+            caller,
+            request,
+            token,
+        } = call;
+        match request {
+            Request::CreateInvocation { id, realm, deadline, tags } => {
+                let wish = Wish { id, realm, deadline, tags };
+                let row = wish.into_row(alloc, &self.policy, caller, moment)?;
+                plan_row(alloc, &mut self.world, row, token.handed_out())
+            }
+            Request::UpdateInvocation { id, deadline, tags } => {
+                let at = self.place(moment, &id);
+                let tags = pairs_of(alloc, tags)?;
+                plan_update(alloc, &self.world, at, deadline, tags)
+            }
+            Request::FinalizeInvocation { id } => {
+                let at = self.place(moment, &id);
+                plan_end(alloc, &mut self.world, at)
+            }
+            Request::UpdateIncludedInvocations { including, add } => {
+                let at = self.place(moment, &including);
+                let targets = places_of(alloc, self.world.table(), add.as_slice())?;
+                plan_inclusions(alloc, &mut self.world, at, targets.as_slice())
+            }
+            Request::GetInvocation { id } => {
+                let at = self.place(moment, &id);
+                Ok(Prepared::Answered(show_at(alloc, &self.world, at.place)?))
+            }
+        }
+    }
+
+    /// What a caller's request comes to at this moment.
+    fn prepare_call(
+        &mut self,
+        alloc: Global,
+        moment: Moment,
+        asked: &Asked,
+        call: Call,
+    ) -> Result<Prepared, AllocError>
+        requires in_range { IsCallMoment moment }
+        requires later { self.old.world.last ≤ℤ moment }
+        requires quiet { IsQuiet self.old.world moment }
+        requires call { IsCallOf self.old.settings asked.now call }
+        ensures world { self.new.world ≡ self.old.world }
+        ensures settings { self.new.settings ≡ self.old.settings }
+        ensures spare_rows { self.old.spare_rows ≤ self.new.spare_rows }
+        ensures spare_inclusions { self.old.spare_inclusions ≤ self.new.spare_inclusions }
+        ensures prepared { IfOk result (IsPrepared self.new moment asked.now) }
+    {
+        if let Some(breach) = self.situation(moment).judge(&call) {
+            return Ok(Prepared::Refused(breach.answer(alloc)?));
+        }
+        self.plan(alloc, moment, asked, call)
+    }
+
+    /// What a request comes to at this moment, at which nothing is due. It takes all the memory that
+    /// the change needs, and changes nothing yet. `Err` where there is no memory.
+    pub fn prepare(
+        &mut self,
+        alloc: Global,
+        moment: Moment,
+        asked: &Asked,
+    ) -> Result<Prepared, AllocError>
+        requires in_range { IsCallMoment moment }
+        requires later { self.old.world.last ≤ℤ moment }
+        requires quiet { IsQuiet self.old.world moment }
+        ensures world { self.new.world ≡ self.old.world }
+        ensures settings { self.new.settings ≡ self.old.settings }
+        ensures spare_rows { self.old.spare_rows ≤ self.new.spare_rows }
+        ensures spare_inclusions { self.old.spare_inclusions ≤ self.new.spare_inclusions }
+        ensures prepared { IfOk result (IsPrepared self.new moment asked.now) }
+    {
+        match understand(alloc, &self.policy, asked)? {
+            Understood::Refused(answer) => Ok(Prepared::Refused(answer)),
+            Understood::Wanted(call) => self.prepare_call(alloc, moment, asked, call),
+        }
+    }
+
+    /// Makes a planned change.
+    fn carry_out(&mut self, change: Change)
+        requires { Fits self.old change }
+        ensures world { Carries self.old.world change self.new.world }
+        ensures settings { self.new.settings ≡ self.old.settings }
+    {
+        match change {
+            Change::Tick(moment) => self.world.advance(moment),
+            Change::Add(row) => {
+                self.world.add_prepared(row);
+            }
+            Change::Update { moment, place, deadline, tags } => {
+                self.world.update(place, deadline, tags, moment);
+            }
+            Change::End { moment, place } => self.world.retire(place, moment),
+            Change::Include { moment, plan } => self.world.include(plan, moment),
+        }
+    }
+
+    /// Makes a change that was prepared, and gives its answer: none for due deadlines. It takes no
+    /// memory.
+    pub fn commit(&mut self, plan: Plan) -> Option<Answer>
+        requires { Fits self.old plan.change }
+        ensures world { Carries self.old.world plan.change self.new.world }
+        ensures settings { self.new.settings ≡ self.old.settings }
+        ensures answer { result ≡ plan.answer }
+    {
+        let (change, answer) = plan.into_parts();
+        self.carry_out(change);
+        answer
+    }
+
+    /// Carries out the deadlines that are due at a moment, if there are any.
+    /// `Err` where there is no memory, and then nothing was changed.
+    fn catch_up(&mut self, alloc: Global, moment: Moment) -> Result<(), AllocError>
+        requires in_range { IsCallMoment moment }
+        requires later { self.old.world.last ≤ℤ moment }
+        ensures ok { OnOk result (Advances self.old.world moment self.new.world) }
+        ensures timely { OnOk result (IsTimely self.new.world moment) }
+        ensures err { OnErr result (self.new.world ≡ self.old.world) }
+        ensures settings { self.new.settings ≡ self.old.settings }
+    {
+        if self.is_due(moment) {
+            let plan = self.prepare_tick(alloc, moment)?;
+            self.commit(plan);
+        }
+        Ok(())
+    }
+
+    /// Answers a request at a moment at which nothing is due.
+    fn answer(&mut self, alloc: Global, moment: Moment, asked: &Asked) -> Told
+        requires { IsTimely self.old.world moment }
+        ensures told { IsAnswered self.old.settings self.old.world moment asked.now result
+            self.new.world }
+        ensures settings { self.new.settings ≡ self.old.settings }
+    {
+        match self.prepare(alloc, moment, asked) {
+            Ok(Prepared::Refused(answer)) => Told::Made(answer),
+            Ok(Prepared::Answered(answer)) => Told::Made(answer),
+            Ok(Prepared::Change(plan)) => match self.commit(plan) {
+                Some(answer) => Told::Made(answer),
+                None => unreachable!(),
+            },
+            Err(_) => Told::Standin(Standin::Memory),
+        }
+    }
+
+    /// Serves a request at the moment that this answer of the clock makes, in microseconds since
+    /// 1970: the deadlines that are due are carried out, and then the request is judged. Where there
+    /// is no memory, the stand-in for it is told, and nothing but due deadlines is carried out.
+    pub fn serve(&mut self, alloc: Global, now: i64, asked: &Asked) -> Told
+        ensures serves { Serves self.old.settings self.old.world now asked.now result
+            self.new.world }
+        ensures settings { self.new.settings ≡ self.old.settings }
+    {
+        let moment = self.moment_of(now);
+        match self.catch_up(alloc, moment) {
+            Ok(()) => self.answer(alloc, moment, asked),
+            Err(AllocError) => Told::Standin(Standin::Memory),
+        }
+    }
+}
+
+/// The clock's answer, brought into the years from 1970 to 9998.
+fn within_years(now: i64) -> i64
+    ensures value { result ≡ int_max (pos 0) (int_min now latest_call) }
+    ensures in_range { IsCallMoment result }
+{
+    now.min(LATEST_CALL).max(0)
+}
+
+/// The later of two moments that a call may have.
+fn later_of(moment: i64, last: i64) -> i64
+    requires moment { IsCallMoment moment }
+    requires last { IsCallMoment last }
+    ensures value { result ≡ int_max last moment }
+    ensures in_range { IsCallMoment result }
+{
+    moment.max(last)
+}
