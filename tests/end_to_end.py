@@ -1,17 +1,21 @@
 #!/usr/bin/env python3
 """End-to-end checks: the built program, run on examples/*.http, against the replies that stand beside them.
 
-Only moments are masked, since the program reads the system's clock: each createTime and deadline is replaced by the one
-of the stored reply, after it was seen that the create time is no earlier than the run's start and that the deadline lies
-48 hours after it. A deadline that a request gives is put in place of the stored one, an hour from now, and has to come
-back as it was sent. Each run has ended by itself before its output is looked at.
+The program reads the system's clock, so a stored moment stands for one of the run: wherever it is stored the same one
+has to come, later ones no earlier, each within the run, and a deadline 48 hours after its create time. A deadline that
+a request gives is put in place of the stored one, an hour from now, and has to come back as it was sent. No check waits
+for a deadline. Each run has ended by itself before its output is looked at.
 """
 
 import contextlib
 import datetime
+import hashlib
+import hmac
 import http.client
+import json
 import os
 import pathlib
+import random
 import re
 import shutil
 import socket
@@ -26,8 +30,11 @@ EXAMPLES = TOP / "examples"
 RDB = TOP / "rdb"
 SECONDS = 60
 
-MOMENTS = re.compile(rb'"createTime":"([^"]*)",("createdBy":"[^"]*"),"deadline":"([^"]*)"')
-CREATED, DEADLINE, GIVEN = b"2023-11-14T22:13:20Z", b"2023-11-16T22:13:20Z", b"2023-11-14T23:13:20Z"
+SECRET = bytes([0x0B] * 20)  # that of examples/farm.toml
+
+MOMENT = re.compile(rb'"(createTime|deadline|finalizeStartTime|finalizeTime)":"([^"]*)"')
+LIFETIME = 48 * 3600 * 1_000_000
+GIVEN = b"2023-11-14T23:13:20Z"  # stands for a deadline that the request gives
 PRINTED = re.compile(r"(\d{4}-\d\d-\d\dT\d\d:\d\d:\d\d)(?:\.(\d{3}|\d{6}))?Z")
 LENGTH = re.compile(rb"Content-Length: (\d+)\r\n")
 
@@ -59,29 +66,54 @@ def replies(stream):
         stream = rest[int(length[1]) :]
 
 
-def masked(stream, begun, given):
-    """The stream with each moment, and the length that it brings with it, as in the stored replies."""
-    for head, body in replies(stream):
-        found = MOMENTS.search(body)
-        if found:
-            created, deadline = micros(found[1]), micros(found[3])
-            if found[3] != given and deadline - created != 48 * 3600 * 1_000_000:
-                raise Wrong(f"the deadline is not 48 hours away: {body!r}")
-            if created < begun:
-                raise Wrong(f"created before the run began: {body!r}")
-            stored = GIVEN if found[3] == given else DEADLINE
-            body = MOMENTS.sub(b'"createTime":"%s",%s,"deadline":"%s"' % (CREATED, found[2], stored), body)
+def now():
+    return time.time_ns() // 1000
+
+
+def as_stored(stored, came, span, given):
+    """What came, with the stored moments, and the lengths that they bring with them, in place of those of the run."""
+    wanted, got, stands_for = list(replies(stored)), list(replies(came)), {}
+    if len(wanted) != len(got):
+        raise Wrong(f"{len(got)} replies, and {len(wanted)} are stored: {came!r}")
+    for (_, text), (head, body) in zip(wanted, got):
+        names, found = MOMENT.findall(text), MOMENT.findall(body)
+        if [field for field, _ in names] == [field for field, _ in found]:
+            for (field, name), (_, moment) in zip(names, found):
+                if stands_for.setdefault(name, (moment, field))[0] != moment:
+                    raise Wrong(f"{name!r} stands for {stands_for[name][0]!r} and for {moment!r}")
+            see_lifetime(dict(names), dict(found), given)
+            following = iter(names)
+            body = MOMENT.sub(lambda _: b'"%s":"%s"' % next(following), body)
             head = LENGTH.sub(b"Content-Length: %d\r\n" % len(body), head + b"\r\n")[:-2]
         yield head + b"\r\n\r\n" + body
+    see_order(stands_for, span)
+
+
+def see_lifetime(names, moments, given):
+    """A shown deadline is the one that was given, or lies 48 hours after the create time."""
+    if names.get(b"deadline") == GIVEN:
+        if moments[b"deadline"] != given:
+            raise Wrong(f"the deadline is {moments[b'deadline']!r}, and {given!r} was given")
+    elif names and micros(moments[b"deadline"]) - micros(moments[b"createTime"]) != LIFETIME:
+        raise Wrong(f"the deadline is not 48 hours away: {moments!r}")
+
+
+def see_order(stands_for, span):
+    """The moments of the run come in the order of the stored ones, and all but deadlines lie within the run."""
+    in_order = [stands_for[name] for name in sorted(stands_for, key=micros)]
+    if any(micros(one) > micros(next_one) for (one, _), (next_one, _) in zip(in_order, in_order[1:])):
+        raise Wrong(f"moments in another order: {stands_for!r}")
+    for moment, field in in_order:
+        if field != b"deadline" and not span[0] <= micros(moment) <= span[1]:
+            raise Wrong(f"{moment!r} lies outside the run")
 
 
 def words(folder, config=EXAMPLES / "farm.toml"):
     return [RDB, "answer", "--config", config, "--journal", pathlib.Path(folder) / "farm.journal"]
 
 
-def run(feed, folder, stdout=subprocess.PIPE, config=EXAMPLES / "farm.toml", given=None):
+def run(feed, folder, stdout=subprocess.PIPE, config=EXAMPLES / "farm.toml"):
     """Runs the program. `feed` is its whole input, or a function that writes it to a pipe."""
-    begun = time.time_ns() // 1000
     program = subprocess.Popen(
         words(folder, config), stdin=subprocess.PIPE, stderr=subprocess.PIPE, stdout=stdout
     )
@@ -93,12 +125,19 @@ def run(feed, folder, stdout=subprocess.PIPE, config=EXAMPLES / "farm.toml", giv
     except subprocess.TimeoutExpired:
         program.kill()
         raise Wrong(f"not ended after {SECONDS} seconds")
-    return b"".join(masked(out, begun, given)) if out else out, errors, program.returncode
+    return out, errors, program.returncode
 
 
 def expect(got, output, errors, status):
     if got != (output, errors, status):
         raise Wrong(f"got {got!r}\n  wanted {(output, errors, status)!r}")
+
+
+def expect_stored(feed, folder, stored, errors=b"", status=0, given=None):
+    """The run gives the stored replies, but for their moments."""
+    begun = now()
+    out, *end = run(feed, folder)
+    expect((b"".join(as_stored(stored, out, (begun, now()), given)), *end), stored, errors, status)
 
 
 def example(name, suffix):
@@ -109,17 +148,22 @@ def answers(name, errors=b"", status=0):
     """The example's requests in one piece."""
 
     def check(folder):
-        expect(run(example(name, "http"), folder), example(name, "reply"), errors, status)
+        expect_stored(example(name, "http"), folder, example(name, "reply"), errors, status)
 
     return check
 
 
+def moment_in(**span):
+    """The moment so far from now, without decimals."""
+    moment = datetime.datetime.now(datetime.timezone.utc) + datetime.timedelta(**span)
+    return moment.strftime("%Y-%m-%dT%H:%M:%SZ")
+
+
 def a_deadline_that_is_given(folder):
     """A request whose deadline is an hour away."""
-    moment = datetime.datetime.now(datetime.timezone.utc) + datetime.timedelta(hours=1)
-    given = moment.strftime("%Y-%m-%dT%H:%M:%SZ").encode()
-    request = example("deadline-and-tags", "http").replace(GIVEN, given)
-    expect(run(request, folder, given=given), example("deadline-and-tags", "reply"), b"", 0)
+    given = moment_in(hours=1).encode()
+    feed = example("deadline-and-tags", "http").replace(GIVEN, given)
+    expect_stored(feed, folder, example("deadline-and-tags", "reply"), given=given)
 
 
 def configurations(folder):
@@ -155,7 +199,7 @@ def a_byte_at_a_time(folder):
             pipe.flush()
             time.sleep(0.0005)
 
-    expect(run(drip, folder), example("three-requests", "reply"), b"", 0)
+    expect_stored(drip, folder, example("three-requests", "reply"))
 
 
 def empty_input(folder):
@@ -261,8 +305,143 @@ def hostile_streams(folder):
             expect(run(stream, folder), reply, b"rdb: wire %d %s\n" % fault, 8)
 
 
-CALL = "/prpc/luci.resultdb.v1.Recorder/CreateInvocation"
-CREATE = b'{"invocationId":"u-a","invocation":{"realm":"proj:ci"}}'
+# Requests that are written here, and what is told for them
+
+
+def token(name):
+    return hmac.new(SECRET, b"rdb-update/" + name.encode(), hashlib.sha256).hexdigest()
+
+
+def route(method):
+    return f"/prpc/luci.resultdb.v1.{'ResultDB' if method == 'GetInvocation' else 'Recorder'}/{method}"
+
+
+def request(method, body, *headers):
+    text = json.dumps(body)
+    head = [f"POST {route(method)} HTTP/1.1", "Authorization: Bearer tok-a", *headers, f"Content-Length: {len(text)}"]
+    return ("\r\n".join(head) + "\r\n\r\n" + text).encode()
+
+
+def changing(name, method, body):
+    """A request that shows the update token of this invocation."""
+    return request(method, body, f"Update-Token: {token(name)}")
+
+
+def named(name):
+    return {"name": f"invocations/{name}"}
+
+
+def new(name):
+    return {"invocationId": name, "invocation": {"realm": "proj:ci"}}
+
+
+def adding(name, *others):
+    return {"includingInvocation": f"invocations/{name}", "addInvocations": [f"invocations/{n}" for n in others]}
+
+
+def updating(name, mask, **members):
+    return {"invocation": {**named(name), **members}, "updateMask": mask}
+
+
+def told(stream, folder):
+    """Runs the program over the stream: of each reply its status, and its text, or of 200 what the text shows."""
+    out, *end = run(stream, folder)
+    if end != [b"", 0]:
+        raise Wrong(f"ended by {end!r}")
+    return [told_by(int(head.split(b" ")[1]), body) for head, body in replies(out)]
+
+
+def told_by(status, body):
+    if status != 200:
+        return status, body.decode()
+    if not body.startswith(b")]}'\n"):
+        raise Wrong(f"no prefix: {body!r}")
+    return status, json.loads(body[5:])
+
+
+def same(got, wanted):
+    if got != wanted:
+        raise Wrong(f"got {got!r}\n  wanted {wanted!r}")
+
+
+def a_deadline_that_is_moved(folder):
+    """An update sets the deadline alone where the mask names it alone; out of reach it is refused."""
+    near, given, far = moment_in(), moment_in(hours=1), moment_in(hours=121)
+    tags = [{"key": "k", "value": "v"}]
+    begun = now()
+    created, moved, again, cleared, *refused = told(
+        request("CreateInvocation", new("u-a"))
+        + changing("u-a", "UpdateInvocation", updating("u-a", "deadline", deadline=given, tags=tags))
+        + changing("u-a", "UpdateInvocation", updating("u-a", "tags,deadline", deadline=given, tags=tags))
+        + changing("u-a", "UpdateInvocation", updating("u-a", "tags", deadline="never"))
+        + changing("u-a", "UpdateInvocation", updating("u-a", "deadline", deadline=near))
+        + changing("u-a", "UpdateInvocation", updating("u-a", "deadline", deadline=far)),
+        folder,
+    )
+    shown = {**created[1], "deadline": given}
+    same((moved, again, cleared), ((200, shown), (200, {**shown, "tags": tags}), (200, shown)))
+    same(len(refused), 2)
+    for (status, text), deadline in zip(refused, (near, far)):
+        front, _, moment = text.rstrip("\n").rpartition(" ")
+        same((status, front), (400, f"13 DeadlineRange: {deadline}"))
+        if not begun <= micros(moment.encode()) <= now():
+            raise Wrong(f"{moment} lies outside the run")
+
+
+def tokens_and_many_names(folder):
+    """Update tokens that are there twice, or empty; and 501 names, and 500, of which each counts once."""
+    shown = f"Update-Token: {token('u-a')}"
+    create, get = request("CreateInvocation", new("u-a")), request("GetInvocation", named("u-a"))
+    twice = request("FinalizeInvocation", named("u-a"), shown, shown)
+    empty = request("FinalizeInvocation", named("u-a"), "Update-Token:")
+    many, most = (changing("u-a", "UpdateIncludedInvocations", adding("u-a", *["u-b"] * n)) for n in (501, 500))
+    got = told(create + request("CreateInvocation", new("u-b")) + twice + empty + many + most + get, folder)
+    same(got[2], (401, "9 NoUpdateToken: invocations/u-a\n"))
+    same(got[3], (403, "10 BadUpdateToken: invocations/u-a\n"))
+    same(got[4], (400, "15 TooMany: 501\n"))
+    same(got[5], (200, {}))
+    same(got[6], (200, {**got[0][1], "includedInvocations": ["invocations/u-b"]}))
+
+
+def reached(inclusions, start):
+    """Whom a walk of inclusions leads to, the start among them."""
+    found, left = set(), [start]
+    while left:
+        node = left.pop()
+        if node not in found:
+            found.add(node)
+            left += [to for by, to in inclusions if by == node]
+    return found
+
+
+def graphs_beside_a_model(folder):
+    """Drawn graphs, cycles among them, whose invocations are finalised in a drawn order: after each call, which are
+    final, and since when. One is final from the first call on after which no walk leads from it to an active one."""
+    for seed in range(8):
+        drawn = random.Random(seed)
+        names = [f"u-{n}" for n in range(7)]
+        pairs = [(by, to) for by in names for to in names if by != to]
+        inclusions, order = drawn.sample(pairs, 4 + seed), drawn.sample(names, len(names))
+        stream = b"".join(request("CreateInvocation", new(name)) for name in names)
+        stream += b"".join(changing(by, "UpdateIncludedInvocations", adding(by, to)) for by, to in inclusions)
+        looks = b"".join(request("GetInvocation", named(name)) for name in names)
+        stream += b"".join(changing(name, "FinalizeInvocation", named(name)) + looks for name in order)
+        got = iter(told(stream, folder)[len(names) + len(inclusions) :])
+        active, ends = set(names), {}
+        for name in order:
+            _, ended = next(got)
+            active.remove(name)
+            for other in names:
+                if other not in ends and not reached(inclusions, other) & active:
+                    ends[other] = ended["finalizeStartTime"]
+                status, shown = next(got)
+                state = "ACTIVE" if other in active else "FINALIZED" if other in ends else "FINALIZING"
+                same((status, shown["state"], shown.get("finalizeTime")), (200, state, ends.get(other)))
+                same(shown["name"], f"invocations/{other}")
+
+
+CALL = route("CreateInvocation")
+CREATE = json.dumps(new("u-a"))
 BEARER = {"Authorization": "Bearer tok-a"}
 
 
@@ -289,6 +468,14 @@ def listening(folder):
         raise Wrong(f"the program ended by {ended!r}")
 
 
+@contextlib.contextmanager
+def calling(folder):
+    """A client of Python's library, on one connection to the program."""
+    with listening(folder) as port:
+        with contextlib.closing(http.client.HTTPConnection("127.0.0.1", port, timeout=SECONDS)) as client:
+            yield client
+
+
 def status_of(reply, wanted, starts):
     body = reply.read()
     if reply.status != wanted or not body.startswith(starts):
@@ -297,8 +484,7 @@ def status_of(reply, wanted, starts):
 
 def a_client_of_the_library(folder):
     """Python's http.client over one connection: each reply comes before the next request is sent."""
-    with listening(folder) as port:
-        client = http.client.HTTPConnection("127.0.0.1", port, timeout=SECONDS)
+    with calling(folder) as client:
         client.request("POST", CALL, CREATE, BEARER)
         status_of(client.getresponse(), 200, b")]}'\n{")
         client.request("POST", CALL, CREATE, BEARER)
@@ -308,7 +494,33 @@ def a_client_of_the_library(folder):
         if reply.getheader("Connection") != "close":
             raise Wrong("the connection stays open")
         status_of(reply, 501, b"1 NoMethod: /\n")
-        client.close()
+
+
+def a_cycle_of_three(folder):
+    """Three that include one another are finalised in turn: all are final with the last one. Each update token is the
+    one that the reply to the creation handed out."""
+    names = ("u-a", "u-b", "u-c")
+    with calling(folder) as client:
+
+        def call(method, body, shown=None):
+            headers = {**BEARER, "Update-Token": shown} if shown else BEARER
+            client.request("POST", route(method), json.dumps(body), headers)
+            reply = client.getresponse()
+            status, shown = told_by(reply.status, reply.read())
+            same(status, 200)
+            return shown, reply.getheader("Update-Token")
+
+        tokens = {name: call("CreateInvocation", new(name))[1] for name in names}
+        same(tokens, {name: token(name) for name in names})
+        for name, other in zip(names, names[1:] + names[:1]):
+            same(call("UpdateIncludedInvocations", adding(name, other), tokens[name]), ({}, None))
+        ended = [call("FinalizeInvocation", named(name), tokens[name])[0] for name in names]
+        same([shown["state"] for shown in ended], ["FINALIZING", "FINALIZING", "FINALIZED"])
+        end = ended[2]["finalizeStartTime"]
+        for name, shown in zip(names, ended):
+            wanted = {**shown, "state": "FINALIZED", "finalizeTime": end}
+            same(call("GetInvocation", named(name)), (wanted, None))
+            same(call("FinalizeInvocation", named(name), tokens[name]), (wanted, None))
 
 
 def a_plain_socket(folder):
@@ -330,20 +542,48 @@ def a_plain_socket(folder):
                 raise Wrong("more than two replies")
 
 
-def a_call_by_curl(folder):
-    """curl, where it is installed."""
+def by_curl(folder, *words):
+    """What curl writes, where it is installed."""
     if not shutil.which("curl"):
-        return
+        return None
     with listening(folder) as port:
-        url = f"http://127.0.0.1:{port}{CALL}"
         done = subprocess.run(
-            ["curl", "-sS", "--max-time", str(SECONDS), "-w", " %{http_code}", "-H", "Authorization: Bearer tok-a"]
-            + ["-d", CREATE.decode(), url],
+            ["curl", "-sS", "--max-time", str(SECONDS), *(word.replace("PORT", str(port)) for word in words)],
             capture_output=True,
             timeout=SECONDS,
         )
-        if not done.stdout.startswith(b")]}'\n{") or not done.stdout.endswith(b"} 200") or done.returncode:
-            raise Wrong(f"curl: {done!r}")
+    if done.returncode:
+        raise Wrong(f"curl: {done!r}")
+    return done.stdout
+
+
+def curl_words(method, body, *headers):
+    shown = [word for header in ("Authorization: Bearer tok-a", *headers) for word in ("-H", header)]
+    return [*shown, "-d", json.dumps(body), f"http://127.0.0.1:PORT{route(method)}"]
+
+
+def a_call_by_curl(folder):
+    out = by_curl(folder, "-w", " %{http_code}", *curl_words("CreateInvocation", new("u-a")))
+    if out is not None and not (out.startswith(b")]}'\n{") and out.endswith(b"} 200")):
+        raise Wrong(f"curl: {out!r}")
+
+
+def calls_by_curl(folder):
+    """Calls that follow one another on one connection, as the README has them."""
+    shown = f"Update-Token: {token('u-a')}"
+    words = curl_words("CreateInvocation", new("u-a"))
+    for method, body, *headers in (
+        ("CreateInvocation", new("u-b")),
+        ("UpdateIncludedInvocations", adding("u-a", "u-b"), shown),
+        ("FinalizeInvocation", named("u-a"), shown),
+        ("GetInvocation", named("u-a")),
+    ):
+        words += ["--next", "-sS", *curl_words(method, body, *headers)]
+    out = by_curl(folder, *words)
+    if out is not None:
+        texts = [json.loads(text) for text in out.split(b")]}'\n")[1:]]
+        same([text.get("state") for text in texts], ["ACTIVE", "ACTIVE", None, "FINALIZING", "FINALIZING"])
+        same(texts[4]["includedInvocations"], ["invocations/u-b"])
 
 
 CHECKS = {
@@ -355,6 +595,12 @@ CHECKS = {
     "a reserved id": answers("reserved-id"),
     "an unknown method": answers("unknown-method"),
     "a deadline and tags": a_deadline_that_is_given,
+    "a tree of invocations": answers("tree"),
+    "changes that are refused": answers("refused-changes"),
+    "a deadline that is moved": a_deadline_that_is_moved,
+    "tokens, and many names": tokens_and_many_names,
+    "graphs beside a model": graphs_beside_a_model,
+    "a cycle of three": a_cycle_of_three,
     "configurations that aren't accepted": configurations,
     "the same bytes one at a time": a_byte_at_a_time,
     "an empty input": empty_input,
@@ -365,6 +611,7 @@ CHECKS = {
     "a client of Python's library": a_client_of_the_library,
     "a plain socket": a_plain_socket,
     "a call by curl": a_call_by_curl,
+    "calls by curl on one connection": calls_by_curl,
     "a closed output": closed_output,
     "a full output": full_output,
     "refused words": refused_words,
