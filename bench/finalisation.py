@@ -1,7 +1,7 @@
 #!/usr/bin/env python3
-"""Measures how invocations end, over one connection by the built program: 3,000 and 30,000 are created, each included by an
-earlier one, and then finalised, once from the last to the first (each is final at once) and once from the first to the
-last (all become final with the last one).
+"""Measures how invocations end, over one connection by the built program: 3,000 and 30,000 are created, each included
+by an earlier one, and then finalised, once from the last to the first (each is final at once) and once from the first
+to the last (each that includes others waits for the last one that it reaches, the first for all).
 
 Prints the seconds of each and their ratio, which is 10 where the time is linear.
 """
@@ -19,7 +19,7 @@ RDB = TOP / "rdb"
 COUNTS = (3_000, 30_000)
 TURNS = 3  # of each, the fastest counts
 SECRET = bytes([0x0B] * 20)  # that of examples/farm.toml
-RECORDER = "/prpc/luci.resultdb.v1.Recorder/"
+FINAL = b'"state":"FINALIZED"'
 
 
 def token(name):
@@ -29,7 +29,7 @@ def token(name):
 def request(method, body, changes=None):
     shown = f"Update-Token: {token(changes)}\r\n" if changes else ""
     return (
-        f"POST {RECORDER}{method} HTTP/1.1\r\nAuthorization: Bearer tok-a\r\n{shown}"
+        f"POST /prpc/luci.resultdb.v1.{method} HTTP/1.1\r\nAuthorization: Bearer tok-a\r\n{shown}"
         f"Content-Length: {len(body)}\r\n\r\n{body}"
     ).encode()
 
@@ -41,42 +41,51 @@ def earlier(number):
 
 def requests(count, order):
     for number in range(count):
-        yield request("CreateInvocation", '{"invocationId":"u-%d","invocation":{"realm":"proj:ci"}}' % number)
+        yield request("Recorder/CreateInvocation", '{"invocationId":"u-%d","invocation":{"realm":"proj:ci"}}' % number)
         if number:
             name = f"u-{earlier(number)}"
             body = '{"includingInvocation":"invocations/%s","addInvocations":["invocations/u-%d"]}' % (name, number)
-            yield request("UpdateIncludedInvocations", body, name)
+            yield request("Recorder/UpdateIncludedInvocations", body, name)
     for number in order(count):
-        yield request("FinalizeInvocation", '{"name":"invocations/u-%d"}' % number, f"u-{number}")
+        yield request("Recorder/FinalizeInvocation", '{"name":"invocations/u-%d"}' % number, f"u-{number}")
+    yield request("ResultDB/GetInvocation", '{"name":"invocations/u-0"}')
 
 
+def final_at_once(count):
+    """How many include no other one."""
+    return count - len({earlier(number) for number in range(1, count)})
+
+
+# the order in which they are finalised, and of how many of them the reply says that they are final
 ORDERS = {
-    "leaf by leaf": lambda count: range(count - 1, -1, -1),
-    "root first": range,
+    "leaf by leaf": (lambda count: range(count - 1, -1, -1), lambda count: count),
+    "root first": (range, final_at_once),
 }
 
 
-def seconds(path, folder, count):
+def seconds(path, folder, count, ended):
     words = [RDB, "answer", "--config", TOP / "examples/farm.toml", "--journal", f"{folder}/farm.journal"]
     with open(path, "rb") as feed, open(f"{folder}/replies", "wb") as replies:
         start = time.monotonic()
         subprocess.run(words, stdin=feed, stdout=replies, check=True)
         taken = time.monotonic() - start
     made = (pathlib.Path(folder) / "replies").read_bytes()
-    if made.count(b"HTTP/1.1 200 OK\r\n") != 3 * count - 1 or not made.count(b'"state":"FINALIZED"'):
-        raise SystemExit("not every request was accepted, or nothing became final")
+    if made.count(b"HTTP/1.1 200 OK\r\n") != 3 * count:
+        raise SystemExit("not every request was accepted")
+    if made.count(FINAL) != ended + 1 or FINAL not in made[made.rindex(b"HTTP/1.1") :]:
+        raise SystemExit("not those became final that had to")
     return taken
 
 
 def main():
     few, many = COUNTS
     with tempfile.TemporaryDirectory(dir=sys.argv[1] if len(sys.argv) > 1 else None) as folder:
-        for name, order in ORDERS.items():
+        for name, (order, ended) in ORDERS.items():
             found = {}
             for count in COUNTS:
                 path = pathlib.Path(folder) / f"{count}.http"
                 path.write_bytes(b"".join(requests(count, order)))
-                found[count] = min(seconds(path, folder, count) for _ in range(TURNS))
+                found[count] = min(seconds(path, folder, count, ended(count)) for _ in range(TURNS))
                 print(f"{count} invocations, {name}: {found[count]:.2f} s, {3 * count / found[count]:.0f} requests/s")
             print(f"ratio of {many} to {few}, {name}: {found[many] / found[few]:.1f} (linear: {many / few:.0f})")
     return 0
