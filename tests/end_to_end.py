@@ -28,7 +28,7 @@ import time
 TOP = pathlib.Path(__file__).resolve().parent.parent
 EXAMPLES = TOP / "examples"
 RDB = TOP / "rdb"
-SECONDS = 60
+SECONDS = 240  # after which a run that hasn't ended is given up
 
 SECRET = bytes([0x0B] * 20)  # that of examples/farm.toml
 
@@ -57,13 +57,14 @@ def micros(text):
 
 def replies(stream):
     """The replies of a stream, each as its head and its body of Content-Length bytes."""
-    while stream:
-        head, parted, rest = stream.partition(b"\r\n\r\n")
-        length = LENGTH.search(head + b"\r\n")
-        if not parted or not length or len(rest) < int(length[1]):
-            raise Wrong(f"no whole reply: {stream!r}")
-        yield head, rest[: int(length[1])]
-        stream = rest[int(length[1]) :]
+    at = 0
+    while at < len(stream):
+        start = stream.find(b"\r\n\r\n", at) + 4
+        length = LENGTH.search(stream, at, start)
+        if start < 4 or not length or len(stream) - start < int(length[1]):
+            raise Wrong(f"no whole reply: {stream[at:]!r}")
+        head, at = stream[at : start - 4], start + int(length[1])
+        yield head, stream[start:at]
 
 
 def now():
@@ -403,6 +404,30 @@ def tokens_and_many_names(folder):
     same(got[6], (200, {**got[0][1], "includedInvocations": ["invocations/u-b"]}))
 
 
+def full_tables(folder):
+    """The 65,537th invocation is refused, and the 262,145th inclusion, with all that its call names. What stands may be
+    asked for again."""
+    names = [f"u-{n}" for n in range(65_536)]
+    several, most, others = names[:524], names[524], names[1_000:1_500]
+
+    def including(name, count):
+        return changing(name, "UpdateIncludedInvocations", adding(name, *others[:count]))
+
+    got = told(
+        b"".join(request("CreateInvocation", new(name)) for name in [*names, "u-more", "u-0"])
+        + b"".join(including(name, 500) for name in several)
+        + b"".join(including(*row) for row in ((most, 145), (most, 144), (names[525], 1), (most, 144)))
+        + request("GetInvocation", named(most)),
+        folder,
+    )
+    same({status for status, _ in got[: len(names)]}, {200})
+    same(got[len(names)], (429, "20 TableFull: invocations 65536\n"))
+    same(got[len(names) + 1], (409, "19 Taken: invocations/u-0\n"))
+    wanted = [(200, {})] * 524 + [(429, "20 TableFull: inclusions 262000\n"), (200, {})]
+    same(got[len(names) + 2 : -1], wanted + [(429, "20 TableFull: inclusions 262144\n"), (200, {})])
+    same(got[-1][1]["includedInvocations"], [f"invocations/{name}" for name in others[:144]])
+
+
 def reached(inclusions, start):
     """Whom a walk of inclusions leads to, the start among them."""
     found, left = set(), [start]
@@ -600,6 +625,7 @@ CHECKS = {
     "a deadline that is moved": a_deadline_that_is_moved,
     "tokens, and many names": tokens_and_many_names,
     "graphs beside a model": graphs_beside_a_model,
+    "full tables": full_tables,
     "a cycle of three": a_cycle_of_three,
     "configurations that aren't accepted": configurations,
     "the same bytes one at a time": a_byte_at_a_time,
