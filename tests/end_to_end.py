@@ -138,7 +138,9 @@ def expect_stored(feed, folder, stored, errors=b"", status=0, given=None):
     """The run gives the stored replies, but for their moments."""
     begun = now()
     out, *end = run(feed, folder)
-    expect((b"".join(as_stored(stored, out, (begun, now()), given)), *end), stored, errors, status)
+    if end != [errors, status]:
+        raise Wrong(f"ended by {end!r} behind {out!r}")
+    same(b"".join(as_stored(stored, out, (begun, now()), given)), stored)
 
 
 def example(name, suffix):
@@ -655,9 +657,9 @@ def main():
             try:
                 check(folder)
                 print(f"end to end: {name}: passed")
-            except Wrong as wrong:
+            except Exception as wrong:  # also one that a check stumbles over
                 failed += 1
-                print(f"end to end: {name}: FAILED: {wrong}")
+                print(f"end to end: {name}: FAILED: {wrong if isinstance(wrong, Wrong) else repr(wrong)}")
     print(f"{len(CHECKS) - failed} passed, {failed} failed")
     return 1 if failed else 0
 
