@@ -6,6 +6,7 @@ use Rattle.inclusion_graph.specs.declared.edge.Edge.{Edge}
 use Rattle.invocations.specs.declared.invocation.Invocation.{Invocation}
 use Rattle.invocations.specs.Rows.{IsInState, states_of}
 use Rattle.invocation_world.specs.World.{World}
+use Rattle.invocation_world.specs.Advancing.{IsLeast}
 use Rattle.request_rules.specs.Settings.{Settings}
 use Rattle.service_core.specs.History.{Entry, Leads}
 
@@ -20,18 +21,19 @@ pub record EndsInTime (inclusions : List Edge) (time : ℤ) (before after : List
   pub stays : (place : ℕ) (row : Invocation) → slice_get before place ≡ Some row → row.state ≡ Finalized
       → slice_get after place ≡ Some row
 
--- Changes at these times, one after the other, lead from the rows to the rows after.
-abbrev pub EndInTime : List Edge → List ℤ → List Invocation → List Invocation → Type 0
-EndInTime inclusions [] before after = after ≡ before
-EndInTime inclusions (time ∷ times) before after =
-    (between : List Invocation) × EndsInTime inclusions time before between × EndInTime inclusions times between after
+-- Deadlines that are due at the moment are carried out one after the other, each the least of them, and each is a change at its
+-- own time.
+abbrev pub EndInTime : List Edge → ℤ → List ℤ → List Invocation → List Invocation → Type 0
+EndInTime inclusions moment [] before after = after ≡ before
+EndInTime inclusions moment (time ∷ times) before after =
+    IsLeast before moment time
+    × ((between : List Invocation) × EndsInTime inclusions time before between × EndInTime inclusions moment times between after)
 
--- An entry leads from one world to the next by the due deadlines, each a change at its own time, and then by what it asks for, at
--- its moment.
+-- An entry leads from one world to the next by deadlines that are due, and then by what it asks for, at its moment.
 pub record IsInTime (w : World) (e : Entry) (after : World) : Type 0 where
   pub deadlines : List ℤ
   pub between : List Invocation
-  pub due : EndInTime w.inclusions deadlines w.invocations between
+  pub due : EndInTime w.inclusions e.moment deadlines w.invocations between
   pub asked : EndsInTime after.inclusions e.moment between after.invocations
 
 -- So does each entry of a history.
