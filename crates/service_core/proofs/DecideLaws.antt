@@ -1,5 +1,5 @@
 -- Which rule a request breaks can be told in every world.
-use Rattle.std.proofs.Common.{◌≡◌, ◌⊎◌, ◌<◌, ◌≤◌, ◌+◌, ℕ, zero, ℤ, ◌+ℤ◌, List, [], ◌∷◌, ◌++◌, length, codes, decimal, Contains, Option, Some, None, inl, inr, refl, sym, ap, ◌∙◌, subst, arith}
+use Rattle.std.proofs.Common.{◌≡◌, ◌⊎◌, ◌<◌, ◌+◌, ℕ, zero, ℤ, ◌+ℤ◌, List, [], ◌∷◌, ◌++◌, length, codes, decimal, Contains, Option, Some, None, inl, inr, refl, sym, ap, ◌∙◌, subst, arith}
 use Rattle.std.specs.Str.{bytes_eq}
 use Rattle.std.specs.Cmp.Lexicographic.{bytes_decides}
 use Rattle.std.proofs.lemmas.Bool.{cases_Bool, cases_lt, false≢true}
@@ -18,7 +18,6 @@ use Rattle.invocations.specs.Rows.{HasId, ids_of}
 use Rattle.call_forms.specs.declared.asked.Asked.{Asked}
 use Rattle.call_forms.specs.declared.forms.Refusal.{Refusal}
 use Rattle.message_forms.specs.declared.methods.Method.{Method}
-use Rattle.message_forms.specs.declared.reading.FormFault.{FormFault}
 use Rattle.message_forms.specs.declared.requests.Request.{Request}
 use Rattle.message_forms.specs.declared.requests.Request.TheVariants.{CreateInvocation, UpdateInvocation, FinalizeInvocation, UpdateIncludedInvocations, GetInvocation}
 use Rattle.message_forms.specs.Methods.{method_of}
@@ -28,11 +27,11 @@ use Rattle.request_rules.specs.Settings.{Settings, caller_of, secret_of}
 use Rattle.request_rules.specs.Demands.{Right, active_id, changed_id, deadline_asked, ids_asked, included_ids, new_id, rights_asked}
 use Rattle.request_rules.specs.Named.{named, place_named, places_named}
 use Rattle.request_rules.specs.Order.{IsFirst, IsFirstOf, IsNoneOf, IsUnbroken}
-use Rattle.request_rules.specs.Broken.{Broken, BrokenAlone, BrokenIn, FindsTableFull, HasBadBody, HasBadDeadline, HasBadToken, HasNoCaller, HasNoMethod, HasNoToken, IncludesItself, IsBroken, IsInReach, Lacks, LacksRight, MeetsInactive, NamesNone, NamesTooMany, OverflowsInclusions, Rule, Scene, TakesName, Wants, all_there, deadline_near, denied, few_names, greatest_lifetime, least_lifetime, name_free, not_itself, number_of, of_invocation, out_of_reach, refusal, rights_held, room_left, still_active, table_full, target_of, token_right, token_shown}
+use Rattle.request_rules.specs.Broken.{BrokenAlone, BrokenIn, FindsTableFull, HasBadDeadline, HasBadToken, HasNoMethod, HasNoToken, IncludesItself, IsBroken, IsInReach, Lacks, LacksRight, MeetsInactive, NamesNone, NamesTooMany, OverflowsInclusions, Rule, Scene, TakesName, Wants, all_there, deadline_near, denied, few_names, greatest_lifetime, least_lifetime, name_free, not_itself, number_of, of_invocation, out_of_reach, refusal, rights_held, room_left, still_active, table_full, target_of, token_right, token_shown}
 use Rattle.request_rules.specs.Breaches.{BrokenBelow}
 use Rattle.request_rules.proofs.RuleOrder.{IsOne, first_alone}
 use Rattle.request_rules.proofs.RuleFacts.{one_bad_deadline, one_bad_token, one_inactive, one_itself, one_lacks, one_names_none, one_no_token, one_table_full, one_takes_name, one_too_many}
-use Rattle.request_rules.proofs.RuleChain.{broken_alone, broken_in, first_bad_body, first_below, first_no_caller, first_no_method, first_of_below, none_below, none_in_gap, none_up_to, unbroken_in}
+use Rattle.request_rules.proofs.RuleChain.{first_bad_body, first_below, first_no_caller, first_no_method, first_of_below, none_below, none_in_gap, none_up_to, unbroken_in}
 use Rattle.service_core.proofs.AllowLaws.{allows_or_not}
 
 -- a rule is broken, and this is its refusal, or it isn't

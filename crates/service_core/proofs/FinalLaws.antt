@@ -1,5 +1,5 @@
 -- What is final stays as it is, with all that it reaches.
-use Rattle.std.proofs.Common.{◌≡◌, ◌⊎◌, ℕ, ℤ, List, [], ◌∷◌, Option, Some, None, inl, inr, refl, sym, ◌∙◌, subst}
+use Rattle.std.proofs.Common.{◌≡◌, ◌⊎◌, ℕ, ℤ, [], ◌∷◌, Option, Some, None, inl, inr, refl, sym, ◌∙◌, subst}
 use Rattle.std.specs.List.{slice_get}
 use Rattle.names_realms.specs.declared.states.State.{State}
 use Rattle.names_realms.specs.declared.states.State.TheVariants.{Active, Finalizing, Finalized}
@@ -17,7 +17,7 @@ use Rattle.invocation_world.specs.Changes.{with_begun, with_inclusions, with_upd
 use Rattle.invocation_world.specs.Laws.{KeepsFinal}
 use Rattle.invocation_world.proofs.FinalFacts.{advance_final, begin_final, inclusions_final, row_final, settling_final, update_final}
 use Rattle.invocation_world.proofs.RowFacts.{row_in, state_is}
-use Rattle.request_rules.specs.Settings.{Settings, HasNames, caller_name}
+use Rattle.request_rules.specs.Settings.{Settings, caller_name}
 use Rattle.request_rules.specs.Named.{place_named, places_named}
 use Rattle.request_rules.specs.Broken.{still_active}
 use Rattle.service_core.specs.Step.{IsAccepted, Performs, Refuses, begun_from, changed, changed_at, with_end_begun}

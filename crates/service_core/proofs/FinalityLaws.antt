@@ -1,5 +1,5 @@
 -- Rows become final in time.
-use Rattle.std.proofs.Common.{◌≡◌, ◌⊎◌, ℕ, zero, suc, ℤ, ◌≤ℤ◌, ◌<ℤ◌, Bool, cond, List, [], ◌∷◌, ◌++◌, Option, Some, None, inl, inr, refl, sym, ap, ◌∙◌, subst, arith}
+use Rattle.std.proofs.Common.{◌≡◌, ◌⊎◌, ℕ, zero, suc, ℤ, ◌≤ℤ◌, ◌<ℤ◌, List, [], ◌∷◌, ◌++◌, Option, Some, None, inl, inr, refl, sym, ap, ◌∙◌, subst, arith}
 use Rattle.std.specs.List.{slice_get}
 use Rattle.std.proofs.lemmas.Bool.{cases_Bool, cond-true, cond-false}
 use Rattle.std.proofs.lemmas.Int.{ints, by_lt_z}
@@ -21,18 +21,18 @@ use Rattle.call_forms.specs.declared.forms.Told.TheVariants.{Made, Standin as In
 use Rattle.message_forms.specs.declared.requests.Request.{Request}
 use Rattle.message_forms.specs.declared.requests.Request.TheVariants.{CreateInvocation, UpdateInvocation, FinalizeInvocation, UpdateIncludedInvocations, GetInvocation}
 use Rattle.invocation_world.specs.World.{World, IsCallMoment, IsRow, IsStage, IsValid, new_row}
-use Rattle.invocation_world.specs.Settling.{Settles, SettlesRows}
-use Rattle.invocation_world.specs.Advancing.{Advances, CarriesOut, IsLeast, after_deadlines, all_begun}
+use Rattle.invocation_world.specs.Settling.{SettlesRows}
+use Rattle.invocation_world.specs.Advancing.{Advances, CarriesOut, IsLeast, all_begun}
 use Rattle.invocation_world.specs.Changes.{is_update, updated, with_begun, with_edges, with_inclusions, with_row_updated, with_update}
 use Rattle.invocation_world.specs.Laws.{KeepsFinal}
 use Rattle.invocation_world.proofs.AdvanceFacts.{least_row}
 use Rattle.invocation_world.proofs.BegunFacts.{all_begun_at, due_begun}
-use Rattle.invocation_world.proofs.RowFacts.{active≢finalizing, active≢finalized, finalizing≢finalized, all_at, row_in, state_is}
+use Rattle.invocation_world.proofs.RowFacts.{active≢finalizing, active≢finalized, finalizing≢finalized, all_at, state_is}
 use Rattle.invocation_world.proofs.SettleFacts.{ended_or_same, row_stays}
 use Rattle.invocation_world.proofs.ValidFacts.{all_begin, valid_settled}
 use Rattle.request_rules.specs.Settings.{Settings, HasNames, caller_name}
 use Rattle.request_rules.specs.Named.{place_named, places_named}
-use Rattle.service_core.specs.Finality.{AllInTime, EndInTime, EndsInTime, IsInTime}
+use Rattle.service_core.specs.Finality.{EndInTime, EndsInTime, IsInTime}
 use Rattle.service_core.specs.Step.{Performs, Refuses, begun_from, changed, changed_at, with_end_begun}
 use Rattle.service_core.specs.History.{Entry, Leads, Tells}
 use Rattle.service_core.specs.Laws.{FinalInTime}

@@ -1,5 +1,5 @@
 -- Rows that stay the same invocations.
-use Rattle.std.proofs.Common.{◌≡◌, ◌⊎◌, ℕ, ℤ, Bool, cond, List, [], ◌∷◌, ◌++◌, Option, Some, None, inl, inr, refl, sym, ap, ◌∙◌, subst}
+use Rattle.std.proofs.Common.{◌≡◌, ◌⊎◌, ℕ, ℤ, List, [], ◌∷◌, ◌++◌, Option, Some, None, inl, inr, refl, sym, ap, ◌∙◌, subst}
 use Rattle.std.specs.List.{slice_get}
 use Rattle.std.proofs.lemmas.Bool.{cases_Bool, cases_eq, cond-true, cond-false}
 use Rattle.std.proofs.lemmas.Option.{same_Some}
@@ -19,12 +19,12 @@ use Rattle.call_forms.specs.declared.forms.Told.TheVariants.{Made, Standin as In
 use Rattle.message_forms.specs.declared.requests.Request.{Request}
 use Rattle.message_forms.specs.declared.requests.Request.TheVariants.{CreateInvocation, UpdateInvocation, FinalizeInvocation, UpdateIncludedInvocations, GetInvocation}
 use Rattle.invocation_world.specs.World.{World, new_row}
-use Rattle.invocation_world.specs.Settling.{Settles, SettlesRows}
+use Rattle.invocation_world.specs.Settling.{SettlesRows}
 use Rattle.invocation_world.specs.Advancing.{Advances, CarriesOut, after_deadlines, all_begun}
 use Rattle.invocation_world.specs.Changes.{is_update, updated, with_begun, with_edges, with_inclusions, with_row_updated, with_update}
-use Rattle.invocation_world.proofs.RowFacts.{changed_here, changed_other, stands}
+use Rattle.invocation_world.proofs.RowFacts.{changed_here, changed_other}
 use Rattle.invocation_world.proofs.SettleFacts.{ended_or_same}
-use Rattle.invocation_world.proofs.ValidFacts.{Begins, all_begin}
+use Rattle.invocation_world.proofs.ValidFacts.{all_begin}
 use Rattle.request_rules.specs.Settings.{Settings, caller_name}
 use Rattle.request_rules.specs.Named.{place_named, places_named}
 use Rattle.service_core.specs.Step.{Acts, Performs, Refuses, begun_from, changed, changed_at, with_end_begun}

@@ -1,7 +1,6 @@
 -- What is accepted leads from a valid world to a valid one.
-use Rattle.std.proofs.Common.{◌≡◌, ◌≢◌, ◌⊎◌, ◌<◌, ◌≤◌, ◌+◌, ℕ, ℤ, pos, ◌+ℤ◌, ◌≤ℤ◌, ◌<ℤ◌, true, List, [], ◌∷◌, ◌++◌, length, codes, Contains, Option, Some, None, unwrap_or, inl, inr, refl, sym, ap, ◌∙◌, subst, arith, zero}
+use Rattle.std.proofs.Common.{◌≡◌, ◌≢◌, ◌<◌, ◌≤◌, ◌+◌, ℕ, ℤ, ◌+ℤ◌, ◌≤ℤ◌, ◌<ℤ◌, true, List, [], ◌∷◌, ◌++◌, length, codes, Contains, Option, Some, None, unwrap_or, inl, inr, refl, sym, ap, ◌∙◌, subst, arith, zero}
 use Rattle.std.specs.List.{All, cons_option, slice_get}
-use Rattle.std.specs.Option.{ForSome}
 use Rattle.std.proofs.lemmas.Bool.{cases_lt}
 use Rattle.std.proofs.lemmas.Int.{ints, by_lt_z}
 use Rattle.std.proofs.lemmas.List.Elements.{All-cons, All-nil, Contains-append_right}
@@ -16,7 +15,7 @@ use Rattle.policy_checks.proofs.PlaceLemmas.{place_of-name}
 use Rattle.inclusion_graph.specs.Edges.{fresh, targets_of}
 use Rattle.invocations.specs.declared.invocation.Invocation.{Invocation}
 use Rattle.invocations.specs.Faults.{CanAdd}
-use Rattle.invocations.specs.Rows.{HasId, IsInState, ids_of, states_of}
+use Rattle.invocations.specs.Rows.{IsInState, ids_of, states_of}
 use Rattle.call_forms.specs.declared.asked.Asked.{Asked}
 use Rattle.message_forms.specs.declared.requests.Request.{Request}
 use Rattle.message_forms.specs.declared.requests.Request.TheVariants.{CreateInvocation, UpdateInvocation, FinalizeInvocation, UpdateIncludedInvocations, GetInvocation}
@@ -28,14 +27,14 @@ use Rattle.invocation_world.proofs.KeepFacts.{MayChange, keeps_added, keeps_incl
 use Rattle.invocation_world.proofs.RowFacts.{state_is}
 use Rattle.invocation_world.proofs.ValidFacts.{valid_settles}
 use Rattle.request_rules.specs.Settings.{Settings, HasNames, caller_name}
-use Rattle.request_rules.specs.Demands.{active_id, changed_id, deadline_asked, included_ids}
+use Rattle.request_rules.specs.Demands.{active_id, deadline_asked}
 use Rattle.request_rules.specs.Named.{place_named, places_named}
 use Rattle.request_rules.specs.Order.{IsUnbroken}
-use Rattle.request_rules.specs.Broken.{BrokenIn, FindsTableFull, HasBadDeadline, IncludesItself, IsBroken, IsInReach, MeetsInactive, Rule, Scene, TakesName, Wants, deadline_near, greatest_lifetime, least_lifetime, name_free, not_itself, of_invocation, out_of_reach, refusal, room_left, still_active, table_full}
+use Rattle.request_rules.specs.Broken.{FindsTableFull, HasBadDeadline, IsBroken, IsInReach, MeetsInactive, Rule, TakesName, deadline_near, greatest_lifetime, least_lifetime, name_free, not_itself, of_invocation, out_of_reach, refusal, room_left, still_active, table_full}
 use Rattle.request_rules.proofs.PlaceLaws.{place-named, place-within}
 use Rattle.request_rules.proofs.PolicyLaws.{caller_is_there, name_is}
 use Rattle.service_core.specs.Step.{Acts, IsAccepted, begun_from, changed_at, scene_of, with_end_begun}
-use Rattle.service_core.proofs.AskedForms.{HasForms, asked_has_forms}
+use Rattle.service_core.proofs.AskedForms.{asked_has_forms}
 use Rattle.service_core.proofs.UniqueLaws.{one_settling}
 
 -- what is accepted breaks none of the rules

@@ -1,5 +1,5 @@
 -- Each request has a step in each world.
-use Rattle.std.proofs.Common.{◌≡◌, ◌⊎◌, ℕ, ℤ, List, [], ◌∷◌, ◌++◌, length, Option, Some, None, option_map, inl, inr, refl, sym, ap, ◌∙◌}
+use Rattle.std.proofs.Common.{◌≡◌, ℕ, ℤ, List, [], ◌∷◌, ◌++◌, length, Option, Some, None, option_map, inl, inr, refl, sym, ap, ◌∙◌}
 use Rattle.std.specs.List.{slice_get}
 use Rattle.std.proofs.lemmas.Option.{none-some, get_or_from_slice_get, slice_get_read, slice_get-map}
 use Rattle.policy_checks.proofs.PlaceLemmas.{place_of-name}
@@ -24,8 +24,8 @@ use Rattle.request_rules.specs.Broken.{Broken, BrokenIn, NamesNone, Wants, all_t
 use Rattle.request_rules.proofs.PlaceLaws.{place_there}
 use Rattle.request_rules.proofs.RuleChain.{broken_alone, broken_in, unbroken}
 use Rattle.service_core.specs.Answers.{IsReplyTo, Shows, done, shown}
-use Rattle.service_core.specs.Step.{Acts, IsAccepted, changed, scene_of}
-use Rattle.service_core.specs.Laws.{HasStep, HasSteps, IsSameInvocation}
+use Rattle.service_core.specs.Step.{Acts, changed, scene_of}
+use Rattle.service_core.specs.Laws.{HasStep, HasSteps}
 use Rattle.service_core.proofs.DecideLaws.{rules_told, said}
 use Rattle.service_core.proofs.StayLaws.{AllStay, acted_stay, settled_stay}
 use Rattle.service_core.proofs.StepLaws.{row_placed}
