@@ -102,14 +102,17 @@ bad_token_told s asked request (Some id) (Some token) e f =
           let ids : is.id ≡ id = same_Some is.id id (sym is.changes ∙ e) in
           let tokens : is.token ≡ token = same_Some is.token token (sym is.shown ∙ f) in
           is.other (tokens ∙ ((bytes_decides token (token_text (secret_of s) id)).0 same ∙ ap (token_text (secret_of s)) (sym ids))))
-      | inr other ↦ inl (of_invocation 10 id, record {
-        id = id;
-        changes = e;
-        token = token;
-        shown = f;
-        other = λ same. false≢true (sym other ∙ (bytes_decides token (token_text (secret_of s) id)).1 same);
-        refusal_is = refl;
-      })
+      | inr other ↦ inl (
+        of_invocation 10 id,
+        record {
+          id = id;
+          changes = e;
+          token = token;
+          shown = f;
+          other = λ same. false≢true (sym other ∙ (bytes_decides token (token_text (secret_of s) id)).1 same);
+          refusal_is = refl;
+        },
+      )
     ]
 
 rights_told : (s : Settings) (rows : List Invocation) (caller : ℕ) (request : Request) → Told (LacksRight s rows caller request)
@@ -134,14 +137,17 @@ state_told rows request id (Some row) e f =
           let same : is.row ≡ row = same_Some is.row row
           (sym is.stands ∙ (ap (named rows) (same_Some is.id id (sym is.changes ∙ e)) ∙ f)) in
           is.inactive (ap (λ (x : Invocation). x.state) same ∙ active))
-      | inr other ↦ inl (refusal 12 (invocation_name id ++ (codes " " ++ state_text row.state)), record {
-        id = id;
-        changes = e;
-        row = row;
-        stands = f;
-        inactive = other;
-        refusal_is = refl;
-      })
+      | inr other ↦ inl (
+        refusal 12 (invocation_name id ++ (codes " " ++ state_text row.state)),
+        record {
+          id = id;
+          changes = e;
+          row = row;
+          stands = f;
+          inactive = other;
+          refusal_is = refl;
+        },
+      )
     ]
 
 active_told : (rows : List Invocation) (request : Request) (o : Option (List ℕ)) → active_id request ≡ o → Told (MeetsInactive rows request)
@@ -255,9 +261,12 @@ module _ (s : Settings) (x : Scene) (asked : Asked) (caller : ℕ) (request : Re
 
   rule_broken : (k : Rule) → number_of k < 21 → Below (number_of k) → (r : Refusal) → Breaks k r → Whole
   rule_broken k low below r is =
-      inl (r, first_of_below s x asked caller request 21 r
-      (first_below s x asked caller request 21 k r low below
-      (first_alone (Breaks k) (one_rule s x asked caller request k) r is)))
+      inl (
+        r,
+        first_of_below s x asked caller request 21 r
+            (first_below s x asked caller request 21 k r low below
+            (first_alone (Breaks k) (one_rule s x asked caller request k) r is)),
+      )
 
   next : (k : Rule) → number_of k < 21 → Below (number_of k) → (Below (number_of k + 1) → Whole) → Whole
   next k low below rest = elim (told s x asked caller request k) [
@@ -301,9 +310,12 @@ body_said s asked method caller e f =
       | inl asks ↦ inr (caller, asks.0, record { caller_is = f; asks = asks.1 })
       | inr faulty ↦
           let refused = fault_is_refused asked.service asked.method asked.body (target_of asked) faulty.0 faulty.1 in
-          inl (refused.0, first_bad_body s asked refused.0 (method_there asked method e)
-          (λ r is. none-some caller (sym is.0 ∙ f))
-          (record { method = method; named = e; fault = faulty.0; has = faulty.1; refusal_is = refused.1 }))
+          inl (
+            refused.0,
+            first_bad_body s asked refused.0 (method_there asked method e)
+                (λ r is. none-some caller (sym is.0 ∙ f))
+                (record { method = method; named = e; fault = faulty.0; has = faulty.1; refusal_is = refused.1 }),
+          )
     ]
 
 caller_said : (s : Settings) (asked : Asked) (method : Method) (o : Option ℕ) → method_of asked.service asked.method ≡ Some method

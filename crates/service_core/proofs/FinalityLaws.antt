@@ -12,7 +12,7 @@ use Rattle.inclusion_graph.specs.Edges.{edges_from, fresh, targets_of}
 use Rattle.invocations.specs.declared.invocation.Invocation.{Invocation}
 use Rattle.invocations.specs.Due.{IsDue}
 use Rattle.invocations.specs.Rows.{IsInState, begun, ended, states_of, with_changed}
-use Rattle.invocations.proofs.RowLemmas.{at_place}
+use Rattle.invocations.proofs.RowLemmas.{at_front, at_place}
 use Rattle.call_forms.specs.declared.asked.Asked.{Asked}
 use Rattle.call_forms.specs.declared.forms.Answer.{Answer}
 use Rattle.call_forms.specs.declared.forms.Standin.TheVariants.{Unavailable, Memory, Spent}
@@ -27,16 +27,18 @@ use Rattle.invocation_world.specs.Changes.{is_update, updated, with_begun, with_
 use Rattle.invocation_world.specs.Laws.{KeepsFinal}
 use Rattle.invocation_world.proofs.AdvanceFacts.{least_row}
 use Rattle.invocation_world.proofs.BegunFacts.{all_begun_at, due_begun}
-use Rattle.invocation_world.proofs.RowFacts.{active≢finalizing, active≢finalized, finalizing≢finalized, all_at, state_is}
+use Rattle.invocation_world.proofs.RowFacts.{active≢finalizing, active≢finalized, finalizing≢finalized, all_at, apart, changed_other, state_is}
 use Rattle.invocation_world.proofs.SettleFacts.{ended_or_same, row_stays}
 use Rattle.invocation_world.proofs.ValidFacts.{all_begin, valid_settled}
 use Rattle.request_rules.specs.Settings.{Settings, HasNames, caller_name}
 use Rattle.request_rules.specs.Named.{place_named, places_named}
+use Rattle.request_rules.specs.Broken.{still_active}
 use Rattle.service_core.specs.Finality.{EndInTime, EndsInTime, IsInTime}
-use Rattle.service_core.specs.Step.{Performs, Refuses, begun_from, changed, changed_at, with_end_begun}
+use Rattle.service_core.specs.Step.{IsAccepted, Performs, Refuses, begun_from, changed, changed_at, with_end_begun}
 use Rattle.service_core.specs.History.{Entry, Leads, Tells}
 use Rattle.service_core.specs.Laws.{FinalInTime}
 use Rattle.service_core.proofs.StayLaws.{advanced_rows}
+use Rattle.service_core.proofs.StepLaws.{active_at, unbroken_rule}
 use Rattle.service_core.proofs.HistoryLaws.{advanced_may, leads_valid}
 use Rattle.service_core.proofs.FinalLaws.{all_final, judged_final}
 
@@ -56,7 +58,36 @@ settled_at time edges old mid new was s p row e is not =
       | inr same ↦ absurd (not (was p row (sym same.1 ∙ e) is))
     ]
 
+-- a row that was finalizing stays as it is, or it is ended at this time
+abbrev AreKept : ℤ → List Invocation → List Invocation → Type 0
+AreKept time old new =
+    (p : ℕ) (row : Invocation) → slice_get old p ≡ Some row → row.state ≡ Finalizing
+    → (slice_get new p ≡ Some row) ⊎ (slice_get new p ≡ Some (ended time row))
+
+abbrev WaitingStay : List Invocation → List Invocation → Type 0
+WaitingStay old new =
+    (p : ℕ) (row : Invocation) → slice_get old p ≡ Some row → row.state ≡ Finalizing → slice_get new p ≡ Some row
+
+settled_kept : (time : ℤ) (edges : List Edge) (old mid new : List Invocation) → WaitingStay old mid → SettlesRows time edges mid new
+    → AreKept time old new
+settled_kept time edges old mid new stay s p row e is =
+    elim (ended_or_same time edges mid new s p) [
+      | inl h ↦ inr (subst (λ (r : Invocation). slice_get new p ≡ Some (ended time r))
+          (same_Some h.row row (sym h.stood ∙ stay p row e is)) h.stands)
+      | inr same ↦ inl (same.1 ∙ stay p row e is)
+    ]
+
 -- ---- deadlines
+
+begun_stays_waiting : (d : ℤ) (rows : List Invocation) → WaitingStay rows (all_begun d rows)
+begun_stays_waiting d rows p row e is =
+    elim (all_begin d rows p) [
+      | inl same ↦ same ∙ e
+      | inr b ↦
+          let no : Active ≡ Finalizing =
+          sym b.active ∙ (ap (λ (r : Invocation). r.state) (same_Some b.row row (sym b.stood ∙ e)) ∙ is) in
+          absurd (active≢finalizing no)
+    ]
 
 begun_was_final : (d : ℤ) (rows : List Invocation) (p : ℕ) (row : Invocation) → slice_get (all_begun d rows) p ≡ Some row
     → row.state ≡ Finalized → IsInState Finalized rows p
@@ -121,6 +152,7 @@ deadline_in_time : (edges : List Edge) (d : ℤ) (rows between : List Invocation
     → IsValid (record { invocations = between; inclusions = edges; last = d }) → SettlesRows d edges (all_begun d rows) between
     → EndsInTime edges d rows between
 deadline_in_time edges d rows between valid s = record {
+  kept = settled_kept d edges rows (all_begun d rows) between (begun_stays_waiting d rows) s;
   waiting = valid.waiting;
   ended = valid.ended;
   in_time = settled_at d edges rows (all_begun d rows) between (begun_was_final d rows) s;
@@ -231,9 +263,82 @@ judged_at s w moment asked answer after (inr performs) =
     settled_at moment mid.inclusions w.invocations mid.invocations after.invocations
     (change_was s w moment performs.caller performs.request) performs.acts.rows
 
-ends_in_time : (time : ℤ) (w after : World) → IsValid after → KeepsFinal w after → AreEndedAt time w.invocations after.invocations
-    → EndsInTime after.inclusions time w.invocations after.invocations
-ends_in_time time w after valid keeps at = record {
+-- what is changed is an active row, or a new one
+all_waiting : (rows : List Invocation) → WaitingStay rows rows
+all_waiting rows p row e is = e
+
+changed_waiting : (change : Invocation → Invocation) (rows : List Invocation) (p : ℕ) → IsInState Active rows p
+    → WaitingStay rows (with_changed change rows p)
+changed_waiting change rows p active q row e is =
+    changed_other change rows p q
+    (λ same. apart Active Finalizing rows p active≢finalizing active
+    (subst (IsInState Finalizing rows) same (state_is Finalizing rows q row e is))) ∙ e
+
+added_waiting : (rows : List Invocation) (new : Invocation) → WaitingStay rows (rows ++ new ∷ [])
+added_waiting rows new p row e is = at_front rows new row p e
+
+update_waiting : (moment : ℤ) (w : World) (p : ℕ) (deadline : Option ℤ) (tags : Option (List Pair)) (o : Option Invocation)
+    → IsInState Active w.invocations p → WaitingStay w.invocations (with_row_updated moment p deadline tags w o).invocations
+update_waiting moment w p deadline tags None active = all_waiting w.invocations
+update_waiting moment w p deadline tags (Some row) active =
+    let moved : World = record {
+      invocations = with_changed (updated deadline tags) w.invocations p;
+      inclusions = w.inclusions;
+      last = moment;
+    } in
+    elim (cases_Bool (is_update deadline tags row)) [
+      | inl yes_ ↦ subst (λ (v : World). WaitingStay w.invocations v.invocations) (sym (cond-true (is_update deadline tags row) moved w yes_))
+          (changed_waiting (updated deadline tags) w.invocations p active)
+      | inr no_ ↦ subst (λ (v : World). WaitingStay w.invocations v.invocations) (sym (cond-false (is_update deadline tags row) moved w no_))
+          (all_waiting w.invocations)
+    ]
+
+edges_waiting : (moment : ℤ) (edges : List Edge) (w : World) → WaitingStay w.invocations (with_edges moment edges w).invocations
+edges_waiting moment [] w = all_waiting w.invocations
+edges_waiting moment (edge ∷ edges) w = all_waiting w.invocations
+
+end_waiting : (moment : ℤ) (w : World) (p : ℕ) (o : Option State) → slice_get (states_of w.invocations) p ≡ o
+    → WaitingStay w.invocations (begun_from o (with_begun moment p w) w).invocations
+end_waiting moment w p None e = all_waiting w.invocations
+end_waiting moment w p (Some Active) e = changed_waiting (begun moment) w.invocations p e
+end_waiting moment w p (Some Finalizing) e = all_waiting w.invocations
+end_waiting moment w p (Some Finalized) e = all_waiting w.invocations
+
+at_waiting : (w : World) (change : ℕ → World) (o : Option ℕ) → ((p : ℕ) → o ≡ Some p → WaitingStay w.invocations (change p).invocations)
+    → WaitingStay w.invocations (changed_at w change o).invocations
+at_waiting w change None h = all_waiting w.invocations
+at_waiting w change (Some p) h = h p refl
+
+change_waiting : (s : Settings) (w : World) (moment : ℤ) (asked : Asked) (caller : ℕ) (request : Request)
+    → IsAccepted s w moment asked caller request → WaitingStay w.invocations (changed s w moment caller request).invocations
+change_waiting s w moment asked caller (CreateInvocation id realm deadline tags) accepted =
+    added_waiting w.invocations (new_row moment (caller_name s caller) id realm deadline tags)
+change_waiting s w moment asked caller (UpdateInvocation id deadline tags) accepted =
+    at_waiting w (λ p. with_update moment p deadline tags w) (place_named w.invocations id)
+    (λ p at. update_waiting moment w p deadline tags (slice_get w.invocations p)
+    (active_at w.invocations (UpdateInvocation id deadline tags) id p
+    (unbroken_rule s w moment asked caller (UpdateInvocation id deadline tags) accepted still_active) refl at))
+change_waiting s w moment asked caller (FinalizeInvocation id) accepted =
+    at_waiting w (λ p. with_end_begun moment p w) (place_named w.invocations id)
+    (λ p at. end_waiting moment w p (slice_get (states_of w.invocations) p) refl)
+change_waiting s w moment asked caller (UpdateIncludedInvocations including add) accepted =
+    at_waiting w (λ p. with_inclusions moment p (places_named w.invocations add) w) (place_named w.invocations including)
+    (λ p at. edges_waiting moment (edges_from p (fresh (targets_of w.inclusions p) (places_named w.invocations add))) w)
+change_waiting s w moment asked caller (GetInvocation id) accepted = all_waiting w.invocations
+
+judged_kept : (s : Settings) (w : World) (moment : ℤ) (asked : Asked) (answer : Answer) (after : World)
+    → Refuses s w moment asked after answer ⊎ Performs s w moment asked after answer → AreKept moment w.invocations after.invocations
+judged_kept s w moment asked answer after (inl refused) =
+    subst (λ (v : World). AreKept moment w.invocations v.invocations) (sym refused.same) (λ p row e is. inl e)
+judged_kept s w moment asked answer after (inr performs) =
+    let mid = changed s w moment performs.caller performs.request in
+    settled_kept moment mid.inclusions w.invocations mid.invocations after.invocations
+    (change_waiting s w moment asked performs.caller performs.request performs.accepted) performs.acts.rows
+
+ends_in_time : (time : ℤ) (w after : World) → IsValid after → KeepsFinal w after → AreKept time w.invocations after.invocations
+    → AreEndedAt time w.invocations after.invocations → EndsInTime after.inclusions time w.invocations after.invocations
+ends_in_time time w after valid keeps kept at = record {
+  kept = kept;
   waiting = valid.waiting;
   ended = valid.ended;
   in_time = at;
@@ -242,7 +347,7 @@ ends_in_time time w after valid keeps at = record {
 
 -- a valid world in which nothing else changes
 nothing_else : (time : ℤ) (w : World) → IsValid w → EndsInTime w.inclusions time w.invocations w.invocations
-nothing_else time w valid = ends_in_time time w w valid (all_final w) (none_ended time w.invocations)
+nothing_else time w valid = ends_in_time time w w valid (all_final w) (λ p row e is. inl e) (none_ended time w.invocations)
 
 -- ---- entries
 
@@ -265,6 +370,7 @@ tells_in_time s w e (Made answer) after names valid call later right step =
       due = advanced_in_time e.moment w between valid call step.advances;
       asked = ends_in_time e.moment between after right
           (judged_final s between e.moment e.asked answer after may.valid step.judged)
+          (judged_kept s between e.moment e.asked answer after step.judged)
           (judged_at s between e.moment e.asked answer after step.judged);
     }
 tells_in_time s w e (Instead Memory) after names valid call later right (inl same) =
@@ -284,6 +390,9 @@ leads_in_time s w e after names valid leads =
 
 pub final_in_time : FinalInTime
 final_in_time s w [] v names valid end = end
-final_in_time s w (e ∷ h) v names valid legal =
-    (legal.0, legal.1, leads_in_time s w e legal.0 names valid legal.1,
-    final_in_time s legal.0 h v names (leads_valid s w e legal.0 names legal.1 valid) legal.2)
+final_in_time s w (e ∷ h) v names valid legal = (
+  legal.0,
+  legal.1,
+  leads_in_time s w e legal.0 names valid legal.1,
+  final_in_time s legal.0 h v names (leads_valid s w e legal.0 names legal.1 valid) legal.2,
+)
