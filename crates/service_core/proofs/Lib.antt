@@ -1,1 +1,11 @@
 pub mod CoreLaws
+pub mod AskedForms
+pub mod UniqueLaws
+pub mod StayLaws
+pub mod StepLaws
+pub mod HistoryLaws
+pub mod FinalLaws
+pub mod FinalityLaws
+pub mod AllowLaws
+pub mod DecideLaws
+pub mod ThereLaws

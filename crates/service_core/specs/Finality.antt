@@ -1,18 +1,22 @@
 -- When rows become final, over whole histories.
-use Rattle.std.specs.Prelude.{◌≡◌, ℕ, ℤ, List, [], ◌∷◌, Some, slice_get}
+use Rattle.std.specs.Prelude.{◌≡◌, ◌⊎◌, ℕ, ℤ, List, [], ◌∷◌, Some, slice_get}
 use Rattle.names_realms.specs.declared.states.State.TheVariants.{Finalizing, Finalized}
 use Rattle.finaliser.specs.Settling as finaliser
 use Rattle.inclusion_graph.specs.declared.edge.Edge.{Edge}
 use Rattle.invocations.specs.declared.invocation.Invocation.{Invocation}
-use Rattle.invocations.specs.Rows.{IsInState, states_of}
+use Rattle.invocations.specs.Rows.{IsInState, ended, states_of}
 use Rattle.invocation_world.specs.World.{World}
+use Rattle.invocation_world.specs.Advancing.{IsLeast}
 use Rattle.request_rules.specs.Settings.{Settings}
 use Rattle.service_core.specs.History.{Entry, Leads}
 
--- One change, at this time, after which a finalizing row reaches an active one, and a final row reaches none. So a row is final
--- from the first change on after which it reaches no active one, and not before. It got the time of that change as its end, and
--- what was final before stays as it is.
+-- One change, at this time. A row that was finalizing stays as it is, or it is ended at this time. Afterwards a finalizing row
+-- reaches an active one, and a final row reaches none. So a row whose finalization began is final from the first change on after
+-- which it reaches no active one, and not before. What the change made final has its time as the end, and what was final before
+-- stays as it is.
 pub record EndsInTime (inclusions : List Edge) (time : ℤ) (before after : List Invocation) : Type 0 where
+  pub kept : (place : ℕ) (row : Invocation) → slice_get before place ≡ Some row → row.state ≡ Finalizing
+      → (slice_get after place ≡ Some row) ⊎ (slice_get after place ≡ Some (ended time row))
   pub waiting : (place : ℕ) → IsInState Finalizing after place → finaliser.ReachesActive inclusions (states_of after) place
   pub ended : (place : ℕ) → IsInState Finalized after place → ¬ finaliser.ReachesActive inclusions (states_of after) place
   pub in_time : (place : ℕ) (row : Invocation) → slice_get after place ≡ Some row → row.state ≡ Finalized
@@ -20,18 +24,19 @@ pub record EndsInTime (inclusions : List Edge) (time : ℤ) (before after : List
   pub stays : (place : ℕ) (row : Invocation) → slice_get before place ≡ Some row → row.state ≡ Finalized
       → slice_get after place ≡ Some row
 
--- Changes at these times, one after the other, lead from the rows to the rows after.
-abbrev pub EndInTime : List Edge → List ℤ → List Invocation → List Invocation → Type 0
-EndInTime inclusions [] before after = after ≡ before
-EndInTime inclusions (time ∷ times) before after =
-    (between : List Invocation) × EndsInTime inclusions time before between × EndInTime inclusions times between after
+-- Deadlines that are due at the moment are carried out one after the other, each the least of them, and each is a change at its
+-- own time.
+abbrev pub EndInTime : List Edge → ℤ → List ℤ → List Invocation → List Invocation → Type 0
+EndInTime inclusions moment [] before after = after ≡ before
+EndInTime inclusions moment (time ∷ times) before after =
+    IsLeast before moment time
+    × ((between : List Invocation) × EndsInTime inclusions time before between × EndInTime inclusions moment times between after)
 
--- An entry leads from one world to the next by the due deadlines, each a change at its own time, and then by what it asks for, at
--- its moment.
+-- An entry leads from one world to the next by deadlines that are due, and then by what it asks for, at its moment.
 pub record IsInTime (w : World) (e : Entry) (after : World) : Type 0 where
   pub deadlines : List ℤ
   pub between : List Invocation
-  pub due : EndInTime w.inclusions deadlines w.invocations between
+  pub due : EndInTime w.inclusions e.moment deadlines w.invocations between
   pub asked : EndsInTime after.inclusions e.moment between after.invocations
 
 -- So does each entry of a history.

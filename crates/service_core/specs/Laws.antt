@@ -16,6 +16,10 @@ pub record HasStep (s : Settings) (w : World) (moment : ℤ) (asked : Asked) : T
   pub answer : Answer
   pub step : Step s w moment asked after answer
 
+-- So does each request, at each moment, from each world.
+abbrev pub HasSteps : Type 0
+HasSteps = (s : Settings) (w : World) (moment : ℤ) (asked : Asked) → HasStep s w moment asked
+
 -- And to one world alone, with one answer.
 abbrev pub StepsAreUnique : Type 0
 StepsAreUnique =

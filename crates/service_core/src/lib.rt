@@ -2,6 +2,7 @@
 #![tactic(auto)]
 
 mod core;
+mod laws;
 mod making;
 mod plan;
 mod planning;
@@ -10,4 +11,8 @@ mod showing;
 mod tests;
 
 pub use crate::core::Core;
+pub use laws::{
+    a_step_is_there, final_in_time, final_stays, ids_stay_unique, one_step, rows_stay,
+    timed_goes_on, timed_is_legal,
+};
 pub use plan::{Change, Plan, Prepared};

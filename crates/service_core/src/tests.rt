@@ -350,3 +350,15 @@ fn requests_are_answered_in_turn(rt: HostRuntime) -> Result<(), Fail> {
     has_moment(&rt, &core, NOW - 1, NOW);
     Ok(())
 }
+
+#[test]
+fn laws_do_nothing() {
+    crate::a_step_is_there();
+    crate::one_step();
+    crate::ids_stay_unique();
+    crate::rows_stay();
+    crate::final_stays();
+    crate::final_in_time();
+    crate::timed_is_legal();
+    crate::timed_goes_on();
+}

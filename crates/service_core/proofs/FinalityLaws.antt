@@ -1,0 +1,398 @@
+-- Rows become final in time.
+use Rattle.std.proofs.Common.{◌≡◌, ◌⊎◌, ℕ, zero, suc, ℤ, ◌≤ℤ◌, ◌<ℤ◌, List, [], ◌∷◌, ◌++◌, Option, Some, None, inl, inr, refl, sym, ap, ◌∙◌, subst, arith}
+use Rattle.std.specs.List.{slice_get}
+use Rattle.std.proofs.lemmas.Bool.{cases_Bool, cond-true, cond-false}
+use Rattle.std.proofs.lemmas.Int.{ints, by_lt_z}
+use Rattle.std.proofs.lemmas.Option.{none-some, same_Some}
+use Rattle.names_realms.specs.declared.pairs.Pair.{Pair}
+use Rattle.names_realms.specs.declared.states.State.{State}
+use Rattle.names_realms.specs.declared.states.State.TheVariants.{Active, Finalizing, Finalized}
+use Rattle.inclusion_graph.specs.declared.edge.Edge.{Edge}
+use Rattle.inclusion_graph.specs.Edges.{edges_from, fresh, targets_of}
+use Rattle.invocations.specs.declared.invocation.Invocation.{Invocation}
+use Rattle.invocations.specs.Due.{IsDue}
+use Rattle.invocations.specs.Rows.{IsInState, begun, ended, states_of, with_changed}
+use Rattle.invocations.proofs.RowLemmas.{at_front, at_place}
+use Rattle.call_forms.specs.declared.asked.Asked.{Asked}
+use Rattle.call_forms.specs.declared.forms.Answer.{Answer}
+use Rattle.call_forms.specs.declared.forms.Standin.TheVariants.{Unavailable, Memory, Spent}
+use Rattle.call_forms.specs.declared.forms.Told.{Told}
+use Rattle.call_forms.specs.declared.forms.Told.TheVariants.{Made, Standin as Instead}
+use Rattle.message_forms.specs.declared.requests.Request.{Request}
+use Rattle.message_forms.specs.declared.requests.Request.TheVariants.{CreateInvocation, UpdateInvocation, FinalizeInvocation, UpdateIncludedInvocations, GetInvocation}
+use Rattle.invocation_world.specs.World.{World, IsCallMoment, IsRow, IsStage, IsValid, new_row}
+use Rattle.invocation_world.specs.Settling.{SettlesRows}
+use Rattle.invocation_world.specs.Advancing.{Advances, CarriesOut, IsLeast, all_begun}
+use Rattle.invocation_world.specs.Changes.{is_update, updated, with_begun, with_edges, with_inclusions, with_row_updated, with_update}
+use Rattle.invocation_world.specs.Laws.{KeepsFinal}
+use Rattle.invocation_world.proofs.AdvanceFacts.{least_row}
+use Rattle.invocation_world.proofs.BegunFacts.{all_begun_at, due_begun}
+use Rattle.invocation_world.proofs.RowFacts.{active≢finalizing, active≢finalized, finalizing≢finalized, all_at, apart, changed_other, state_is}
+use Rattle.invocation_world.proofs.SettleFacts.{ended_or_same, row_stays}
+use Rattle.invocation_world.proofs.ValidFacts.{all_begin, valid_settled}
+use Rattle.request_rules.specs.Settings.{Settings, HasNames, caller_name}
+use Rattle.request_rules.specs.Named.{place_named, places_named}
+use Rattle.request_rules.specs.Broken.{still_active}
+use Rattle.service_core.specs.Finality.{EndInTime, EndsInTime, IsInTime}
+use Rattle.service_core.specs.Step.{IsAccepted, Performs, Refuses, begun_from, changed, changed_at, with_end_begun}
+use Rattle.service_core.specs.History.{Entry, Leads, Tells}
+use Rattle.service_core.specs.Laws.{FinalInTime}
+use Rattle.service_core.proofs.StayLaws.{advanced_rows}
+use Rattle.service_core.proofs.StepLaws.{active_at, unbroken_rule}
+use Rattle.service_core.proofs.HistoryLaws.{advanced_may, leads_valid}
+use Rattle.service_core.proofs.FinalLaws.{all_final, judged_final}
+
+-- the rows that a change made final got its time as their end
+abbrev AreEndedAt : ℤ → List Invocation → List Invocation → Type 0
+AreEndedAt time old new =
+    (p : ℕ) (row : Invocation) → slice_get new p ≡ Some row → row.state ≡ Finalized → (¬ IsInState Finalized old p)
+    → row.finished ≡ Some time
+
+-- where what is final in the middle was so at first, only settling made rows final
+settled_at : (time : ℤ) (edges : List Edge) (old mid new : List Invocation)
+    → ((p : ℕ) (row : Invocation) → slice_get mid p ≡ Some row → row.state ≡ Finalized → IsInState Finalized old p)
+    → SettlesRows time edges mid new → AreEndedAt time old new
+settled_at time edges old mid new was s p row e is not =
+    elim (ended_or_same time edges mid new s p) [
+      | inl h ↦ ap (λ (r : Invocation). r.finished) (same_Some row (ended time h.row) (sym e ∙ h.stands))
+      | inr same ↦ absurd (not (was p row (sym same.1 ∙ e) is))
+    ]
+
+-- a row that was finalizing stays as it is, or it is ended at this time
+abbrev AreKept : ℤ → List Invocation → List Invocation → Type 0
+AreKept time old new =
+    (p : ℕ) (row : Invocation) → slice_get old p ≡ Some row → row.state ≡ Finalizing
+    → (slice_get new p ≡ Some row) ⊎ (slice_get new p ≡ Some (ended time row))
+
+abbrev WaitingStay : List Invocation → List Invocation → Type 0
+WaitingStay old new =
+    (p : ℕ) (row : Invocation) → slice_get old p ≡ Some row → row.state ≡ Finalizing → slice_get new p ≡ Some row
+
+settled_kept : (time : ℤ) (edges : List Edge) (old mid new : List Invocation) → WaitingStay old mid → SettlesRows time edges mid new
+    → AreKept time old new
+settled_kept time edges old mid new stay s p row e is =
+    elim (ended_or_same time edges mid new s p) [
+      | inl h ↦ inr (subst (λ (r : Invocation). slice_get new p ≡ Some (ended time r))
+          (same_Some h.row row (sym h.stood ∙ stay p row e is)) h.stands)
+      | inr same ↦ inl (same.1 ∙ stay p row e is)
+    ]
+
+-- ---- deadlines
+
+begun_stays_waiting : (d : ℤ) (rows : List Invocation) → WaitingStay rows (all_begun d rows)
+begun_stays_waiting d rows p row e is =
+    elim (all_begin d rows p) [
+      | inl same ↦ same ∙ e
+      | inr b ↦
+          let no : Active ≡ Finalizing =
+          sym b.active ∙ (ap (λ (r : Invocation). r.state) (same_Some b.row row (sym b.stood ∙ e)) ∙ is) in
+          absurd (active≢finalizing no)
+    ]
+
+begun_was_final : (d : ℤ) (rows : List Invocation) (p : ℕ) (row : Invocation) → slice_get (all_begun d rows) p ≡ Some row
+    → row.state ≡ Finalized → IsInState Finalized rows p
+begun_was_final d rows p row e is =
+    elim (all_begin d rows p) [
+      | inl same ↦ state_is Finalized rows p row (sym same ∙ e) is
+      | inr b ↦
+          let no : Finalizing ≡ Finalized = ap (λ (r : Invocation). r.state) (same_Some (begun d b.row) row (sym b.stands ∙ e)) ∙ is in
+          absurd (finalizing≢finalized no)
+    ]
+
+begun_stays_final : (d : ℤ) (rows : List Invocation) (p : ℕ) (row : Invocation) → slice_get rows p ≡ Some row
+    → row.state ≡ Finalized → slice_get (all_begun d rows) p ≡ Some row
+begun_stays_final d rows p row e is =
+    elim (all_begin d rows p) [
+      | inl same ↦ same ∙ e
+      | inr b ↦
+          let no : Active ≡ Finalized =
+          sym b.active ∙ (ap (λ (r : Invocation). r.state) (same_Some b.row row (sym b.stood ∙ e)) ∙ is) in
+          absurd (active≢finalized no)
+    ]
+
+-- once all rows of the least deadline are begun, each deadline of an active row is a later one
+ahead_of_least : (moment d : ℤ) (rows : List Invocation) → IsLeast rows moment d → d ≤ℤ moment → (p : ℕ) (row : Invocation)
+    → slice_get (all_begun d rows) p ≡ Some row → row.state ≡ Active → d <ℤ row.deadline
+ahead_of_least moment d rows least le p row e active =
+    elim (all_begin d rows p) [
+      | inl same ↦
+          let stood : slice_get rows p ≡ Some row = sym same ∙ e in
+          by_lt_z d row.deadline (λ lt. lt)
+          (λ not_later.
+          let low : d ≤ℤ row.deadline = all_at (λ r. IsDue moment r → d ≤ℤ r.deadline) rows p row least.least stood (active, omega (arith, ints, le, not_later)) in
+          let is : row.deadline ≡ d = omega (arith, ints, low, not_later) in
+          let begins : row ≡ begun d row = same_Some row (begun d row)
+          (sym e ∙ all_begun_at d rows p row stood ∙ ap (λ (r : Invocation). Some r) (due_begun d row active is)) in
+          let no : Active ≡ Finalizing = sym active ∙ ap (λ (r : Invocation). r.state) begins in
+          absurd (active≢finalizing no))
+      | inr b ↦
+          let no : Active ≡ Finalizing = sym active ∙ ap (λ (r : Invocation). r.state) (same_Some row (begun d b.row) (sym e ∙ b.stands)) in
+          absurd (active≢finalizing no)
+    ]
+
+active_deadline : (last : ℤ) (row : Invocation) → row.state ≡ Active → IsRow last row → last <ℤ row.deadline
+active_deadline last row active is =
+    (subst (λ (s : State). IsStage last s row.deadline row.started row.finished) active is.stage).0
+
+-- the rows of a valid world are those of one once the least deadline that is due was carried out
+least_valid : (edges : List Edge) (last moment d : ℤ) (rows between : List Invocation)
+    → IsValid (record { invocations = rows; inclusions = edges; last = last }) → IsCallMoment moment → IsLeast rows moment d
+    → SettlesRows d edges (all_begun d rows) between → IsValid (record { invocations = between; inclusions = edges; last = d })
+least_valid edges last moment d rows between valid call least s =
+    let first = least_row rows moment d least in
+    let is = all_at (IsRow last) rows first.place first.row valid.rows first.stands in
+    let due = active_deadline last first.row first.due.0 is in
+    let le : d ≤ℤ moment = omega (arith, ints, first.due.1, first.deadline) in
+    let from : last ≤ℤ d = omega (arith, ints, due, first.deadline) in
+    let call_d : IsCallMoment d = (omega (arith, ints, is.deadline.0, first.deadline), omega (arith, ints, le, call.1)) in
+    valid_settled last d edges rows (all_begun d rows) between valid call_d from (all_begin d rows)
+    (ahead_of_least moment d rows least le) s
+
+deadline_in_time : (edges : List Edge) (d : ℤ) (rows between : List Invocation)
+    → IsValid (record { invocations = between; inclusions = edges; last = d }) → SettlesRows d edges (all_begun d rows) between
+    → EndsInTime edges d rows between
+deadline_in_time edges d rows between valid s = record {
+  kept = settled_kept d edges rows (all_begun d rows) between (begun_stays_waiting d rows) s;
+  waiting = valid.waiting;
+  ended = valid.ended;
+  in_time = settled_at d edges rows (all_begun d rows) between (begun_was_final d rows) s;
+  stays = λ p row e is.
+      row_stays d edges (all_begun d rows) between s p row (begun_stays_final d rows p row e is)
+      (λ other. finalizing≢finalized (sym other ∙ is));
+}
+
+carried_in_time : (edges : List Edge) (last moment : ℤ) (rows : List Invocation) (ds : List ℤ) (after : List Invocation)
+    → IsValid (record { invocations = rows; inclusions = edges; last = last }) → IsCallMoment moment
+    → CarriesOut edges moment rows ds after → EndInTime edges moment ds rows after
+carried_in_time edges last moment rows [] after valid call h = h.1
+carried_in_time edges last moment rows (d ∷ ds) after valid call h =
+    let right = least_valid edges last moment d rows h.1.0 valid call h.0 h.1.1 in
+    (h.0, (h.1.0, deadline_in_time edges d rows h.1.0 right h.1.1, carried_in_time edges d moment h.1.0 ds after right call h.1.2))
+
+advanced_in_time : (moment : ℤ) (w after : World) → IsValid w → IsCallMoment moment → (h : Advances w moment after)
+    → EndInTime w.inclusions moment h.deadlines w.invocations after.invocations
+advanced_in_time moment w after valid call h =
+    subst (EndInTime w.inclusions moment h.deadlines w.invocations)
+    (sym (ap (λ (v : World). v.invocations) h.after_is ∙ advanced_rows moment h.deadlines h.rows w h.carried))
+    (carried_in_time w.inclusions w.last moment w.invocations h.deadlines h.rows valid call h.carried)
+
+-- ---- requests
+
+-- what a change makes final was so before
+abbrev WasFinal : List Invocation → List Invocation → Type 0
+WasFinal old new = (p : ℕ) (row : Invocation) → slice_get new p ≡ Some row → row.state ≡ Finalized → IsInState Finalized old p
+
+all_was : (rows : List Invocation) → WasFinal rows rows
+all_was rows p row e is = state_is Finalized rows p row e is
+
+changed_was : (change : Invocation → Invocation) → ((row : Invocation) → (change row).state ≡ Finalized → row.state ≡ Finalized)
+    → (rows : List Invocation) (p : ℕ) → WasFinal rows (with_changed change rows p)
+changed_was change was [] p q row e is = absurd (none-some row e)
+changed_was change was (x ∷ rows) zero zero row e is =
+    state_is Finalized (x ∷ rows) zero x refl (was x (ap (λ (r : Invocation). r.state) (same_Some (change x) row e) ∙ is))
+changed_was change was (x ∷ rows) zero (suc q) row e is = state_is Finalized (x ∷ rows) (suc q) row e is
+changed_was change was (x ∷ rows) (suc p) zero row e is = state_is Finalized (x ∷ rows) zero row e is
+changed_was change was (x ∷ rows) (suc p) (suc q) row e is = changed_was change was rows p q row e is
+
+added_was : (rows : List Invocation) (new : Invocation) → new.state ≡ Active → WasFinal rows (rows ++ new ∷ [])
+added_was rows new active p row e is =
+    elim (at_place rows new row p e) [
+      | inl here ↦ state_is Finalized rows p row here is
+      | inr last ↦
+          let no : Active ≡ Finalized = sym active ∙ (ap (λ (r : Invocation). r.state) last.1 ∙ is) in
+          absurd (active≢finalized no)
+    ]
+
+update_was : (moment : ℤ) (w : World) (p : ℕ) (deadline : Option ℤ) (tags : Option (List Pair)) (o : Option Invocation)
+    → WasFinal w.invocations (with_row_updated moment p deadline tags w o).invocations
+update_was moment w p deadline tags None = all_was w.invocations
+update_was moment w p deadline tags (Some row) =
+    let moved : World = record {
+      invocations = with_changed (updated deadline tags) w.invocations p;
+      inclusions = w.inclusions;
+      last = moment;
+    } in
+    elim (cases_Bool (is_update deadline tags row)) [
+      | inl yes_ ↦ subst (λ (v : World). WasFinal w.invocations v.invocations) (sym (cond-true (is_update deadline tags row) moved w yes_))
+          (changed_was (updated deadline tags) (λ r is. is) w.invocations p)
+      | inr no_ ↦ subst (λ (v : World). WasFinal w.invocations v.invocations) (sym (cond-false (is_update deadline tags row) moved w no_))
+          (all_was w.invocations)
+    ]
+
+edges_was : (moment : ℤ) (edges : List Edge) (w : World) → WasFinal w.invocations (with_edges moment edges w).invocations
+edges_was moment [] w = all_was w.invocations
+edges_was moment (edge ∷ edges) w = all_was w.invocations
+
+end_was : (o : Option State) (b w : World) → WasFinal w.invocations b.invocations → WasFinal w.invocations (begun_from o b w).invocations
+end_was None b w h = all_was w.invocations
+end_was (Some Active) b w h = h
+end_was (Some Finalizing) b w h = all_was w.invocations
+end_was (Some Finalized) b w h = all_was w.invocations
+
+at_was : (w : World) (change : ℕ → World) (o : Option ℕ) → ((p : ℕ) → WasFinal w.invocations (change p).invocations)
+    → WasFinal w.invocations (changed_at w change o).invocations
+at_was w change None h = all_was w.invocations
+at_was w change (Some p) h = h p
+
+change_was : (s : Settings) (w : World) (moment : ℤ) (caller : ℕ) (request : Request)
+    → WasFinal w.invocations (changed s w moment caller request).invocations
+change_was s w moment caller (CreateInvocation id realm deadline tags) =
+    added_was w.invocations (new_row moment (caller_name s caller) id realm deadline tags) refl
+change_was s w moment caller (UpdateInvocation id deadline tags) =
+    at_was w (λ p. with_update moment p deadline tags w) (place_named w.invocations id)
+    (λ p. update_was moment w p deadline tags (slice_get w.invocations p))
+change_was s w moment caller (FinalizeInvocation id) =
+    at_was w (λ p. with_end_begun moment p w) (place_named w.invocations id)
+    (λ p. end_was (slice_get (states_of w.invocations) p) (with_begun moment p w) w
+    (changed_was (begun moment) (λ r is. absurd (finalizing≢finalized is)) w.invocations p))
+change_was s w moment caller (UpdateIncludedInvocations including add) =
+    at_was w (λ p. with_inclusions moment p (places_named w.invocations add) w) (place_named w.invocations including)
+    (λ p. edges_was moment (edges_from p (fresh (targets_of w.inclusions p) (places_named w.invocations add))) w)
+change_was s w moment caller (GetInvocation id) = all_was w.invocations
+
+none_ended : (time : ℤ) (rows : List Invocation) → AreEndedAt time rows rows
+none_ended time rows p row e is not = absurd (not (state_is Finalized rows p row e is))
+
+judged_at : (s : Settings) (w : World) (moment : ℤ) (asked : Asked) (answer : Answer) (after : World)
+    → Refuses s w moment asked after answer ⊎ Performs s w moment asked after answer
+    → AreEndedAt moment w.invocations after.invocations
+judged_at s w moment asked answer after (inl refused) =
+    subst (λ (v : World). AreEndedAt moment w.invocations v.invocations) (sym refused.same) (none_ended moment w.invocations)
+judged_at s w moment asked answer after (inr performs) =
+    let mid = changed s w moment performs.caller performs.request in
+    settled_at moment mid.inclusions w.invocations mid.invocations after.invocations
+    (change_was s w moment performs.caller performs.request) performs.acts.rows
+
+-- what is changed is an active row, or a new one
+all_waiting : (rows : List Invocation) → WaitingStay rows rows
+all_waiting rows p row e is = e
+
+changed_waiting : (change : Invocation → Invocation) (rows : List Invocation) (p : ℕ) → IsInState Active rows p
+    → WaitingStay rows (with_changed change rows p)
+changed_waiting change rows p active q row e is =
+    changed_other change rows p q
+    (λ same. apart Active Finalizing rows p active≢finalizing active
+    (subst (IsInState Finalizing rows) same (state_is Finalizing rows q row e is))) ∙ e
+
+added_waiting : (rows : List Invocation) (new : Invocation) → WaitingStay rows (rows ++ new ∷ [])
+added_waiting rows new p row e is = at_front rows new row p e
+
+update_waiting : (moment : ℤ) (w : World) (p : ℕ) (deadline : Option ℤ) (tags : Option (List Pair)) (o : Option Invocation)
+    → IsInState Active w.invocations p → WaitingStay w.invocations (with_row_updated moment p deadline tags w o).invocations
+update_waiting moment w p deadline tags None active = all_waiting w.invocations
+update_waiting moment w p deadline tags (Some row) active =
+    let moved : World = record {
+      invocations = with_changed (updated deadline tags) w.invocations p;
+      inclusions = w.inclusions;
+      last = moment;
+    } in
+    elim (cases_Bool (is_update deadline tags row)) [
+      | inl yes_ ↦ subst (λ (v : World). WaitingStay w.invocations v.invocations) (sym (cond-true (is_update deadline tags row) moved w yes_))
+          (changed_waiting (updated deadline tags) w.invocations p active)
+      | inr no_ ↦ subst (λ (v : World). WaitingStay w.invocations v.invocations) (sym (cond-false (is_update deadline tags row) moved w no_))
+          (all_waiting w.invocations)
+    ]
+
+edges_waiting : (moment : ℤ) (edges : List Edge) (w : World) → WaitingStay w.invocations (with_edges moment edges w).invocations
+edges_waiting moment [] w = all_waiting w.invocations
+edges_waiting moment (edge ∷ edges) w = all_waiting w.invocations
+
+end_waiting : (moment : ℤ) (w : World) (p : ℕ) (o : Option State) → slice_get (states_of w.invocations) p ≡ o
+    → WaitingStay w.invocations (begun_from o (with_begun moment p w) w).invocations
+end_waiting moment w p None e = all_waiting w.invocations
+end_waiting moment w p (Some Active) e = changed_waiting (begun moment) w.invocations p e
+end_waiting moment w p (Some Finalizing) e = all_waiting w.invocations
+end_waiting moment w p (Some Finalized) e = all_waiting w.invocations
+
+at_waiting : (w : World) (change : ℕ → World) (o : Option ℕ) → ((p : ℕ) → o ≡ Some p → WaitingStay w.invocations (change p).invocations)
+    → WaitingStay w.invocations (changed_at w change o).invocations
+at_waiting w change None h = all_waiting w.invocations
+at_waiting w change (Some p) h = h p refl
+
+change_waiting : (s : Settings) (w : World) (moment : ℤ) (asked : Asked) (caller : ℕ) (request : Request)
+    → IsAccepted s w moment asked caller request → WaitingStay w.invocations (changed s w moment caller request).invocations
+change_waiting s w moment asked caller (CreateInvocation id realm deadline tags) accepted =
+    added_waiting w.invocations (new_row moment (caller_name s caller) id realm deadline tags)
+change_waiting s w moment asked caller (UpdateInvocation id deadline tags) accepted =
+    at_waiting w (λ p. with_update moment p deadline tags w) (place_named w.invocations id)
+    (λ p at. update_waiting moment w p deadline tags (slice_get w.invocations p)
+    (active_at w.invocations (UpdateInvocation id deadline tags) id p
+    (unbroken_rule s w moment asked caller (UpdateInvocation id deadline tags) accepted still_active) refl at))
+change_waiting s w moment asked caller (FinalizeInvocation id) accepted =
+    at_waiting w (λ p. with_end_begun moment p w) (place_named w.invocations id)
+    (λ p at. end_waiting moment w p (slice_get (states_of w.invocations) p) refl)
+change_waiting s w moment asked caller (UpdateIncludedInvocations including add) accepted =
+    at_waiting w (λ p. with_inclusions moment p (places_named w.invocations add) w) (place_named w.invocations including)
+    (λ p at. edges_waiting moment (edges_from p (fresh (targets_of w.inclusions p) (places_named w.invocations add))) w)
+change_waiting s w moment asked caller (GetInvocation id) accepted = all_waiting w.invocations
+
+judged_kept : (s : Settings) (w : World) (moment : ℤ) (asked : Asked) (answer : Answer) (after : World)
+    → Refuses s w moment asked after answer ⊎ Performs s w moment asked after answer → AreKept moment w.invocations after.invocations
+judged_kept s w moment asked answer after (inl refused) =
+    subst (λ (v : World). AreKept moment w.invocations v.invocations) (sym refused.same) (λ p row e is. inl e)
+judged_kept s w moment asked answer after (inr performs) =
+    let mid = changed s w moment performs.caller performs.request in
+    settled_kept moment mid.inclusions w.invocations mid.invocations after.invocations
+    (change_waiting s w moment asked performs.caller performs.request performs.accepted) performs.acts.rows
+
+ends_in_time : (time : ℤ) (w after : World) → IsValid after → KeepsFinal w after → AreKept time w.invocations after.invocations
+    → AreEndedAt time w.invocations after.invocations → EndsInTime after.inclusions time w.invocations after.invocations
+ends_in_time time w after valid keeps kept at = record {
+  kept = kept;
+  waiting = valid.waiting;
+  ended = valid.ended;
+  in_time = at;
+  stays = keeps.rows;
+}
+
+-- a valid world in which nothing else changes
+nothing_else : (time : ℤ) (w : World) → IsValid w → EndsInTime w.inclusions time w.invocations w.invocations
+nothing_else time w valid = ends_in_time time w w valid (all_final w) (λ p row e is. inl e) (none_ended time w.invocations)
+
+-- ---- entries
+
+unchanged_in_time : (w : World) (e : Entry) → IsValid w → IsInTime w e w
+unchanged_in_time w e valid = record {
+  deadlines = [];
+  between = w.invocations;
+  due = refl;
+  asked = nothing_else e.moment w valid;
+}
+
+tells_in_time : (s : Settings) (w : World) (e : Entry) (told : Told) (after : World) → HasNames s → IsValid w → IsCallMoment e.moment
+    → w.last ≤ℤ e.moment → IsValid after → Tells s w e.moment e.asked told after → IsInTime w e after
+tells_in_time s w e (Made answer) after names valid call later right step =
+    let between = step.between in
+    let may = advanced_may w between e.moment valid call later step.advances in
+    record {
+      deadlines = step.advances.deadlines;
+      between = between.invocations;
+      due = advanced_in_time e.moment w between valid call step.advances;
+      asked = ends_in_time e.moment between after right
+          (judged_final s between e.moment e.asked answer after may.valid step.judged)
+          (judged_kept s between e.moment e.asked answer after step.judged)
+          (judged_at s between e.moment e.asked answer after step.judged);
+    }
+tells_in_time s w e (Instead Memory) after names valid call later right (inl same) =
+    subst (IsInTime w e) (sym same) (unchanged_in_time w e valid)
+tells_in_time s w e (Instead Memory) after names valid call later right (inr advances) = record {
+  deadlines = advances.deadlines;
+  between = after.invocations;
+  due = advanced_in_time e.moment w after valid call advances;
+  asked = nothing_else e.moment after right;
+}
+tells_in_time s w e (Instead Unavailable) after names valid call later right never = absurd never
+tells_in_time s w e (Instead Spent) after names valid call later right never = absurd never
+
+leads_in_time : (s : Settings) (w : World) (e : Entry) (after : World) → HasNames s → IsValid w → Leads s w e after → IsInTime w e after
+leads_in_time s w e after names valid leads =
+    tells_in_time s w e e.told after names valid leads.moment leads.later (leads_valid s w e after names leads valid) leads.tells
+
+pub final_in_time : FinalInTime
+final_in_time s w [] v names valid end = end
+final_in_time s w (e ∷ h) v names valid legal = (
+  legal.0,
+  legal.1,
+  leads_in_time s w e legal.0 names valid legal.1,
+  final_in_time s legal.0 h v names (leads_valid s w e legal.0 names legal.1 valid) legal.2,
+)

@@ -1,0 +1,205 @@
+-- Rows that stay the same invocations.
+use Rattle.std.proofs.Common.{◌≡◌, ◌⊎◌, ℕ, ℤ, List, [], ◌∷◌, ◌++◌, Option, Some, None, inl, inr, refl, sym, ap, ◌∙◌, subst}
+use Rattle.std.specs.List.{slice_get}
+use Rattle.std.proofs.lemmas.Bool.{cases_Bool, cases_eq, cond-true, cond-false}
+use Rattle.std.proofs.lemmas.Option.{same_Some}
+use Rattle.names_realms.specs.declared.pairs.Pair.{Pair}
+use Rattle.names_realms.specs.declared.states.State.{State}
+use Rattle.names_realms.specs.declared.states.State.TheVariants.{Active, Finalizing, Finalized}
+use Rattle.inclusion_graph.specs.declared.edge.Edge.{Edge}
+use Rattle.inclusion_graph.specs.Edges.{edges_from, fresh, targets_of}
+use Rattle.invocations.specs.declared.invocation.Invocation.{Invocation}
+use Rattle.invocations.specs.Rows.{begun, ended, states_of, with_changed}
+use Rattle.invocations.proofs.RowLemmas.{at_front}
+use Rattle.call_forms.specs.declared.asked.Asked.{Asked}
+use Rattle.call_forms.specs.declared.forms.Answer.{Answer}
+use Rattle.call_forms.specs.declared.forms.Standin.TheVariants.{Unavailable, Memory, Spent}
+use Rattle.call_forms.specs.declared.forms.Told.{Told}
+use Rattle.call_forms.specs.declared.forms.Told.TheVariants.{Made, Standin as Instead}
+use Rattle.message_forms.specs.declared.requests.Request.{Request}
+use Rattle.message_forms.specs.declared.requests.Request.TheVariants.{CreateInvocation, UpdateInvocation, FinalizeInvocation, UpdateIncludedInvocations, GetInvocation}
+use Rattle.invocation_world.specs.World.{World, new_row}
+use Rattle.invocation_world.specs.Settling.{SettlesRows}
+use Rattle.invocation_world.specs.Advancing.{Advances, CarriesOut, after_deadlines, all_begun}
+use Rattle.invocation_world.specs.Changes.{is_update, updated, with_begun, with_edges, with_inclusions, with_row_updated, with_update}
+use Rattle.invocation_world.proofs.RowFacts.{changed_here, changed_other}
+use Rattle.invocation_world.proofs.SettleFacts.{ended_or_same}
+use Rattle.invocation_world.proofs.ValidFacts.{all_begin}
+use Rattle.request_rules.specs.Settings.{Settings, caller_name}
+use Rattle.request_rules.specs.Named.{place_named, places_named}
+use Rattle.service_core.specs.Step.{Acts, Performs, Refuses, begun_from, changed, changed_at, with_end_begun}
+use Rattle.service_core.specs.History.{Tells}
+use Rattle.service_core.specs.Laws.{IsSameInvocation, RowsStay}
+
+-- each row stands at its place later, the same invocation
+abbrev pub AllStay : List Invocation → List Invocation → Type 0
+AllStay old new =
+    (p : ℕ) (row : Invocation) → slice_get old p ≡ Some row
+    → (later : Invocation) × (slice_get new p ≡ Some later) × IsSameInvocation row later
+
+itself : (row : Invocation) → IsSameInvocation row row
+itself row = record { id = refl; realm = refl; creator = refl; created = refl }
+
+pub all_stay : (rows : List Invocation) → AllStay rows rows
+all_stay rows p row e = (row, e, itself row)
+
+pub stay_same : (old new : List Invocation) → new ≡ old → AllStay old new
+stay_same old new same = subst (AllStay old) (sym same) (all_stay old)
+
+pub stay_both : (a b c : List Invocation) → AllStay a b → AllStay b c → AllStay a c
+stay_both a b c first second p row e =
+    let one = first p row e in
+    let two = second p one.0 one.1 in (
+      two.0,
+      two.1,
+      record {
+        id = two.2.id ∙ one.2.id;
+        realm = two.2.realm ∙ one.2.realm;
+        creator = two.2.creator ∙ one.2.creator;
+        created = two.2.created ∙ one.2.created;
+      },
+    )
+
+pub settled_stay : (moment : ℤ) (edges : List Edge) (old new : List Invocation) → SettlesRows moment edges old new → AllStay old new
+settled_stay moment edges old new s p row e =
+    elim (ended_or_same moment edges old new s p) [
+      | inl was ↦ (
+        ended moment row,
+        subst (λ (r : Invocation). slice_get new p ≡ Some (ended moment r)) (same_Some was.row row (sym was.stood ∙ e)) was.stands,
+        record { id = refl; realm = refl; creator = refl; created = refl },
+      )
+      | inr same ↦ (row, same.1 ∙ e, itself row)
+    ]
+
+begun_stay : (d : ℤ) (rows : List Invocation) → AllStay rows (all_begun d rows)
+begun_stay d rows p row e =
+    elim (all_begin d rows p) [
+      | inl same ↦ (row, same ∙ e, itself row)
+      | inr b ↦ (
+        begun d row,
+        subst (λ (r : Invocation). slice_get (all_begun d rows) p ≡ Some (begun d r)) (same_Some b.row row (sym b.stood ∙ e)) b.stands,
+        record { id = refl; realm = refl; creator = refl; created = refl },
+      )
+    ]
+
+carried_stay : (edges : List Edge) (moment : ℤ) (rows : List Invocation) (ds : List ℤ) (after : List Invocation)
+    → CarriesOut edges moment rows ds after → AllStay rows after
+carried_stay edges moment rows [] after h = stay_same rows after h.1
+carried_stay edges moment rows (d ∷ ds) after h =
+    stay_both rows (all_begun d rows) after (begun_stay d rows)
+    (stay_both (all_begun d rows) h.1.0 after (settled_stay d edges (all_begun d rows) h.1.0 h.1.1)
+    (carried_stay edges moment h.1.0 ds after h.1.2))
+
+-- the rows after due deadlines
+pub advanced_rows : (moment : ℤ) (ds : List ℤ) (rows : List Invocation) (w : World)
+    → CarriesOut w.inclusions moment w.invocations ds rows → (after_deadlines moment ds rows w).invocations ≡ rows
+advanced_rows moment [] rows w h = sym h.1
+advanced_rows moment (d ∷ ds) rows w h = refl
+
+advance_stay : (moment : ℤ) (w after : World) → Advances w moment after → AllStay w.invocations after.invocations
+advance_stay moment w after h =
+    subst (AllStay w.invocations)
+    (sym (ap (λ (v : World). v.invocations) h.after_is ∙ advanced_rows moment h.deadlines h.rows w h.carried))
+    (carried_stay w.inclusions moment w.invocations h.deadlines h.rows h.carried)
+
+-- one row is changed, and stays the same invocation
+abbrev IsKept : (Invocation → Invocation) → Type 0
+IsKept change = (row : Invocation) → IsSameInvocation row (change row)
+
+changed_stay : (change : Invocation → Invocation) → IsKept change → (rows : List Invocation) (p : ℕ)
+    → AllStay rows (with_changed change rows p)
+changed_stay change kept rows p q row e =
+    elim (cases_eq q p) [
+      | inl here ↦
+          let stood : slice_get rows p ≡ Some row = subst (λ (k : ℕ). slice_get rows k ≡ Some row) here e in (
+            change row,
+            subst (λ (k : ℕ). slice_get (with_changed change rows p) k ≡ Some (change row)) (sym here) (changed_here change rows p row stood),
+            kept row,
+          )
+      | inr other ↦ (row, changed_other change rows p q other ∙ e, itself row)
+    ]
+
+update_kept : (deadline : Option ℤ) (tags : Option (List Pair)) → IsKept (updated deadline tags)
+update_kept deadline tags row = record { id = refl; realm = refl; creator = refl; created = refl }
+
+begun_kept : (moment : ℤ) → IsKept (begun moment)
+begun_kept moment row = record { id = refl; realm = refl; creator = refl; created = refl }
+
+update_stay_of : (moment : ℤ) (w : World) (p : ℕ) (deadline : Option ℤ) (tags : Option (List Pair)) (o : Option Invocation)
+    → AllStay w.invocations (with_row_updated moment p deadline tags w o).invocations
+update_stay_of moment w p deadline tags None = all_stay w.invocations
+update_stay_of moment w p deadline tags (Some row) =
+    let moved : World = record {
+      invocations = with_changed (updated deadline tags) w.invocations p;
+      inclusions = w.inclusions;
+      last = moment;
+    } in
+    elim (cases_Bool (is_update deadline tags row)) [
+      | inl yes_ ↦ subst (λ (v : World). AllStay w.invocations v.invocations) (sym (cond-true (is_update deadline tags row) moved w yes_))
+          (changed_stay (updated deadline tags) (update_kept deadline tags) w.invocations p)
+      | inr no_ ↦ subst (λ (v : World). AllStay w.invocations v.invocations) (sym (cond-false (is_update deadline tags row) moved w no_))
+          (all_stay w.invocations)
+    ]
+
+added_stay : (rows : List Invocation) (new : Invocation) → AllStay rows (rows ++ new ∷ [])
+added_stay rows new p row e = (row, at_front rows new row p e, itself row)
+
+edges_stay : (moment : ℤ) (edges : List Edge) (w : World) → AllStay w.invocations (with_edges moment edges w).invocations
+edges_stay moment [] w = all_stay w.invocations
+edges_stay moment (edge ∷ edges) w = all_stay w.invocations
+
+end_stay : (o : Option State) (b w : World) → AllStay w.invocations b.invocations → AllStay w.invocations (begun_from o b w).invocations
+end_stay None b w h = all_stay w.invocations
+end_stay (Some Active) b w h = h
+end_stay (Some Finalizing) b w h = all_stay w.invocations
+end_stay (Some Finalized) b w h = all_stay w.invocations
+
+at_stay : (w : World) (change : ℕ → World) (o : Option ℕ) → ((p : ℕ) → AllStay w.invocations (change p).invocations)
+    → AllStay w.invocations (changed_at w change o).invocations
+at_stay w change None h = all_stay w.invocations
+at_stay w change (Some p) h = h p
+
+change_stay : (s : Settings) (w : World) (moment : ℤ) (caller : ℕ) (request : Request)
+    → AllStay w.invocations (changed s w moment caller request).invocations
+change_stay s w moment caller (CreateInvocation id realm deadline tags) =
+    added_stay w.invocations (new_row moment (caller_name s caller) id realm deadline tags)
+change_stay s w moment caller (UpdateInvocation id deadline tags) =
+    at_stay w (λ p. with_update moment p deadline tags w) (place_named w.invocations id)
+    (λ p. update_stay_of moment w p deadline tags (slice_get w.invocations p))
+change_stay s w moment caller (FinalizeInvocation id) =
+    at_stay w (λ p. with_end_begun moment p w) (place_named w.invocations id)
+    (λ p. end_stay (slice_get (states_of w.invocations) p) (with_begun moment p w) w
+    (changed_stay (begun moment) (begun_kept moment) w.invocations p))
+change_stay s w moment caller (UpdateIncludedInvocations including add) =
+    at_stay w (λ p. with_inclusions moment p (places_named w.invocations add) w) (place_named w.invocations including)
+    (λ p. edges_stay moment (edges_from p (fresh (targets_of w.inclusions p) (places_named w.invocations add))) w)
+change_stay s w moment caller (GetInvocation id) = all_stay w.invocations
+
+pub acted_stay : (s : Settings) (w : World) (moment : ℤ) (caller : ℕ) (request : Request) (after : World)
+    → Acts s w moment caller request after → AllStay w.invocations after.invocations
+acted_stay s w moment caller request after acts =
+    let mid = changed s w moment caller request in
+    stay_both w.invocations mid.invocations after.invocations (change_stay s w moment caller request)
+    (settled_stay moment mid.inclusions mid.invocations after.invocations acts.rows)
+
+judged_stay : (s : Settings) (w : World) (moment : ℤ) (asked : Asked) (answer : Answer) (after : World)
+    → Refuses s w moment asked after answer ⊎ Performs s w moment asked after answer → AllStay w.invocations after.invocations
+judged_stay s w moment asked answer after (inl refused) = stay_same w.invocations after.invocations (ap (λ (v : World). v.invocations) refused.same)
+judged_stay s w moment asked answer after (inr performs) =
+    acted_stay s w moment performs.caller performs.request after performs.acts
+
+tells_stay : (s : Settings) (w : World) (moment : ℤ) (asked : Asked) (told : Told) (after : World) → Tells s w moment asked told after
+    → AllStay w.invocations after.invocations
+tells_stay s w moment asked (Made answer) after step =
+    stay_both w.invocations step.between.invocations after.invocations (advance_stay moment w step.between step.advances)
+    (judged_stay s step.between moment asked answer after step.judged)
+tells_stay s w moment asked (Instead Memory) after (inl same) = stay_same w.invocations after.invocations (ap (λ (v : World). v.invocations) same)
+tells_stay s w moment asked (Instead Memory) after (inr advances) = advance_stay moment w after advances
+tells_stay s w moment asked (Instead Unavailable) after never = absurd never
+tells_stay s w moment asked (Instead Spent) after never = absurd never
+
+pub rows_stay : RowsStay
+rows_stay s w [] v end = stay_same w.invocations v.invocations (ap (λ (u : World). u.invocations) end)
+rows_stay s w (e ∷ h) v legal =
+    stay_both w.invocations legal.0.invocations v.invocations (tells_stay s w e.moment e.asked e.told legal.0 legal.1.tells)
+    (rows_stay s legal.0 h v legal.2)

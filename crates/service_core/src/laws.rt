@@ -1,0 +1,43 @@
+//! Laws of steps and histories. These functions do nothing: what each of them ensures is the law.
+ghost use Rattle.service_core.specs.Laws.{FinalInTime, FinalStays, HasSteps, LegalKeepsValid, RowsStay, StepsAreUnique, TimedGoesOn, TimedIsLegal};
+
+/// Each request at a moment leads from each world to some world, with some answer.
+pub fn a_step_is_there()
+    ensures { HasSteps }
+{}
+
+/// A request at a moment leads from a world to one world alone, with one answer.
+pub fn one_step()
+    ensures { StepsAreUnique }
+{}
+
+/// No two invocations ever have one id: a history from a valid world leads to a valid one.
+pub fn ids_stay_unique()
+    ensures { LegalKeepsValid }
+{}
+
+/// A history takes no invocation away, and each stays whose it is, where, and since when.
+pub fn rows_stay()
+    ensures { RowsStay }
+{}
+
+/// What is final stays as it is, with all that it reaches, in each history from a valid world.
+pub fn final_stays()
+    ensures { FinalStays }
+{}
+
+/// In such a history each finalizing invocation becomes final with the first change after which it
+/// reaches no active one.
+pub fn final_in_time()
+    ensures { FinalInTime }
+{}
+
+/// A history of calls whose moments a clock made is legal.
+pub fn timed_is_legal()
+    ensures { TimedIsLegal }
+{}
+
+/// A history goes on by one call, at the moment that one more answer of the clock makes.
+pub fn timed_goes_on()
+    ensures { TimedGoesOn }
+{}
