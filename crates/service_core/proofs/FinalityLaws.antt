@@ -33,7 +33,7 @@ use Rattle.invocation_world.proofs.ValidFacts.{all_begin, valid_settled}
 use Rattle.request_rules.specs.Settings.{Settings, HasNames, caller_name}
 use Rattle.request_rules.specs.Named.{place_named, places_named}
 use Rattle.request_rules.specs.Broken.{still_active}
-use Rattle.service_core.specs.Finality.{EndInTime, EndsInTime, IsInTime}
+use Rattle.service_core.specs.Finality.{CarriesInTime, EndsInTime, ToldInTime}
 use Rattle.service_core.specs.Step.{IsAccepted, Performs, Refuses, begun_from, changed, changed_at, with_end_begun}
 use Rattle.service_core.specs.History.{Entry, Leads, Tells}
 use Rattle.service_core.specs.Laws.{FinalInTime}
@@ -163,16 +163,16 @@ deadline_in_time edges d rows between valid s = record {
 
 carried_in_time : (edges : List Edge) (last moment : ℤ) (rows : List Invocation) (ds : List ℤ) (after : List Invocation)
     → IsValid (record { invocations = rows; inclusions = edges; last = last }) → IsCallMoment moment
-    → CarriesOut edges moment rows ds after → EndInTime edges moment ds rows after
-carried_in_time edges last moment rows [] after valid call h = h.1
+    → CarriesOut edges moment rows ds after → CarriesInTime edges moment ds rows after
+carried_in_time edges last moment rows [] after valid call h = h
 carried_in_time edges last moment rows (d ∷ ds) after valid call h =
     let right = least_valid edges last moment d rows h.1.0 valid call h.0 h.1.1 in
     (h.0, (h.1.0, deadline_in_time edges d rows h.1.0 right h.1.1, carried_in_time edges d moment h.1.0 ds after right call h.1.2))
 
 advanced_in_time : (moment : ℤ) (w after : World) → IsValid w → IsCallMoment moment → (h : Advances w moment after)
-    → EndInTime w.inclusions moment h.deadlines w.invocations after.invocations
+    → CarriesInTime w.inclusions moment h.deadlines w.invocations after.invocations
 advanced_in_time moment w after valid call h =
-    subst (EndInTime w.inclusions moment h.deadlines w.invocations)
+    subst (CarriesInTime w.inclusions moment h.deadlines w.invocations)
     (sym (ap (λ (v : World). v.invocations) h.after_is ∙ advanced_rows moment h.deadlines h.rows w h.carried))
     (carried_in_time w.inclusions w.last moment w.invocations h.deadlines h.rows valid call h.carried)
 
@@ -351,16 +351,8 @@ nothing_else time w valid = ends_in_time time w w valid (all_final w) (λ p row 
 
 -- ---- entries
 
-unchanged_in_time : (w : World) (e : Entry) → IsValid w → IsInTime w e w
-unchanged_in_time w e valid = record {
-  deadlines = [];
-  between = w.invocations;
-  due = refl;
-  asked = nothing_else e.moment w valid;
-}
-
 tells_in_time : (s : Settings) (w : World) (e : Entry) (told : Told) (after : World) → HasNames s → IsValid w → IsCallMoment e.moment
-    → w.last ≤ℤ e.moment → IsValid after → Tells s w e.moment e.asked told after → IsInTime w e after
+    → w.last ≤ℤ e.moment → IsValid after → Tells s w e.moment e.asked told after → ToldInTime w e told after
 tells_in_time s w e (Made answer) after names valid call later right step =
     let between = step.between in
     let may = advanced_may w between e.moment valid call later step.advances in
@@ -373,18 +365,19 @@ tells_in_time s w e (Made answer) after names valid call later right step =
           (judged_kept s between e.moment e.asked answer after step.judged)
           (judged_at s between e.moment e.asked answer after step.judged);
     }
-tells_in_time s w e (Instead Memory) after names valid call later right (inl same) =
-    subst (IsInTime w e) (sym same) (unchanged_in_time w e valid)
-tells_in_time s w e (Instead Memory) after names valid call later right (inr advances) = record {
-  deadlines = advances.deadlines;
-  between = after.invocations;
-  due = advanced_in_time e.moment w after valid call advances;
-  asked = nothing_else e.moment after right;
-}
+tells_in_time s w e (Instead Memory) after names valid call later right (inl same) = inl same
+tells_in_time s w e (Instead Memory) after names valid call later right (inr advances) =
+    inr (record {
+      deadlines = advances.deadlines;
+      between = after.invocations;
+      due = advanced_in_time e.moment w after valid call advances;
+      asked = nothing_else e.moment after right;
+    })
 tells_in_time s w e (Instead Unavailable) after names valid call later right never = absurd never
 tells_in_time s w e (Instead Spent) after names valid call later right never = absurd never
 
-leads_in_time : (s : Settings) (w : World) (e : Entry) (after : World) → HasNames s → IsValid w → Leads s w e after → IsInTime w e after
+leads_in_time : (s : Settings) (w : World) (e : Entry) (after : World) → HasNames s → IsValid w → Leads s w e after
+    → ToldInTime w e e.told after
 leads_in_time s w e after names valid leads =
     tells_in_time s w e e.told after names valid leads.moment leads.later (leads_valid s w e after names leads valid) leads.tells
 

@@ -5,8 +5,10 @@ use Rattle.finaliser.specs.Settling as finaliser
 use Rattle.inclusion_graph.specs.declared.edge.Edge.{Edge}
 use Rattle.invocations.specs.declared.invocation.Invocation.{Invocation}
 use Rattle.invocations.specs.Rows.{IsInState, ended, states_of}
+use Rattle.call_forms.specs.declared.forms.Told.{Told}
+use Rattle.call_forms.specs.declared.forms.Told.TheVariants.{Made, Standin as Instead}
 use Rattle.invocation_world.specs.World.{World}
-use Rattle.invocation_world.specs.Advancing.{IsLeast}
+use Rattle.invocation_world.specs.Advancing.{AreQuiet, IsLeast}
 use Rattle.request_rules.specs.Settings.{Settings}
 use Rattle.service_core.specs.History.{Entry, Leads}
 
@@ -24,22 +26,27 @@ pub record EndsInTime (inclusions : List Edge) (time : ℤ) (before after : List
   pub stays : (place : ℕ) (row : Invocation) → slice_get before place ≡ Some row → row.state ≡ Finalized
       → slice_get after place ≡ Some row
 
--- Deadlines that are due at the moment are carried out one after the other, each the least of them, and each is a change at its
--- own time.
-abbrev pub EndInTime : List Edge → ℤ → List ℤ → List Invocation → List Invocation → Type 0
-EndInTime inclusions moment [] before after = after ≡ before
-EndInTime inclusions moment (time ∷ times) before after =
+-- Deadlines that are due at the moment are carried out one after the other, each the least of them, until nothing is due, and each
+-- is a change at its own time.
+abbrev pub CarriesInTime : List Edge → ℤ → List ℤ → List Invocation → List Invocation → Type 0
+CarriesInTime inclusions moment [] before after = AreQuiet before moment × (after ≡ before)
+CarriesInTime inclusions moment (time ∷ times) before after =
     IsLeast before moment time
-    × ((between : List Invocation) × EndsInTime inclusions time before between × EndInTime inclusions moment times between after)
+    × ((between : List Invocation) × EndsInTime inclusions time before between × CarriesInTime inclusions moment times between after)
 
--- An entry leads from one world to the next by deadlines that are due, and then by what it asks for, at its moment.
+-- An entry leads from one world to the next by all deadlines that are due, and then by what it asks for, at its moment.
 pub record IsInTime (w : World) (e : Entry) (after : World) : Type 0 where
   pub deadlines : List ℤ
   pub between : List Invocation
-  pub due : EndInTime w.inclusions e.moment deadlines w.invocations between
+  pub due : CarriesInTime w.inclusions e.moment deadlines w.invocations between
   pub asked : EndsInTime after.inclusions e.moment between after.invocations
 
--- So does each entry of a history.
+-- So does an entry that was answered. One that was told a stand-in may change nothing.
+abbrev pub ToldInTime : World → Entry → Told → World → Type 0
+ToldInTime w e (Made answer) after = IsInTime w e after
+ToldInTime w e (Instead standin) after = (after ≡ w) ⊎ IsInTime w e after
+
+-- So it is with each entry of a history.
 abbrev pub AllInTime : Settings → World → List Entry → World → Type 0
 AllInTime s w [] end = end ≡ w
-AllInTime s w (e ∷ h) end = (after : World) × Leads s w e after × IsInTime w e after × AllInTime s after h end
+AllInTime s w (e ∷ h) end = (after : World) × Leads s w e after × ToldInTime w e e.told after × AllInTime s after h end
