@@ -1,1 +1,9 @@
 pub mod CoreLaws
+pub mod PlanFormLaws
+pub mod ShowableLaws
+pub mod ShowLaws
+pub mod PlanRuleLaws
+pub mod PlanLaws
+pub mod PlanMadeLaws
+pub mod PlanCallLaws
+pub mod ServeLaws
