@@ -1,5 +1,5 @@
 -- The core's world, its places and its rows.
-use Rattle.std.proofs.Common.{◌≡◌, ◌<◌, ◌≤◌, ◌+◌, ◌++◌, ℕ, List, [], ◌∷◌, ℤ, length, take, get_or, map, Option, Some, None, option_map, refl, sym, ap, ◌∙◌, subst, add-one}
+use Rattle.std.proofs.Common.{◌≡◌, ◌<◌, ◌≤◌, ◌+◌, ◌++◌, ℕ, List, [], ◌∷◌, ℤ, length, take, get_or, map, Option, Some, None, option_map, refl, sym, ap, ◌∙◌, subst, add-one, arith, suc, zero}
 use Rattle.std.specs.Prelude.{slice_get}
 use Rattle.std.specs.List.{cons_option, filter_map}
 use Rattle.std.proofs.Math.Seq.{take-suc}
@@ -58,10 +58,16 @@ ids_more rows places i place row old new lt at stands old_is new_is =
     ∙ (ap (λ (p : ℕ). ids_at rows (take i places) ++ cons_option (f p) []) (sym at)
     ∙ sym (filter_map-append f (take i places) (get_or places i place ∷ []))))))
 
+-- what stands at a place, whatever else would be said there
+pub read_there : (xs : List ℕ) (i : ℕ) → i < length xs → get_or xs i (get_or xs i 0) ≡ get_or xs i 0
+read_there [] i lt = absurd (omega (arith, lt))
+read_there (x ∷ xs) zero lt = refl
+read_there (x ∷ xs) (suc i) lt = read_there xs i (omega (arith, lt))
+
 -- ---- changes that were planned
 
 -- what may be changed is timely
-may_change : (w : World) (moment : ℤ) → IsTimely w moment → MayChange moment w
+pub may_change : (w : World) (moment : ℤ) → IsTimely w moment → MayChange moment w
 may_change w moment timely = record { valid = timely.valid; call = timely.call; later = timely.later; quiet = timely.quiet }
 
 -- a change that leaves a valid world leaves nothing to settle

@@ -9,3 +9,11 @@ pub mod FinalityLaws
 pub mod AllowLaws
 pub mod DecideLaws
 pub mod ThereLaws
+pub mod PlanFormLaws
+pub mod ShowableLaws
+pub mod ShowLaws
+pub mod PlanRuleLaws
+pub mod PlanLaws
+pub mod PlanMadeLaws
+pub mod PlanCallLaws
+pub mod ServeLaws

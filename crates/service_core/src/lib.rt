@@ -1,18 +1,18 @@
 //! The service itself: what it holds, and what one request changes and answers.
 #![tactic(auto)]
 
-mod core;
 mod laws;
 mod making;
 mod plan;
 mod planning;
+mod serving;
 mod showing;
 #[cfg(test)]
 mod tests;
 
-pub use crate::core::Core;
 pub use laws::{
     a_step_is_there, final_in_time, final_stays, ids_stay_unique, one_step, rows_stay,
     timed_goes_on, timed_is_legal,
 };
 pub use plan::{Change, Plan, Prepared};
+pub use serving::Core;

@@ -1,7 +1,7 @@
 use Rattle.std.proofs.Common.{ap}
 use Rattle.service_core.specs.CoreState.{CoreState}
 use Rattle.service_core.proofs.CoreLaws.{carried_add, carried_include, carried_update}
-use Rattle.service_core.proofs.core.Core.carry_out.Goals as goal
+use Rattle.service_core.proofs.serving.Core.carry_out.Goals as goal
 
 pub returns-in-Add-clause-world : goal.returns-in-Add-clause-world
 returns-in-Add-clause-world c =

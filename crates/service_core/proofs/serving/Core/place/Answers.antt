@@ -1,7 +1,7 @@
 use Rattle.std.proofs.Common.{ap, ◌∙◌}
 use Rattle.service_core.specs.CoreState.{CoreState}
 use Rattle.service_core.proofs.CoreLaws.{never_unplaced, place_within}
-use Rattle.service_core.proofs.core.Core.place.Goals as goal
+use Rattle.service_core.proofs.serving.Core.place.Goals as goal
 
 pub unreachable-requires : goal.unreachable-requires
 unreachable-requires c =

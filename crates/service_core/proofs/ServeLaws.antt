@@ -1,0 +1,105 @@
+-- Calls that are judged, and due deadlines that are carried out.
+use Rattle.std.proofs.Common.{◌≡◌, ◌<◌, ℕ, ℤ, ◌≤ℤ◌, List, [], ◌∷◌, length, refl, sym, ap, ◌∙◌, subst, arith}
+use Rattle.std.proofs.lemmas.Int.{ints}
+use Rattle.inclusion_graph.specs.declared.edge.Edge.{Edge}
+use Rattle.invocations.specs.declared.invocation.Invocation.{Invocation}
+use Rattle.call_forms.specs.declared.asked.Asked.{Asked}
+use Rattle.call_forms.specs.declared.forms.Answer.{Answer}
+use Rattle.call_forms.specs.declared.forms.Refusal.{Refusal}
+use Rattle.call_forms.specs.Rules.{refusal_answer}
+use Rattle.invocation_world.specs.World.{World, IsCallMoment, IsValid}
+use Rattle.invocation_world.specs.Advancing.{Advances, after_deadlines}
+use Rattle.invocation_world.proofs.AdvanceFacts.{advance_valid}
+use Rattle.request_rules.specs.declared.reading.Call.{Call}
+use Rattle.request_rules.specs.declared.reading.Understood.{Understood}
+use Rattle.request_rules.specs.declared.reading.Understood.TheVariants.{Refused}
+use Rattle.request_rules.specs.Settings.{Settings}
+use Rattle.request_rules.specs.Order.{IsFirst}
+use Rattle.request_rules.specs.Broken.{BrokenAlone}
+use Rattle.request_rules.specs.Breaches.{BrokenBelow}
+use Rattle.request_rules.specs.Understood.{IsCallOf, IsUnderstood}
+use Rattle.request_rules.proofs.PolicyLaws.{caller_is_there}
+use Rattle.request_rules.proofs.RuleChain.{broken_alone, broken_in, first_of_below}
+use Rattle.service_core.specs.declared.plan.Change.{Change}
+use Rattle.service_core.specs.declared.plan.Change.TheVariants.{Tick}
+use Rattle.service_core.specs.CoreState.{CoreState}
+use Rattle.service_core.specs.Judged.{IsJudged}
+use Rattle.service_core.specs.Plans.{Carries, IsTimely}
+use Rattle.service_core.specs.Step.{Refuses, scene_of}
+
+-- due deadlines lead to a world in which nothing is due
+last_after : (moment : ℤ) (deadlines : List ℤ) (rows : List Invocation) (w : World) → w.last ≤ℤ moment
+    → (after_deadlines moment deadlines rows w).last ≤ℤ moment
+last_after moment [] rows w later = later
+last_after moment (d ∷ deadlines) rows w later = omega (arith, ints)
+
+timely_after : (w after : World) (moment : ℤ) → IsValid w → IsCallMoment moment → w.last ≤ℤ moment → Advances w moment after
+    → IsTimely after moment
+timely_after w after moment valid call later advances =
+    let both = advance_valid moment w after valid call later advances in
+    record {
+      valid = both.0;
+      call = call;
+      later = subst (λ (v : World). v.last ≤ℤ moment) (sym advances.after_is) (last_after moment advances.deadlines advances.rows w later);
+      quiet = both.1;
+    }
+
+pub ticked : (old new : CoreState) (change : Change) (after : World) (moment : ℤ) → IsValid old.world → IsCallMoment moment
+    → old.world.last ≤ℤ moment → new ≡ old → change ≡ Tick moment → Carries new.world change after → IsTimely after moment
+ticked old new change after moment valid call later same is carries =
+    timely_after old.world after moment valid call later
+    (subst (λ (x : Change). Carries old.world x after) is (subst (λ (core : CoreState). Carries core.world change after) same carries))
+
+-- what is judged in the situation of a core is judged there
+pub caller_there : (s t : Settings) (asked : Asked) (call : Call) → t ≡ s → IsCallOf s asked call → call.caller < length t.policy.users
+caller_there s t asked call same is =
+    subst (λ (x : Settings). call.caller < length x.policy.users) (sym same) (caller_is_there s asked.bearer call.caller is.wants.caller_is)
+
+-- the situation: its settings, rows and moment are those of a core
+pub record IsSituation (core : CoreState) (moment : ℤ) (s : Settings) (rows : List Invocation) (at : ℤ) : Type 0 where
+  pub by_settings : s ≡ core.settings
+  pub by_rows : rows ≡ core.world.invocations
+  pub by_moment : at ≡ moment
+
+-- whatever was found there of a call
+pub found_there : (core : CoreState) (moment : ℤ) (s : Settings) (rows : List Invocation) (at : ℤ) (asked : Asked) (call : Call)
+    (Is : (Refusal → Type 0) → Type 0) → IsSituation core moment s rows at → IsCallOf core.settings asked call
+    → ((asked : Asked) (edges : List Edge) → IsCallOf s asked call
+    → Is (BrokenBelow 20 s (record { rows = rows; inclusions = edges; moment = at }) asked call.caller call.request))
+    → Is (BrokenBelow 20 core.settings (scene_of core.world moment) asked call.caller call.request)
+found_there core moment s rows at asked call Is there is found =
+    let w = core.world in
+    let here = found asked w.inclusions (subst (λ (x : Settings). IsCallOf x asked call) (sym there.by_settings) is) in
+    let One : Settings → List Invocation → ℤ → Type 0 =
+    λ x rs m. Is (BrokenBelow 20 x (record { rows = rs; inclusions = w.inclusions; moment = m }) asked call.caller call.request) in
+    subst (λ (m : ℤ). One core.settings w.invocations m) there.by_moment
+    (subst (λ (rs : List Invocation). One core.settings rs at) there.by_rows
+    (subst (λ (x : Settings). One x rows at) there.by_settings here))
+
+pub refuses_first : (core : CoreState) (moment : ℤ) (asked : Asked) (call : Call) (r : Refusal) (answer : Answer)
+    → IsCallOf core.settings asked call
+    → IsFirst (BrokenBelow 20 core.settings (scene_of core.world moment) asked call.caller call.request) r
+    → answer ≡ refusal_answer r → Refuses core.settings core.world moment asked core.world answer
+refuses_first core moment asked call r answer is first told =
+    let s = core.settings in
+    let x = scene_of core.world moment in
+    record {
+      refusal = r;
+      is_refusal = broken_in s x asked call.caller call.request r is.wants (first_of_below s x asked call.caller call.request 20 r first);
+      same = refl;
+      answer_is = told;
+    }
+
+-- what is refused by itself is refused in each world
+pub refuses_alone : (core inside : CoreState) (moment : ℤ) (asked : Asked) (understood : Understood) (answer : Answer) → inside ≡ core
+    → understood ≡ Refused answer → IsUnderstood inside.settings asked understood
+    → Refuses core.settings core.world moment asked core.world answer
+refuses_alone core inside moment asked understood answer same is told =
+    let alone = subst (λ (u : Understood). IsUnderstood core.settings asked u) is
+    (subst (λ (c : CoreState). IsUnderstood c.settings asked understood) same told) in
+    record {
+      refusal = alone.0;
+      is_refusal = broken_alone core.settings (scene_of core.world moment) asked alone.0 alone.1;
+      same = refl;
+      answer_is = alone.2;
+    }
