@@ -12,7 +12,6 @@ use Rattle.call_forms.specs.declared.forms.Answer.{Answer}
 use Rattle.message_forms.specs.declared.requests.Request.{Request}
 use Rattle.message_forms.specs.declared.requests.Request.TheVariants.{CreateInvocation, UpdateInvocation, FinalizeInvocation, UpdateIncludedInvocations, GetInvocation}
 use Rattle.invocation_world.specs.World.{World, IsPair, IsRow, new_row}
-
 use Rattle.request_rules.specs.declared.reading.Call.{Call}
 use Rattle.request_rules.specs.Settings.{Settings, HasNames, caller_name}
 use Rattle.request_rules.specs.Demands.{own_id}

@@ -54,10 +54,13 @@ pub end_planned : (w v : World) (at : Place) (is_final : Bool) (answer : Answer)
     → answer ≡ showing v at.place (ended_if is_final at.moment (begun at.moment row)))
     → p ≡ prepared.Change (plan_of (End at.moment at.place) answer) → IsEndPlanned w at p
 end_planned w v at is_final answer p active tells same shows p_is =
-    subst (IsEndPlanned w at) (sym p_is) (active, λ row here. (
-      is_final,
-      tells,
-      ap (plan_of (End at.moment at.place))
-          (subst (λ (u : World). (r : Invocation) → slice_get u.invocations at.place ≡ Some r
-          → answer ≡ showing u at.place (ended_if is_final at.moment (begun at.moment r))) same shows row here),
-    ))
+    subst (IsEndPlanned w at) (sym p_is) (
+      active,
+      λ row here. (
+        is_final,
+        tells,
+        ap (plan_of (End at.moment at.place))
+            (subst (λ (u : World). (r : Invocation) → slice_get u.invocations at.place ≡ Some r
+            → answer ≡ showing u at.place (ended_if is_final at.moment (begun at.moment r))) same shows row here),
+      ),
+    )

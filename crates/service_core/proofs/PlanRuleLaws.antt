@@ -97,12 +97,16 @@ pub own_is_there : (s : Settings) (w : World) (moment : ℤ) (asked : Asked) (ca
 own_is_there s w moment asked caller request id h own = elim (there_or_not w.invocations id) [
   | inl has ↦ has
   | inr no_ ↦
-      absurd (h.none (of_invocation 8 id) (all_there, omega arith, record {
-        id = id;
-        first = subst (λ (o : Option (List ℕ)). IsFirstOf (λ x. ¬ HasId w.invocations x) (with_own o (included_ids request)) id) (sym own)
-            (inl (no_, refl));
-        refusal_is = refl;
-      }))
+      absurd (h.none (of_invocation 8 id) (
+        all_there,
+        omega arith,
+        record {
+          id = id;
+          first = subst (λ (o : Option (List ℕ)). IsFirstOf (λ x. ¬ HasId w.invocations x) (with_own o (included_ids request)) id) (sym own)
+              (inl (no_, refl));
+          refusal_is = refl;
+        },
+      ))
 ]
 
 is_active : (state : State) → (state ≢ Active → ⊥) → state ≡ Active
@@ -117,14 +121,18 @@ is_still_active s w moment asked caller request id place h own at =
     let row = row_placed w.invocations id place at in
     state_is Active w.invocations place row.0 row.1
     (is_active row.0.state (λ other.
-    h.none (refusal 12 (invocation_name id ++ (codes " " ++ state_text row.0.state))) (still_active, omega arith, record {
-      id = id;
-      changes = own;
-      row = row.0;
-      stands = place-named w.invocations id place at ∙ row.1;
-      inactive = other;
-      refusal_is = refl;
-    })))
+    h.none (refusal 12 (invocation_name id ++ (codes " " ++ state_text row.0.state))) (
+      still_active,
+      omega arith,
+      record {
+        id = id;
+        changes = own;
+        row = row.0;
+        stands = place-named w.invocations id place at ∙ row.1;
+        inactive = other;
+        refusal_is = refl;
+      },
+    )))
 
 -- whether a deadline is in reach can be told
 in_reach : (moment deadline : ℤ) → ¬ (¬ IsInReach moment deadline) → IsInReach moment deadline

@@ -156,8 +156,18 @@ impl Core {
             token,
         } = call;
         match request {
-            Request::CreateInvocation { id, realm, deadline, tags } => {
-                let wish = Wish { id, realm, deadline, tags };
+            Request::CreateInvocation {
+                id,
+                realm,
+                deadline,
+                tags,
+            } => {
+                let wish = Wish {
+                    id,
+                    realm,
+                    deadline,
+                    tags,
+                };
                 let row = wish.into_row(alloc, &self.policy, caller, moment)?;
                 plan_row(alloc, &mut self.world, row, token.handed_out())
             }
@@ -240,7 +250,12 @@ impl Core {
             Change::Add(row) => {
                 self.world.add_prepared(row);
             }
-            Change::Update { moment, place, deadline, tags } => {
+            Change::Update {
+                moment,
+                place,
+                deadline,
+                tags,
+            } => {
                 self.world.update(place, deadline, tags, moment);
             }
             Change::End { moment, place } => self.world.retire(place, moment),

@@ -181,7 +181,7 @@ pub(crate) fn show_updated(
     requires tags { ForSome tags.now (All IsPair) }
     ensures { (row : Invocation) → slice_get world.now.world.invocations place ≡ Some row
         → IfOk result (λ answer. answer ≡ showing world.now.world place
-            (updated deadline tags.now row)) }
+        (updated deadline tags.now row)) }
 {
     let included = ids_at(alloc, world, world.included(place))?;
     let row = world.row(place);
@@ -201,9 +201,14 @@ pub(crate) fn show_ended(
     requires { at.place < length world.now.world.invocations }
     ensures { (row : Invocation) → slice_get world.now.world.invocations at.place ≡ Some row
         → IfOk result (λ answer. answer ≡ showing world.now.world at.place
-            (ended_if is_final at.moment (begun at.moment row))) }
+        (ended_if is_final at.moment (begun at.moment row))) }
 {
     let included = ids_at(alloc, world, world.included(at.place))?;
-    let shown = shown_ended(world.row(at.place), at.moment, is_final, included.as_slice());
+    let shown = shown_ended(
+        world.row(at.place),
+        at.moment,
+        is_final,
+        included.as_slice(),
+    );
     done_showing(alloc, None, shown)
 }

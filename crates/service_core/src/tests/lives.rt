@@ -1,5 +1,5 @@
 //! Invocations that include one another, change and end, each at its time.
-use super::{bytes, core_of, shown, SAMPLE};
+use super::{SAMPLE, bytes, core_of, shown};
 use crate::Core;
 use call_forms::Asked;
 use lists::Bytes;
@@ -647,7 +647,12 @@ fn tell(rt: &impl Abort, alloc: Global, core: &mut Core, turn: &Turn) -> Result<
     let now = 1_700_000_000_000_000 + turn.at * 1_000_000;
     let told = core.serve(alloc, now, &asked(alloc, turn)?);
     let answer = shown(&told);
-    assert_eq!(rt; (answer.0, answer.1), (turn.status, turn.code), "at {}", turn.text);
+    assert_eq!(rt;
+        (answer.0, answer.1),
+        (turn.status, turn.code),
+        "at {}",
+        turn.text
+    );
     assert_eq!(rt; answer.2, turn.text.as_bytes(), "at {}", turn.text);
     Ok(())
 }
