@@ -28,11 +28,6 @@ read_lines head n lines h e x =
     let pair : ◌≡◌ {A = ℕ × ℕ} (n, lines) (length (print_request h), length h.fields) = cc in
     ap (λ (p : ℕ × ℕ). p.1) pair
 
--- a head's target is text
-pub target_text : (head : List ℕ) (headers : List HeaderSpan) (r : RequestSpans) (h : RequestHead) → IsRequestAt head headers r h → ReadsRequest head h []
-    → IsUtf8 (span_bytes head r.path)
-target_text head headers r h at x = subst IsUtf8 (sym at.path) x.0.target_text
-
 -- ---- faults
 
 pub too_many : (head : List ℕ) (lines : ℕ) → header_limit < lines → IsFaulty head lines TooManyHeaders

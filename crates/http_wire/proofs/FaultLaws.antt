@@ -5,7 +5,7 @@ use Rattle.std.specs.List.{AllByRecursion}
 use Rattle.std.proofs.lemmas.Bool.{ltb-false}
 use Rattle.httparse.specs.Grammar.{RequestHead}
 use Rattle.http_wire.specs.Form.{body_length, body_limit}
-use Rattle.http_wire.specs.Faults.{Sign, sign, first_there, header_limit, head_signs, Front, signs_of}
+use Rattle.http_wire.specs.Faults.{Sign, sign, first_there, header_limit, head_signs}
 use Rattle.http_wire.specs.declared.message.WireFault.{WireFault}
 use Rattle.http_wire.specs.declared.message.WireFault.TheVariants.{CutShort, ReadFault, Memory}
 
@@ -47,21 +47,6 @@ of_first P (s ∷ xs) fault all some = by s.is_there (of_first P xs fault all.1)
     by false others some = others some
 
 -- ---- which faults can come
-
--- a fault of a stream of so many bytes
-abbrev pub IsOwn : ℕ → WireFault → Type 0
-IsOwn count (CutShort have) = have ≡ count
-IsOwn count ReadFault = ⊥
-IsOwn count Memory = ⊥
-IsOwn count fault = Unit {0}
-
-pub own_fault : (bytes : List ℕ) (front : Option Front) (fault : WireFault) → first_there (signs_of bytes front) ≡ Some fault → IsOwn (length bytes) fault
-own_fault bytes None fault first = of_first (IsOwn (length bytes)) (signs_of bytes None) fault (tt, (refl, tt)) first
-own_fault bytes (Some f) fault first = of_first (IsOwn (length bytes)) (signs_of bytes (Some f)) fault (all f.read) first
-  where
-    all : (read : Option RequestHead) → AllByRecursion (λ s. IsOwn (length bytes) s.fault) (signs_of bytes (Some (record f { read = read })))
-    all None = (tt, (tt, (refl, tt)))
-    all (Some h) = (tt, (tt, (tt, (tt, (tt, (tt, (refl, tt)))))))
 
 -- a fault of a whole head
 abbrev pub IsOfHead : WireFault → Type 0

@@ -17,7 +17,7 @@ use Rattle.http_wire.specs.declared.message.End.TheVariants.{Finished, Closed, F
 use Rattle.http_wire.specs.declared.message.WireFault.{WireFault}
 use Rattle.http_wire.specs.declared.message.WireFault.TheVariants.{HeadTooLong, CutShort}
 use Rattle.http_wire.specs.Says.{IsMessageOf}
-use Rattle.http_wire.proofs.FaultLaws.{first-append, first-front, first_either, own_fault, IsNoCut, not_cut, few_lines}
+use Rattle.http_wire.proofs.FaultLaws.{first-append, first-front, first_either, IsNoCut, not_cut, few_lines}
 use Rattle.http_wire.proofs.ScanLaws.{end_of_head}
 use Rattle.http_wire.proofs.SaysLaws.{same_fronts, one_message}
 use Rattle.http_wire.proofs.RequestLaws.{request_is_head}

@@ -1,10 +1,8 @@
 -- A core and its clock go on by one call.
-use Rattle.std.proofs.Common.{◌≡◌, ℕ, ℤ, List, [], ◌∷◌, ◌++◌, map, refl, sym, ap, ◌∙◌, subst}
+use Rattle.std.proofs.Common.{◌≡◌, ℕ, ℤ, List, [], ◌∷◌, ◌++◌, map, refl, sym, ap, ◌∙◌}
 use Rattle.std.proofs.lemmas.List.{map-append}
 use Rattle.std.specs.List.{AllByRecursion}
-use Rattle.request_rules.specs.Settings.{Settings}
 use Rattle.service_core.specs.CoreState.{CoreState}
-use Rattle.invocation_world.specs.World.{World}
 use Rattle.service_core.specs.Step.{moment_of}
 use Rattle.service_core.specs.History.{Entry, Serves}
 use Rattle.call_forms.specs.declared.asked.Asked.{Asked}
@@ -37,7 +35,7 @@ pub moves_more : (first now after : CoreState) (tf tn ta : List ℤ → Type 0) 
     → Moves first tf (exchanges ++ record { asked = asked; told = told } ∷ []) after ta
 moves_more first now after tf tn ta exchanges answer asked told before serves settings clocked =
     let e : Entry = record { seat = 0; moment = moment_of now.world.last answer; asked = asked; told = told } in
-    let leads = subst (λ (s : Settings). Serves s now.world answer asked told after.world) before.settings serves in
+    let leads = rw before.settings at serves in
     record {
       history = before.history ++ e ∷ [];
       answers = before.answers ++ answer ∷ [];
