@@ -17,11 +17,11 @@ eqb_same m n e = (Decides-eqb m n).1 e
 pub eqb_other : (m n : ℕ) → m ≢ n → nat_eq m n ≡ false
 eqb_other m n other = elim (cases_Bool (nat_eq m n)) [ inl same ↦ absurd (other ((Decides-eqb m n).0 same)) | inr no_ ↦ no_ ]
 
-own : (edge : Edge) (edges : List Edge) (node : ℕ) → edge.from ≡ node → targets_of (edge ∷ edges) node ≡ edge.to ∷ targets_of edges node
+pub own : (edge : Edge) (edges : List Edge) (node : ℕ) → edge.from ≡ node → targets_of (edge ∷ edges) node ≡ edge.to ∷ targets_of edges node
 own edge edges node e =
     ap (λ o. cons_option o (targets_of edges node)) (cond-true (nat_eq edge.from node) (Some edge.to) None (eqb_same edge.from node e))
 
-other : (edge : Edge) (edges : List Edge) (node : ℕ) → edge.from ≢ node → targets_of (edge ∷ edges) node ≡ targets_of edges node
+pub other : (edge : Edge) (edges : List Edge) (node : ℕ) → edge.from ≢ node → targets_of (edge ∷ edges) node ≡ targets_of edges node
 other edge edges node e =
     ap (λ o. cons_option o (targets_of edges node)) (cond-false (nat_eq edge.from node) (Some edge.to) None (eqb_other edge.from node e))
 
@@ -85,7 +85,7 @@ no_edges [] node h = refl
 no_edges (x ∷ xs) node h =
     other x xs node (All-head (λ (e : Edge). e.from ≢ node) x xs h) ∙ no_edges xs node (All-tail (λ (e : Edge). e.from ≢ node) x xs h)
 
-others_edges : (from node : ℕ) (ts : List ℕ) → from ≢ node → targets_of (edges_from from ts) node ≡ []
+pub others_edges : (from node : ℕ) (ts : List ℕ) → from ≢ node → targets_of (edges_from from ts) node ≡ []
 others_edges from node [] away = refl
 others_edges from node (t ∷ ts) away =
     other (record { from = from; to = t }) (edges_from from ts) node away ∙ others_edges from node ts away

@@ -1,4 +1,5 @@
 pub mod EdgeLemmas
+pub mod FreshLemmas
 pub mod LinkLemmas
 pub mod ListLemmas
 pub mod SearchLemmas

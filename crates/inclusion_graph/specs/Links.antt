@@ -1,9 +1,9 @@
 -- The code's own words for links from each edge to the next one to the same node.
-use Rattle.std.specs.Prelude.{◌≡◌, ℕ, ◌+◌, ◌<◌, List, [], Option, Some, None, drop, length, slice_get}
+use Rattle.std.specs.Prelude.{◌≡◌, ℕ, ◌+◌, ◌<◌, List, [], Option, Some, None, Contains, drop, length, slice_get}
 use Rattle.std.specs.List.{All}
 use Rattle.inclusion_graph.specs.declared.edge.Edge.{Edge}
 use Rattle.inclusion_graph.specs.declared.edge_list.Ends.{Ends}
-use Rattle.inclusion_graph.specs.Edges.{IsFirstTo, sources_of}
+use Rattle.inclusion_graph.specs.Edges.{HasEdge, IsFirstTo, sources_of}
 
 -- no edge leads to the node, or these are the places of the first and of the last one
 abbrev pub HasEnds : List Edge → ℕ → Option Ends → Type 0
@@ -24,3 +24,9 @@ pub record AreLinked (edges : List Edge) (next : List (Option ℕ)) (ends : List
 abbrev pub ends_with : Option Ends → ℕ → Ends
 ends_with None place = record { first = place; last = place }
 ends_with (Some ends) place = record { first = ends.first; last = place }
+
+-- the sources of the node to before some place were gone over, and the node from wasn't among them
+pub record IsSought (edges : List Edge) (from to : ℕ) (next : Option ℕ) : Type 0 where
+  pub start : ℕ
+  pub first : IsFirstTo edges to start next
+  pub left : HasEdge edges from to → Contains (sources_of (drop start edges) to) from

@@ -1,5 +1,5 @@
 -- The code's own words for a search, which goes from node to node.
-use Rattle.std.specs.Prelude.{◌≡◌, ℕ, suc, ◌+◌, ◌<◌, ◌≤◌, Bool, true, false, List, [], ◌∷◌, ◌++◌, Option, Some, MatchOption, length, map, slice_get, slice_index_or, Contains, Vec, ◌↔◌}
+use Rattle.std.specs.Prelude.{◌≡◌, ℕ, suc, ◌+◌, ◌<◌, ◌≤◌, ◌⊎◌, Bool, true, false, List, [], ◌∷◌, ◌++◌, Option, Some, MatchOption, length, map, slice_get, slice_index_or, Contains, Vec, ◌↔◌}
 use Rattle.std.specs.List.{All}
 use Rattle.std.specs.List.Sorted.{IsStrictlyIncreasing}
 use Rattle.std.specs.declared.alloc.Global.{Global}
@@ -19,6 +19,11 @@ unmarked (false ∷ marks) = suc (unmarked marks)
 abbrev pub HasMarks : List Bool → ℕ → List ℕ → Type 0
 HasMarks marks below numbers =
     (length marks ≡ below) × ((number : ℕ) → number < below → slice_index_or marks number false ≡ has numbers number)
+
+-- marks for the targets that were named so far; the list has these, and those to which an edge leads from the node
+pub record IsJoined (edges : List Edge) (from below : ℕ) (named : List ℕ) (marks : List Bool) (all : List ℕ) : Type 0 where
+  pub says : HasMarks marks below named
+  pub there : (node : ℕ) → Contains all node ↔ (HasEdge edges from node ⊎ Contains named node)
 
 -- marked are just the nodes that are found
 pub record IsMarked (marks : List Bool) (steps : List Step) : Type 0 where

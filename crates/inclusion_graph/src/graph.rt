@@ -9,7 +9,8 @@ ghost use Rattle.inclusion_graph.specs.Walks.{IsReached, Leads, Reaches};
 
 use crate::edge::Edge;
 use crate::edge_list::EdgeList;
-use crate::plan::{EdgeFault, EdgePlan, joined, place_of};
+use crate::fresh::append_new;
+use crate::plan::{EdgeFault, EdgePlan, place_of};
 use crate::search::Search;
 use std::alloc::{AllocError, Global};
 use std::marker::Model;
@@ -25,12 +26,13 @@ const MOST_NODES: usize = 4_294_967_295;
 pub struct Graph {
     edges: EdgeList,
     targets: Vec<Vec<u32>>,
+    marks: Vec<bool>,
 }
 
 impl Model for Graph {
-    ghost use Rattle.std.specs.Prelude.{◌≡◌, ◌-◌, min, length, vec_len, vec_capacity};
+    ghost use Rattle.std.specs.Prelude.{◌≡◌, ◌-◌, [], min, length, vec_len, vec_capacity};
     ghost use Rattle.inclusion_graph.specs.Edges.{GraphState};
-    ghost use Rattle.inclusion_graph.specs.Searches.{IsListed};
+    ghost use Rattle.inclusion_graph.specs.Searches.{HasMarks, IsListed};
 
     ghost Value = { GraphState };
 
@@ -38,12 +40,13 @@ impl Model for Graph {
       nodes = length g.targets.items;
       edges = g.edges.edges;
       spare_nodes = min (min (vec_capacity g.targets) 4_294_967_295 - vec_len g.targets)
-          g.edges.spare_nodes;
+          (min g.edges.spare_nodes (vec_capacity g.marks - vec_len g.marks));
       spare_edges = g.edges.spare_edges;
     } };
 
     ghost invariant = { λ g. IsListed g.edges.edges g.targets.items
-        × (g.edges.nodes ≡ length g.targets.items) };
+        × (g.edges.nodes ≡ length g.targets.items)
+        × HasMarks g.marks.items (length g.targets.items) [] };
 }
 
 impl Graph {
@@ -55,6 +58,7 @@ impl Graph {
         Ok(Graph {
             edges: EdgeList::new(alloc),
             targets: Vec::new(alloc),
+            marks: Vec::new(alloc),
         })
     }
 
@@ -123,6 +127,7 @@ impl Graph {
             return Err(AllocError);
         }
         self.targets.reserve(nodes as usize)?;
+        self.marks.reserve(nodes as usize)?;
         self.edges.reserve(nodes as usize, edges as usize)?;
         Ok(())
     }
@@ -139,6 +144,7 @@ impl Graph {
         let number = self.targets.len() as u32;
         let none = Vec::new(*self.targets.allocator());
         self.targets.push_reserved(none);
+        self.marks.push_reserved(false);
         self.edges.add_node();
         number
     }
@@ -170,7 +176,9 @@ impl Graph {
         }
         let held = self.targets(from);
         let count = held.len();
-        let all = joined(alloc, self.targets.len(), held, targets)?;
+        let mut all = Vec::with_capacity(alloc, count + targets.len())?;
+        all.extend_from_slice(held)?;
+        append_new(&self.edges, from, targets, &mut self.marks, &mut all);
         if all.len() - count > MOST_EDGES - self.edges.len() {
             return Err(EdgeFault::Full {
                 count: self.edges.len() as u32,

@@ -1,6 +1,7 @@
 //! Graphs and walks, also beside turns over all edges.
 ghost use Rattle.std.specs.Prelude.{◌<◌, IsTrue, All};
 
+use crate::plain::joined;
 use crate::{Edge, EdgeFault, Graph};
 use std::alloc::{AllocError, Global};
 use std::test::Fail;
@@ -10,6 +11,22 @@ const INCLUSIONS: [(u32, &[u32]); 5] = [(2, &[1, 0]), (0, &[1]), (1, &[2]), (3, 
 
 /// The sources of each node then.
 const SOURCES: [(u32, &[u32]); 4] = [(0, &[2]), (1, &[2, 0, 3]), (2, &[1, 0]), (3, &[])];
+
+/// Inclusions that are asked for in turn, and how many of them are new. At some the node has more
+/// targets than the target has sources, at others fewer.
+const ASKED: [(u32, &[u32], usize); 11] = [
+    (0, &[1, 2, 1], 2),
+    (0, &[2, 4, 1, 4], 1),
+    (0, &[1], 0),
+    (1, &[4, 0], 2),
+    (2, &[4, 3, 4], 2),
+    (3, &[4], 1),
+    (3, &[4, 0, 4], 1),
+    (3, &[0, 4], 0),
+    (4, &[3, 2, 1, 0], 4),
+    (4, &[0, 3, 0], 0),
+    (2, &[], 0),
+];
 
 /// A graph of so many nodes.
 fn graph_of(alloc: Global, nodes: u32) -> Result<Graph, AllocError> {
@@ -43,6 +60,31 @@ fn add(alloc: Global, graph: &mut Graph, from: u32, targets: &[u32]) -> Result<u
     let plan = graph.prepare_edges(alloc, from, targets)?;
     graph.add_edges(plan);
     Ok(graph.edges().len().saturating_sub(before))
+}
+
+/// Adds edges. Whether as many are new as said, and the targets are those that marks for all nodes
+/// give.
+fn is_planned(
+    alloc: Global,
+    graph: &mut Graph,
+    from: u32,
+    targets: &[u32],
+    new: usize,
+) -> Result<bool, EdgeFault> {
+    let nodes = graph.nodes();
+    if from >= nodes || !are_below(nodes, targets) {
+        return Ok(false);
+    }
+    let held = graph.targets(from).len();
+    let all = joined(alloc, nodes as usize, graph.targets(from), targets)?;
+    let plan = graph.prepare_edges(alloc, from, targets)?;
+    let is_empty = plan.is_empty();
+    graph.add_edges(plan);
+    Ok(
+        graph.targets(from) == all.as_slice()
+            && all.len().saturating_sub(held) == new
+            && is_empty == (new == 0),
+    )
 }
 
 /// What is reached, by as many turns over all edges as there are nodes.
@@ -180,6 +222,17 @@ fn sources_in_order_of_arrival(rt: HostRuntime) -> Result<(), Fail> {
     }
     for (node, sources) in SOURCES {
         assert!(rt; has_sources(alloc, &graph, node, sources)?, "{node}");
+    }
+    Ok(())
+}
+
+#[test]
+fn new_targets_beside_marks_for_all_nodes(rt: HostRuntime) -> Result<(), Fail> {
+    let alloc = rt.alloc();
+    let mut graph = graph_of(alloc, 5)?;
+    for (from, targets, new) in ASKED {
+        let planned = is_planned(alloc, &mut graph, from, targets, new);
+        assert_eq!(rt; planned, Ok(true), "{from}");
     }
     Ok(())
 }

@@ -1,10 +1,10 @@
-use Rattle.std.proofs.Common.{ℕ, List, ◌++◌, take, drop, sym, ap, ◌∙◌, subst}
+use Rattle.std.proofs.Common.{ℕ, List, [], ◌++◌, take, drop, sym, ap, ◌∙◌, subst}
 use Rattle.std.specs.List.{slice_set}
 use Rattle.std.proofs.lemmas.List.{length-set, take-append-drop, take_rest}
 use Rattle.inclusion_graph.specs.declared.edge.Edge.{Edge}
 use Rattle.inclusion_graph.specs.Edges.{GraphState, edges_from}
 use Rattle.inclusion_graph.specs.Plans.{Fits, PlanState}
-use Rattle.inclusion_graph.specs.Searches.{IsListed}
+use Rattle.inclusion_graph.specs.Searches.{HasMarks, IsListed}
 use Rattle.inclusion_graph.proofs.EdgeLemmas.{listed_edges}
 use Rattle.inclusion_graph.proofs.graph.Graph.add_edges.Goals as goal
 
@@ -23,4 +23,5 @@ invariant_of-self c =
           (listed_edges edges lists plan.from (drop plan.held all) plan.all c.self.invariant.0 fits.from
           (sym (take-append-drop plan.held all) ∙ ap (λ front. front ++ drop plan.held all) fits.held) fits.targets fits.few),
       c.add_from.ensures.nodes ∙ c.self.invariant.1 ∙ sym (length-set lists plan.from plan.all),
+      subst (λ n. HasMarks c.self.inside.marks.items n []) (sym (length-set lists plan.from plan.all)) c.self.invariant.2,
     )

@@ -1,7 +1,7 @@
 use Rattle.std.proofs.Common.{◌≡◌, ◌++◌, vec_len, drop}
 use Rattle.inclusion_graph.specs.Edges.{fresh}
 use Rattle.inclusion_graph.specs.Searches.{HasMarks}
-use Rattle.inclusion_graph.proofs.plan.joined.Given as goal
+use Rattle.inclusion_graph.proofs.plain.joined.Given as goal
 
 abbrev pub invariant-loop-number : goal.invariant-loop-number
 invariant-loop-number l = record {
