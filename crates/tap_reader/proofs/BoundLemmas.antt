@@ -200,7 +200,7 @@ counted-below n zero (l ∷ ls) =
     (given-below n (said_by l) ls (line-below l)) (counted-below (n + 1) (passed_over (said_by l) ls) ls)
 counted-below n (suc pass) (l ∷ ls) = counted-below (n + 1) pass ls
 
-number_behind-below : (b n : ℕ) (o : Option ℕ) → 2 ^ 40 ≤ b → n < b → IfSome o (λ m. m < 2 ^ 40) → unwrap_or o (n + 1) < b + 1
+pub number_behind-below : (b n : ℕ) (o : Option ℕ) → 2 ^ 40 ≤ b → n < b → IfSome o (λ m. m < 2 ^ 40) → unwrap_or o (n + 1) < b + 1
 number_behind-below b n None h p q = omega arith
 number_behind-below b n (Some m) h p q = omega arith
 
@@ -229,7 +229,7 @@ kept : (t : Bool) (b : ℕ) (l : Line) (ls ms : List Line) → IsBelow b l.said 
 kept true b l ls ms p q h = ((p, q), omega arith)
 kept false b l ls ms p q h = (q, omega arith)
 
-filter-below : (b : ℕ) (ls : List Line) → AllBelow b ls → AllBelow b (filter in_tree ls) × (length (filter in_tree ls) ≤ length ls)
+pub filter-below : (b : ℕ) (ls : List Line) → AllBelow b ls → AllBelow b (filter in_tree ls) × (length (filter in_tree ls) ≤ length ls)
 filter-below b [] h = (tt, omega arith)
 filter-below b (l ∷ ls) h =
     let ih = filter-below b ls h.1 in

@@ -10,7 +10,7 @@ use Rattle.tap_reader.specs.Reports.{Reads, ReadsLines, ReadsText, counted_in, j
 use Rattle.tap_reader.specs.Laws.{OneOutcome, OneTree, SomeOutcome}
 use Rattle.tap_reader.proofs.StreamLemmas.{Deeper, Deeper-append}
 use Rattle.tap_reader.proofs.OutcomeLemmas.{is_tree, tree_in}
-use Rattle.tap_reader.proofs.TreeLemmas.{put}
+use Rattle.tap_reader.specs.Growing.{put}
 
 -- a tree at a level with these lines more in front
 plant : ℕ → List Line → Stream → Stream

@@ -9,3 +9,5 @@ pub mod CaseLemmas
 pub mod OutcomeLemmas
 pub mod LawLemmas
 pub mod BoundLemmas
+pub mod FitLemmas
+pub mod PlainLemmas

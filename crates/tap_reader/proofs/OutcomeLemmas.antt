@@ -17,7 +17,8 @@ use Rattle.tap_reader.specs.Reports.{ReadsLines, judged}
 use Rattle.tap_reader.proofs.StreamLemmas.{fold_append, own_written, report_run, st, whole, written}
 use Rattle.tap_reader.proofs.RunLemmas.{NoneHigher, own_run}
 use Rattle.tap_reader.proofs.CaseLemmas.{report_listed}
-use Rattle.tap_reader.proofs.TreeLemmas.{IsAt-tree, lines-tree, tree_of}
+use Rattle.tap_reader.specs.Growing.{tree_of}
+use Rattle.tap_reader.proofs.TreeLemmas.{IsAt-tree, lines-tree}
 
 -- the tree of the lines that count
 abbrev pub tree_in : List Line → Stream

@@ -2,17 +2,7 @@
 use Rattle.std.proofs.Common.{◌≡◌, ◌≢◌, ℕ, zero, suc, ◌+◌, ◌-◌, ◌<◌, ◌≤◌, List, [], ◌∷◌, ◌++◌, length, refl, sym, ap, ◌∙◌, append_assoc, append-nil, arith}
 use Rattle.tap_reader.specs.Counted.{Line}
 use Rattle.tap_reader.specs.Streams.{Stream, Ends, Unfinished, Goes, IsAt, lines_of}
-
--- the tree with a line more in front, so many levels below its own
-unfoldable pub put : ℕ → Line → Stream → Stream
-put zero l t = Goes Ends l t
-put (suc d) l Ends = Unfinished (put d l Ends)
-put (suc d) l (Unfinished sub) = Unfinished (put d l sub)
-put (suc d) l (Goes sub m rest) = Goes (put d l sub) m rest
-
-pub tree_of : List Line → Stream
-tree_of [] = Ends
-tree_of (l ∷ ls) = put l.level l (tree_of ls)
+use Rattle.tap_reader.specs.Growing.{put, tree_of}
 
 lines-put : (d : ℕ) (l : Line) (t : Stream) → lines_of (put d l t) ≡ l ∷ lines_of t
 unfolding put

@@ -16,3 +16,5 @@ pub mod MarkWords
 pub mod MessageWords
 pub mod Naming
 pub mod NamingViews
+pub mod Growing
+pub mod PlainViews

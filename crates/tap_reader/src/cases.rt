@@ -119,7 +119,7 @@ fn case_of_point(
 
 /// The case of a number that no point has.
 #[tactic(auto, unfolding(crate::specs::Cases::missing_case, crate::specs::Cases::name_in))]
-fn case_of_missing(alloc: Global, path: &[Says], number: u64) -> Result<Case, AllocError>
+pub(crate) fn case_of_missing(alloc: Global, path: &[Says], number: u64) -> Result<Case, AllocError>
     ensures { IfOk result (λ c. c ≡ missing_case (names_of path.now) number) }
 {
     let mut name = read_path(alloc, path)?;
@@ -134,7 +134,11 @@ fn case_of_missing(alloc: Global, path: &[Says], number: u64) -> Result<Case, Al
 }
 
 /// The case of a line, if it has one.
-fn case_of(alloc: Global, path: &[Says], entry: &Entry) -> Result<Option<Case>, AllocError>
+pub(crate) fn case_of(
+    alloc: Global,
+    path: &[Says],
+    entry: &Entry,
+) -> Result<Option<Case>, AllocError>
     ensures { IfOk result (λ c. option_to_list c
         ≡ case_said (names_of path.now) (line_of entry.now).level (line_of entry.now).said) }
 {

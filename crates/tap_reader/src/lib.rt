@@ -14,6 +14,7 @@ pub mod laws;
 mod lines;
 mod marks;
 mod messages;
+mod plain;
 mod reading;
 mod reports;
 #[cfg(test)]
@@ -21,4 +22,5 @@ mod tests;
 
 pub use faults::TapFault;
 pub use names_realms::{Bytes, Case, Status};
+pub use plain::plain_report;
 pub use reports::read_report;

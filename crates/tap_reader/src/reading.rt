@@ -3,6 +3,7 @@ ghost use Rattle.std.specs.Prelude.{◌≡◌, ◌+◌, ◌≤◌, ◌<◌, ◌^
 ghost use Rattle.tap_reader.specs.Lines.{lines};
 ghost use Rattle.tap_reader.specs.LineForms.{said_by};
 ghost use Rattle.tap_reader.specs.Counted.{counted, found_in, given, lines_found, until_end, with_found};
+ghost use Rattle.tap_reader.specs.Bounds.{AllBelow};
 ghost use Rattle.tap_reader.specs.Entries.{line_of, test_of};
 ghost use Rattle.tap_reader.specs.ReadingWords.{IsDiagnostic, counted_behind};
 
@@ -164,6 +165,7 @@ pub(crate) fn read_lines<'a>(
 ) -> Result<Vec<Entry<'a>>, AllocError>
     requires { first + length text.now < 2 ^ 64 }
     ensures lines { IfOk result (λ v. map line_of v.items ≡ counted first 0 (lines text.now)) }
+    ensures below { IfOk result (λ v. AllBelow (2 ^ 40) (map line_of v.items)) }
     ensures room { IfOk result (λ v. length v.items < 2 ^ 63) }
 {
     let mut entries = Vec::new(alloc);

@@ -7,7 +7,7 @@ ghost use Rattle.tap_reader.specs.Bounds.{AllBelow};
 ghost use Rattle.tap_reader.specs.Entries.{line_of};
 ghost use Rattle.tap_reader.specs.Streams.{first_alone, is_bail, line_fault, plan_of};
 ghost use Rattle.tap_reader.specs.Completing.{at_level};
-ghost use Rattle.tap_reader.specs.Reports.{Reads, ReadsLines, after_version, begins_version, is_blank, is_version, text_fault};
+ghost use Rattle.tap_reader.specs.Reports.{Reads, ReadsLines, after_version, begins_version, counted_in, is_blank, is_version, text_fault};
 
 use crate::TapFault;
 use crate::cases::name_cases;
@@ -93,6 +93,23 @@ fn skip_version(text: &[u8]) -> Option<(usize, &[u8])>
     None
 }
 
+/// The text behind the version line of a report, and the number of its first line.
+pub(crate) fn open_report(bytes: &[u8]) -> Result<(usize, &[u8]), TapFault>
+    ensures text { IfOk result (λ p. text_fault bytes.now ≡ None) }
+    ensures lines { IfOk result (λ p. counted_in bytes.now
+        ≡ Some (counted p.0 0 (lines p.1.now))) }
+    ensures within { IfOk result (λ p. p.0 + length p.1.now < 2 ^ 33) }
+    ensures err { IfErr result (λ f. Reads bytes.now (Err f)) }
+{
+    if let Some(at) = find_no_text(bytes) {
+        return Err(TapFault::NotText { at });
+    }
+    match skip_version(bytes) {
+        Some(opened) => Ok(opened),
+        None => Err(TapFault::NoVersion),
+    }
+}
+
 /// The fault of a line by itself, before which the plans have this sum.
 fn fault_alone(sum: u64, entry: &Entry) -> Option<TapFault>
     requires { sum ≤ 1000000 }
@@ -110,7 +127,7 @@ fn fault_alone(sum: u64, entry: &Entry) -> Option<TapFault>
 }
 
 /// The fault of the first line that has one by itself.
-fn find_alone(entries: &[Entry]) -> Option<TapFault>
+pub(crate) fn find_alone(entries: &[Entry]) -> Option<TapFault>
     ensures { result ≡ first_alone 0 (map line_of entries.now) }
 {
     let mut sum: u64 = 0;
@@ -127,7 +144,7 @@ fn find_alone(entries: &[Entry]) -> Option<TapFault>
 }
 
 /// Whether the run was given up.
-fn has_bail(entries: &[Entry]) -> bool
+pub(crate) fn has_bail(entries: &[Entry]) -> bool
     ensures { result ≡ list_any (λ l. is_bail l.said) (map line_of entries.now) }
 {
     for entry in entries {
@@ -173,12 +190,7 @@ pub fn read_report(alloc: Global, bytes: &[u8]) -> Result<Vec<Case>, TapFault>
     ensures ok { IfOk result (λ cases. Reads bytes.now (Ok cases.items)) }
     ensures err { IfErr result (λ f. f ≢ TapFault.Memory → Reads bytes.now (Err f)) }
 {
-    if let Some(at) = find_no_text(bytes) {
-        return Err(TapFault::NotText { at });
-    }
-    let Some((first, text)) = skip_version(bytes) else {
-        return Err(TapFault::NoVersion);
-    };
+    let (first, text) = open_report(bytes)?;
     let entries = read_lines(alloc, first, text)?;
     read_counted(alloc, &entries)
 }

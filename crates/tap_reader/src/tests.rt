@@ -1,5 +1,5 @@
 //! Reports, and what they give, by the rules of TAP 14 and of the profile.
-use crate::{Case, Status, TapFault, read_report};
+use crate::{Case, Status, TapFault, plain_report, read_report};
 use std::alloc::Global;
 use std::str::from_utf8;
 use std::test::Fail;
@@ -180,28 +180,40 @@ fn place(fault: TapFault) -> usize {
 }
 
 /// What a report gives, as text.
-fn told(alloc: Global, report: &[u8]) -> Result<String, Fail> {
+fn told(alloc: Global, outcome: &Result<Vec<Case>, TapFault>) -> Result<String, Fail> {
     let mut out = String::new(alloc);
-    match read_report(alloc, report) {
+    match outcome {
         Ok(cases) => {
-            for case in &cases {
+            for case in cases {
                 told_case(&mut out, case)?;
             }
         }
         Err(fault) => {
             out.push_str(fault.name())?;
             out.push_str(" ")?;
-            out.push_str(place(fault).to_string(alloc)?.as_str())?;
+            out.push_str(place(*fault).to_string(alloc)?.as_str())?;
         }
     }
     Ok(out)
 }
 
+/// Whether the reader and the plain reader both give this of a report.
+fn both_give(alloc: Global, report: &[u8], wanted: &str) -> Result<bool, Fail> {
+    let fast = told(alloc, &read_report(alloc, report))?;
+    let plain = told(alloc, &plain_report(alloc, report))?;
+    Ok(fast.as_str() == wanted && plain.as_str() == wanted)
+}
+
 #[test]
-fn reports_give_their_cases_or_first_fault(rt: HostRuntime) -> Result<(), Fail> {
+fn both_readers_give_the_cases_or_the_first_fault(rt: HostRuntime) -> Result<(), Fail> {
     for (report, wanted) in REPORTS {
-        let found = told(rt.alloc(), report.as_bytes())?;
-        assert!(rt; found.as_str() == wanted, "{report:?} gave {found:?}");
+        assert!(rt;
+            both_give(rt.alloc(), report.as_bytes(), wanted)?,
+            "{report:?}"
+        );
+    }
+    for (report, wanted) in NO_TEXTS {
+        assert!(rt; both_give(rt.alloc(), report, wanted)?, "{report:?}");
     }
     Ok(())
 }
@@ -217,9 +229,6 @@ const NO_TEXTS: [(&[u8], &str); 4] = [
 #[test]
 fn bounds_are_kept(rt: HostRuntime) -> Result<(), Fail> {
     let alloc = rt.alloc();
-    for (report, wanted) in NO_TEXTS {
-        assert!(rt; told(alloc, report)?.as_str() == wanted, "{wanted}");
-    }
     let all = read_report(alloc, b"TAP version 14\n    1..400000\nok\n1..600000\n");
     assert!(rt; all.map_or(0, |cases| cases.len()) == 1_000_000);
     let more = read_report(alloc, b"TAP version 14\n    1..400000\nok\n1..600001\n");
