@@ -1,5 +1,5 @@
 mod ByteLemmas
-mod DocumentLemmas
+pub mod DocumentLemmas
 mod MessageLemmas
 mod RunLaws
 mod ShrinkLaws

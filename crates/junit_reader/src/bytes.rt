@@ -52,7 +52,7 @@ fn place_of_either(bytes: &[u8], first: u8, second: u8) -> Option<usize>
 }
 
 /// How much white space stands in front.
-pub(crate) fn white_len(bytes: &[u8]) -> usize
+pub fn white_len(bytes: &[u8]) -> usize
     ensures value { result ≡ run_len is_white bytes.now }
     ensures within { result ≤ length bytes.now }
 {

@@ -12,7 +12,7 @@ use std::alloc::Global;
 
 /// A construct of a report.
 #[derive(Debug, Drop)]
-pub(crate) enum Construct<'a> {
+pub enum Construct<'a> {
     /// Bytes up to the next `<` or `&`.
     Text(&'a [u8]),
     /// A reference to a character.
@@ -172,7 +172,7 @@ fn character(bytes: &[u8]) -> Result<(Construct<'_>, &[u8]), Unread>
 
 /// Reads the construct in front.
 #[tactic(auto, unfolding(crate::specs::Constructs::token_from))]
-pub(crate) fn read_construct(alloc: Global, bytes: &[u8]) -> Result<(Construct<'_>, &[u8]), Unread>
+pub fn read_construct(alloc: Global, bytes: &[u8]) -> Result<(Construct<'_>, &[u8]), Unread>
     ensures read { Gives (λ r. (token_of r.0, r.1.now)) result (token_from bytes.now) }
     ensures shorter { IfOk result (λ r. length r.1.now < length bytes.now) }
 {

@@ -18,7 +18,7 @@ pub enum Unsupported {
 
 /// What is wrong at a place.
 #[derive(Clone, Copy, Debug, PartialEq, Eq)]
-pub(crate) enum Cause {
+pub enum Cause {
     NotWellFormed,
     Unsupported(Unsupported),
     NoRoot,
@@ -29,14 +29,14 @@ pub(crate) enum Cause {
 
 /// What is wrong, and how many bytes there are from its place on.
 #[derive(Clone, Copy, Debug, PartialEq, Eq)]
-pub(crate) struct Flaw {
-    pub(crate) left: usize,
-    pub(crate) cause: Cause,
+pub struct Flaw {
+    pub left: usize,
+    pub cause: Cause,
 }
 
 /// Why reading stopped.
 #[derive(Clone, Copy, Debug, PartialEq, Eq)]
-pub(crate) enum Stop {
+pub enum Stop {
     Memory,
     Flawed(Flaw),
 }

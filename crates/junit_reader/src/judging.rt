@@ -15,10 +15,10 @@ use std::alloc::{AllocError, Global};
 
 /// Where a tag stands.
 #[derive(Clone, Copy, Debug)]
-pub(crate) struct Spot {
-    pub(crate) outer: Role,
-    pub(crate) has_root: bool,
-    pub(crate) depth: usize,
+pub struct Spot {
+    pub outer: Role,
+    pub has_root: bool,
+    pub depth: usize,
 }
 
 fn is_root_name(name: &[u8]) -> bool
@@ -166,7 +166,7 @@ fn first_flaw(attributes: &[Attribute<'_>]) -> Option<Flaw>
 }
 
 /// What is wrong with a tag, so many bytes before the end.
-pub(crate) fn tag_flaw(
+pub fn tag_flaw(
     alloc: Global,
     spot: Spot,
     left: usize,

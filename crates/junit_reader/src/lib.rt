@@ -7,6 +7,7 @@ mod faults;
 mod judging;
 pub mod laws;
 mod messages;
+pub mod parts;
 mod pending;
 mod reading;
 mod references;

@@ -30,7 +30,7 @@ pub(crate) struct Pending {
 }
 
 /// The text of an attribute, nothing where there is none.
-fn text_named(alloc: Global, tag: &Tag<'_>, name: &[u8]) -> Result<Vec<u8>, AllocError>
+pub fn text_named(alloc: Global, tag: &Tag<'_>, name: &[u8]) -> Result<Vec<u8>, AllocError>
     ensures { IfOk result (λ v. v.items ≡ text_named name.now (tag_text tag.now)) }
 {
     match named_text(alloc, tag, name) {
@@ -41,7 +41,7 @@ fn text_named(alloc: Global, tag: &Tag<'_>, name: &[u8]) -> Result<Vec<u8>, Allo
 }
 
 /// The duration of a case.
-fn case_duration(alloc: Global, tag: &Tag<'_>) -> Result<Option<Span>, AllocError>
+pub fn case_duration(alloc: Global, tag: &Tag<'_>) -> Result<Option<Span>, AllocError>
     ensures { IfOk result (λ d. d ≡ case_duration (tag_text tag.now)) }
 {
     let text = text_named(alloc, tag, b"time")?;
@@ -66,7 +66,7 @@ fn joined_name(class: Vec<u8>, name: Vec<u8>) -> Result<Vec<u8>, AllocError>
 }
 
 /// The name of a case.
-fn case_name(alloc: Global, tag: &Tag<'_>) -> Result<Vec<u8>, AllocError>
+pub fn case_name(alloc: Global, tag: &Tag<'_>) -> Result<Vec<u8>, AllocError>
     ensures { IfOk result (λ v. v.items ≡ case_name (tag_text tag.now)) }
 {
     let class = text_named(alloc, tag, b"classname")?;
@@ -75,7 +75,7 @@ fn case_name(alloc: Global, tag: &Tag<'_>) -> Result<Vec<u8>, AllocError>
 }
 
 /// What an error or a failure tells.
-fn told_by(alloc: Global, message: &[u8], text: &[u8]) -> Result<Bytes, AllocError>
+pub fn told_by(alloc: Global, message: &[u8], text: &[u8]) -> Result<Bytes, AllocError>
     ensures { IfOk result (λ b. b ≡ told_by message.now text.now) }
 {
     match message {

@@ -75,7 +75,7 @@ fn declaration(bytes: &[u8]) -> Option<&[u8]>
 }
 
 /// What stands behind a byte order mark and a declaration.
-fn document_of(bytes: &[u8]) -> &[u8]
+pub fn document_of(bytes: &[u8]) -> &[u8]
     ensures { result.now ≡ document_of bytes.now }
 {
     let bytes = behind_mark(bytes);
@@ -86,7 +86,7 @@ fn document_of(bytes: &[u8]) -> &[u8]
 }
 
 /// The first byte that is no UTF-8, or the one behind 64 MiB.
-fn text_place(bytes: &[u8]) -> usize
+pub fn text_place(bytes: &[u8]) -> usize
     ensures { result ≡ text_place bytes.now }
 {
     utf8_len(bytes).min(67_108_864)
@@ -115,7 +115,7 @@ fn ends_before(text: usize, len: usize, left: usize) -> bool
 }
 
 /// The fault of a report with a flaw, whose text ends at a place.
-fn fault_of(bytes: &[u8], flaw: Flaw) -> JunitFault
+pub fn fault_of(bytes: &[u8], flaw: Flaw) -> JunitFault
     requires { HasFlaw (document_of bytes.now) flaw }
     ensures { HasFault bytes.now result }
 {

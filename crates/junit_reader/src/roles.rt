@@ -4,7 +4,7 @@ ghost use Rattle.junit_reader.specs.Cases.{inner_of_case, inner_of_suite, inner_
 
 /// What an element is, by its name and by what it stands in.
 #[derive(Clone, Copy, Debug, PartialEq, Eq)]
-pub(crate) enum Role {
+pub enum Role {
     /// What stands outside every element.
     Top,
     /// The root `testsuites`.
@@ -64,7 +64,7 @@ fn inner_of_case(name: &[u8]) -> Role
 }
 
 /// What an element of this name is, directly in what has a role.
-pub(crate) fn role_in(outer: Role, name: &[u8]) -> Role
+pub fn role_in(outer: Role, name: &[u8]) -> Role
     ensures { result ≡ role_in outer name.now }
 {
     match outer {

@@ -10,18 +10,18 @@ use std::collections::BTreeSet;
 
 /// An attribute as it is written.
 #[derive(Clone, Copy, Debug)]
-pub(crate) struct Attribute<'a> {
-    pub(crate) name: &'a [u8],
-    pub(crate) value: &'a [u8],
+pub struct Attribute<'a> {
+    pub name: &'a [u8],
+    pub value: &'a [u8],
     /// How many bytes of the report there are from the value's first on.
-    pub(crate) left: usize,
+    pub left: usize,
 }
 
 /// A tag of an element.
 #[derive(Debug, Drop)]
-pub(crate) struct Tag<'a> {
-    pub(crate) name: &'a [u8],
-    pub(crate) attributes: Vec<Attribute<'a>>,
+pub struct Tag<'a> {
+    pub name: &'a [u8],
+    pub attributes: Vec<Attribute<'a>>,
 }
 
 /// Parts bytes at a place where the quote is to stand.

@@ -29,7 +29,7 @@ fn reference_at(left: usize, bytes: &[u8]) -> Result<(char, &[u8]), Flaw>
 }
 
 /// Appends a character.
-pub(crate) fn push_char(text: &mut Vec<u8>, c: char) -> Result<(), AllocError>
+pub fn push_char(text: &mut Vec<u8>, c: char) -> Result<(), AllocError>
     ensures { OnOk result (text.new.items ≡ text.old.items ++ encode_utf8 c) }
 {
     let mut buffer = [0u8; 4];

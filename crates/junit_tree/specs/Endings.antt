@@ -1,0 +1,11 @@
+-- How the code keeps the ending of a case.
+use Rattle.std.specs.Prelude.{◌≡◌}
+use Rattle.junit_reader.specs.Cases.{ending_of}
+use Rattle.junit_reader.specs.Tree.{Content}
+use Rattle.junit_tree.specs.declared.cases.Ending.{Ending}
+
+-- the ending of the case of this content
+pub record IsEndingOf (e : Ending) (own : Content) : Type 0 where
+  pub error : e.error ≡ (ending_of own).error
+  pub failure : e.failure ≡ (ending_of own).failure
+  pub is_skipped : e.is_skipped ≡ (ending_of own).is_skipped

@@ -1,0 +1,4 @@
+pub mod Seen
+pub mod Places
+pub mod Reading
+pub mod Endings

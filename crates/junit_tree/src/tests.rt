@@ -1,0 +1,1 @@
+//! Reports by rows: none yet.
