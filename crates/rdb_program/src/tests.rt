@@ -1,105 +1,290 @@
 //! Runs over ends in memory: what goes in, what comes out, and how it ends.
 use crate::run::run_program;
-use outside::{Failed, ListClock, MemorySink, MemorySource, Source};
+use outside::{ListClock, MemorySink, MemorySource, Source};
 use std::alloc::{AllocError, Global};
 use std::process::Abort;
 use std::test::Fail;
 
-/// 2023-11-14T22:13:20Z
-const NOW: i64 = 1_700_000_000_000_000;
-
-/// Two users, of whom one may create invocations in a realm.
+/// A user who may do all that is asked here, in one realm.
 const CONFIG: &str =
-    "secret = \"0b0b0b0b0b0b0b0b0b0b0b0b0b0b0b0b0b0b0b0b\"\n[user.alice]\ntoken = \"tok-a\"\n[user.carol]\ntoken = \"tok-c\"\n[role.writer]\npermissions = [\"resultdb.invocations.create\"]\n[realm.\"proj:ci\"]\nbindings = [{ role = \"writer\", principals = [\"user:alice\"] }]\n";
+    "secret = \"0b0b0b0b0b0b0b0b0b0b0b0b0b0b0b0b0b0b0b0b\"\n[user.alice]\ntoken = \"tok-a\"\n[role.writer]\npermissions = [\"resultdb.invocations.create\", \"resultdb.invocations.get\", \"resultdb.invocations.include\"]\n[realm.\"proj:ci\"]\nbindings = [{ role = \"writer\", principals = [\"user:alice\"] }]\n";
 
-/// A request up to its user's token, and from there to its body.
-const CREATE: &str =
-    "POST /prpc/luci.resultdb.v1.Recorder/CreateInvocation HTTP/1.1\r\nAuthorization: Bearer ";
+/// A request up to its method, and from there to the length of its body.
+const RECORDER: &str = "POST /prpc/luci.resultdb.v1.Recorder/";
 
-const LENGTH: &str = "\r\nContent-Length: 55\r\n\r\n";
+const READER: &str = "POST /prpc/luci.resultdb.v1.ResultDB/";
 
-/// A body of 55 bytes, and the same for another id.
-const BODY: &str = "{\"invocationId\":\"u-a\",\"invocation\":{\"realm\":\"proj:ci\"}}";
+const ALICE: &str = " HTTP/1.1\r\nAuthorization: Bearer tok-a\r\nContent-Length: ";
 
-const OTHER_BODY: &str = "{\"invocationId\":\"u-b\",\"invocation\":{\"realm\":\"proj:ci\"}}";
+/// A header behind a number, and the end of a head.
+const WITH_TOKEN: &str = "\r\nUpdate-Token: ";
 
-const GET: &str = "GET / HTTP/1.1\r\n\r\n";
+const BODY: &str = "\r\n\r\n";
 
-const CLOSING: &str = "POST /x HTTP/1.1\r\nConnection: close\r\nContent-Length: 0\r\n\r\n";
+/// The tokens under the secret: HMAC-SHA256 over `rdb-update/u-a` and `rdb-update/u-b`.
+const TOKEN_A: &str = "3f2f1bb18f734f22cd9d2ed809e69a8bf5d841332e29a79572c3c0a2f8f94d18";
+
+const TOKEN_B: &str = "20fceee26a12ebf878779370de8246ff4443d531231bb8ac0907344d2bedd6de";
+
+const CREATE: &str = "CreateInvocation";
+
+const UPDATE: &str = "UpdateInvocation";
+
+const FINALIZE: &str = "FinalizeInvocation";
+
+const INCLUDE: &str = "UpdateIncludedInvocations";
+
+const GET: &str = "GetInvocation";
+
+const B: &str = "{\"invocationId\":\"u-b\",\"invocation\":{\"realm\":\"proj:ci\"}}";
+
+const NAME_A: &str = "{\"name\":\"invocations/u-a\"}";
+
+const NAME_B: &str = "{\"name\":\"invocations/u-b\"}";
+
+const B_IN_A: &str =
+    "{\"includingInvocation\":\"invocations/u-a\",\"addInvocations\":[\"invocations/u-b\"]}";
+
+/// Messages that close the connection, and one that is none.
+const OTHER: &str = "GET / HTTP/1.1\r\n\r\n";
 
 const NO_LENGTH: &str = "POST /x HTTP/1.1\r\n\r\n";
 
-const TWO_LENGTHS: &str = "POST /x HTTP/1.1\r\nContent-Length: 3\r\nContent-Length: 3\r\n\r\nabc";
+/// A reply up to the length of its body, with an update token and without one.
+const OK: &str = "HTTP/1.1 200 OK\r\nContent-Type: application/json\r\nX-Prpc-Grpc-Code: 0";
 
-const TOO_LONG: &str = "POST /x HTTP/1.1\r\nContent-Length: 4194305\r\n\r\n";
+const SIZE: &str = "\r\nContent-Length: ";
 
-const CODED: &str = "POST /x HTTP/1.1\r\nTransfer-Encoding: chunked\r\n\r\n";
+/// A refusal's head between its status and its code.
+const TEXT: &str = "\r\nContent-Type: text/plain; charset=utf-8\r\nX-Prpc-Grpc-Code: ";
 
-/// What a reply begins with, up to what differs between two replies.
-const OK: &str =
-    "HTTP/1.1 200 OK\r\nContent-Type: application/json\r\nX-Prpc-Grpc-Code: 0\r\nUpdate-Token: ";
+/// What a body begins with, up to its deadline, and what stands around its name.
+const CREATED: &str =
+    "\r\n\r\n)]}'\n{\"createTime\":\"2023-11-14T22:13:20Z\",\"createdBy\":\"user:alice\",\"deadline\":\"2023-11-";
 
-const CREATED_AT: &str =
-    "\r\nContent-Length: 161\r\n\r\n)]}'\n{\"createTime\":\"2023-11-14T22:13:20Z\",\"createdBy\":\"user:alice\",\"deadline\":\"2023-11-16T22:13:20Z\",\"name\":\"invocations/u-";
+const NAMED: &str = "\",\"name\":\"invocations/u-";
 
-const ACTIVE: &str = "\",\"realm\":\"proj:ci\",\"state\":\"ACTIVE\"}";
+const IS: &str = "\",\"realm\":\"proj:ci\",\"state\":\"";
 
-/// The tokens under the secret: HMAC-SHA256 over `rdb-update/u-a` and `rdb-update/u-b`.
-const TOKEN: &str = "3f2f1bb18f734f22cd9d2ed809e69a8bf5d841332e29a79572c3c0a2f8f94d18";
+const ACTIVE_A: &str =
+    "\",\"name\":\"invocations/u-a\",\"realm\":\"proj:ci\",\"state\":\"ACTIVE\"}";
 
-const OTHER_TOKEN: &str = "20fceee26a12ebf878779370de8246ff4443d531231bb8ac0907344d2bedd6de";
+const ACTIVE_B: &str =
+    "\",\"name\":\"invocations/u-b\",\"realm\":\"proj:ci\",\"state\":\"ACTIVE\"}";
 
-/// The head of a refusal, between its status line and its body.
-const REFUSED: &str = "\r\nContent-Type: text/plain; charset=utf-8\r\nX-Prpc-Grpc-Code: ";
+const STARTED: &str = "\",\"finalizeStartTime\":\"2023-11-14T22:13:";
 
-const TAKEN: &str = "6\r\nContent-Length: 26\r\n\r\n19 Taken: invocations/u-a\n";
+const FINISHED: &str = "\",\"finalizeTime\":\"2023-11-14T22:13:";
 
-const NO_CALLER: &str = "16\r\nContent-Length: 11\r\n\r\n2 NoCaller\n";
+const WITH_B: &str = "\",\"includedInvocations\":[\"invocations/u-b\"],\"name\":\"invocations/u-a";
 
-const DENIED: &str =
-    "7\r\nContent-Length: 47\r\n\r\n11 Denied: resultdb.invocations.create proj:ci\n";
+/// Each method is called, in this order, by these pieces.
+const CALLS: &[&str] = &[
+    // u-a, with a deadline that is ten seconds away
+    RECORDER,
+    CREATE,
+    ALICE,
+    "89",
+    BODY,
+    "{\"invocationId\":\"u-a\",\"invocation\":{\"deadline\":\"2023-11-14T22:13:30Z\",\"realm\":\"proj:ci\"}}",
+    // u-b
+    RECORDER,
+    CREATE,
+    ALICE,
+    "55",
+    BODY,
+    B,
+    // one with a deadline that is too near
+    RECORDER,
+    CREATE,
+    ALICE,
+    "96",
+    BODY,
+    "{\"invocationId\":\"u-c\",\"invocation\":{\"deadline\":\"2023-11-14T22:13:29.999999Z\",\"realm\":\"proj:ci\"}}",
+    // u-a includes u-b
+    RECORDER,
+    INCLUDE,
+    ALICE,
+    "78",
+    WITH_TOKEN,
+    TOKEN_A,
+    BODY,
+    B_IN_A,
+    // u-b gets another deadline, and no tags, which the mask doesn't name
+    RECORDER,
+    UPDATE,
+    ALICE,
+    "132",
+    WITH_TOKEN,
+    TOKEN_B,
+    BODY,
+    "{\"invocation\":{\"name\":\"invocations/u-b\",\"deadline\":\"2023-11-14T22:13:40Z\",\"tags\":[{\"key\":\"k\",\"value\":\"v\"}]},\"updateMask\":\"deadline\"}",
+    // without its token, and with that of the other one
+    RECORDER,
+    FINALIZE,
+    ALICE,
+    "26",
+    BODY,
+    NAME_B,
+    RECORDER,
+    FINALIZE,
+    ALICE,
+    "26",
+    WITH_TOKEN,
+    TOKEN_A,
+    BODY,
+    NAME_B,
+    // at the deadline of u-a, and behind that of u-b
+    READER,
+    GET,
+    ALICE,
+    "26",
+    BODY,
+    NAME_A,
+    READER,
+    GET,
+    ALICE,
+    "26",
+    BODY,
+    NAME_A,
+    // what is final stays so
+    RECORDER,
+    FINALIZE,
+    ALICE,
+    "26",
+    WITH_TOKEN,
+    TOKEN_B,
+    BODY,
+    NAME_B,
+    RECORDER,
+    INCLUDE,
+    ALICE,
+    "78",
+    WITH_TOKEN,
+    TOKEN_A,
+    BODY,
+    B_IN_A,
+];
 
-const NO_METHOD: &str = "12\r\nConnection: close\r\nContent-Length: 14\r\n\r\n1 NoMethod: /\n";
+const REPLIES: &[&str] = &[
+    OK,
+    WITH_TOKEN,
+    TOKEN_A,
+    SIZE,
+    "161",
+    CREATED,
+    "14T22:13:30Z",
+    ACTIVE_A,
+    OK,
+    WITH_TOKEN,
+    TOKEN_B,
+    SIZE,
+    "161",
+    CREATED,
+    "16T22:13:20Z",
+    ACTIVE_B,
+    "HTTP/1.1 400 Bad Request",
+    TEXT,
+    "3",
+    SIZE,
+    "67",
+    BODY,
+    "13 DeadlineRange: 2023-11-14T22:13:29.999999Z 2023-11-14T22:13:20Z\n",
+    OK,
+    SIZE,
+    "7",
+    BODY,
+    ")]}'\n{}",
+    OK,
+    SIZE,
+    "161",
+    CREATED,
+    "14T22:13:40Z",
+    ACTIVE_B,
+    "HTTP/1.1 401 Unauthorized",
+    TEXT,
+    "16",
+    SIZE,
+    "33",
+    BODY,
+    "9 NoUpdateToken: invocations/u-b\n",
+    "HTTP/1.1 403 Forbidden",
+    TEXT,
+    "7",
+    SIZE,
+    "35",
+    BODY,
+    "10 BadUpdateToken: invocations/u-b\n",
+    OK,
+    SIZE,
+    "250",
+    CREATED,
+    "14T22:13:30Z",
+    STARTED,
+    "30Z",
+    WITH_B,
+    IS,
+    "FINALIZING\"}",
+    OK,
+    SIZE,
+    "287",
+    CREATED,
+    "14T22:13:30Z",
+    STARTED,
+    "30Z",
+    FINISHED,
+    "40Z",
+    WITH_B,
+    IS,
+    "FINALIZED\"}",
+    OK,
+    SIZE,
+    "245",
+    CREATED,
+    "14T22:13:40Z",
+    STARTED,
+    "40Z",
+    FINISHED,
+    "40Z",
+    NAMED,
+    "b",
+    IS,
+    "FINALIZED\"}",
+    "HTTP/1.1 400 Bad Request",
+    TEXT,
+    "9",
+    SIZE,
+    "40",
+    BODY,
+    "12 NotActive: invocations/u-a FINALIZED\n",
+];
 
-const NO_METHOD_X: &str = "12\r\nConnection: close\r\nContent-Length: 15\r\n\r\n1 NoMethod: /x\n";
+/// One request, and its reply.
+const ONE: &[&str] = &[RECORDER, CREATE, ALICE, "55", BODY, B];
 
-const WIRE_4: &str = "3\r\nConnection: close\r\nContent-Length: 16\r\n\r\nwire 4 NoLength\n";
+const CUT: &[&str] = &[RECORDER, CREATE, ALICE, "55", BODY, "{\"invocati"];
 
-const WIRE_5: &str = "3\r\nConnection: close\r\nContent-Length: 18\r\n\r\nwire 5 TwoLengths\n";
+const CLOSED: &[&str] = &[
+    "HTTP/1.1 501 Not Implemented",
+    TEXT,
+    "12\r\nConnection: close",
+    SIZE,
+    "14",
+    BODY,
+    "1 NoMethod: /\n",
+];
 
-const WIRE_6: &str = "3\r\nConnection: close\r\nContent-Length: 21\r\n\r\nwire 6 TransferCoded\n";
+const FAREWELL: &[&str] = &[
+    "HTTP/1.1 400 Bad Request",
+    TEXT,
+    "3\r\nConnection: close",
+    SIZE,
+    "16",
+    BODY,
+    "wire 4 NoLength\n",
+];
 
-const WIRE_7: &str = "3\r\nConnection: close\r\nContent-Length: 19\r\n\r\nwire 7 BodyTooLong\n";
-
-/// A piece of the input: a request by the user of a token, the front of one, or other bytes.
-#[derive(Clone, Copy)]
-enum Asks {
-    Create(&'static str, &'static str),
-    Cut(&'static str),
-    Bytes(&'static str),
-}
-
-use Asks::{Bytes, Create, Cut};
-
-/// A piece of the output: a reply, or a text.
-#[derive(Clone, Copy)]
-enum Gets {
-    /// The invocation of this id's letter, with its token.
-    Created(&'static str, &'static str),
-    /// A refusal, by its status line and the rest of its head with the body.
-    Refusal(&'static str, &'static str),
-    Text(&'static str),
-}
-
-use Gets::{Created, Refusal, Text};
-
-const NEW: Gets = Created("a", TOKEN);
-
-const AGAIN: Gets = Refusal("409 Conflict", TAKEN);
-
-const CLOSED: Gets = Refusal("501 Not Implemented", NO_METHOD);
-
-const CLOSED_X: Gets = Refusal("501 Not Implemented", NO_METHOD_X);
+const HELP: &[&str] = &["answer --config PATH --journal PATH\n--help\n--version\n"];
 
 /// Which calls fail, by their numbers: reads of the configuration, reads of the input, and writes to the output, where
 /// a number that stands twice takes nothing.
@@ -140,376 +325,208 @@ const STALLS: Fails = Fails {
     output: &[1, 1],
 };
 
-/// A source that gives one byte to each read.
-#[derive(Drop)]
-struct Drip {
-    bytes: Vec<u8>,
-    place: usize,
-}
-
-impl Source for Drip {
-    ghost use Rattle.std.specs.Prelude.{None};
-
-    ghost ends = { λ _. record { left = None; faults = 0 } };
-
-    fn read(&mut self, room: &mut [u8]) -> Result<usize, Failed> {
-        if room.is_empty() || self.place >= self.bytes.len() {
-            return Ok(0);
-        }
-        room[0] = self.bytes[self.place];
-        self.place += 1;
-        Ok(1)
-    }
-}
-
 /// A run: its words, parted by blanks, the configuration, the input, the calls that fail, the output, the status, the
 /// line on the errors, and whether the input is left alone.
-type Case = (
-    &'static str,
-    &'static str,
-    &'static [Asks],
-    Fails,
-    &'static [Gets],
-    u8,
-    &'static str,
-    bool,
-);
+#[derive(Clone, Copy)]
+struct Case {
+    words: &'static str,
+    config: &'static str,
+    input: &'static [&'static str],
+    fails: Fails,
+    output: &'static [&'static str],
+    status: u8,
+    line: &'static str,
+    is_unread: bool,
+}
 
 const ANSWER: &str = "answer --config farm.toml --journal farm.journal";
 
-const HELP: &str = "answer --config PATH --journal PATH\n--help\n--version\n";
+/// A run that reads one request, and does no more.
+const IDLE: Case = Case {
+    words: ANSWER,
+    config: CONFIG,
+    input: ONE,
+    fails: NONE,
+    output: &[],
+    status: 0,
+    line: "",
+    is_unread: false,
+};
 
-const ONE: Asks = Create("tok-a", BODY);
-
-const THREE: [Asks; 3] = [ONE, Create("tok-a", OTHER_BODY), ONE];
-
-const WORDS: &str = "rdb: words refused\n";
-
-const NOT_TOML: &str = "rdb: configuration refused: 1 NotToml\n";
-
-const BAD_SHAPE: &str = "rdb: configuration refused: 8 BadShape\n";
-
-const CONFIG_FAULT: &str = "rdb: fault of config\n";
-
-const READ_FAULT: &str = "rdb: fault of input\n";
-
-const WRITE_FAULT: &str = "rdb: fault of output\n";
-
-const STALLED: &str = "rdb: output takes nothing\n";
-
-const CUT_SHORT: &str = "rdb: wire 8 CutShort\n";
-
-const END_4: &str = "rdb: wire 4 NoLength\n";
-
-const END_5: &str = "rdb: wire 5 TwoLengths\n";
-
-const END_6: &str = "rdb: wire 6 TransferCoded\n";
-
-const END_7: &str = "rdb: wire 7 BodyTooLong\n";
-
-const CASES: [Case; 26] = [
-    ("", CONFIG, &[ONE], NONE, &[], 1, WORDS, true),
-    ("serve", CONFIG, &[ONE], NONE, &[], 1, WORDS, true),
-    ("--help me", CONFIG, &[ONE], NONE, &[], 1, WORDS, true),
-    ("--help", "no", &[ONE], NONE, &[Text(HELP)], 0, "", true),
-    (
-        "--version",
-        "no",
-        &[ONE],
-        NONE,
-        &[Text("rdb 0.1.0\n")],
-        0,
-        "",
-        true,
-    ),
-    (
-        "--help",
-        "no",
-        &[ONE],
-        WRITE_FAILS,
-        &[],
-        4,
-        WRITE_FAULT,
-        true,
-    ),
-    ("--help", "no", &[ONE], STALLS, &[], 9, STALLED, true),
-    (
-        ANSWER,
-        CONFIG,
-        &[ONE],
-        CONFIG_FAILS,
-        &[],
-        4,
-        CONFIG_FAULT,
-        true,
-    ),
-    (ANSWER, "no", &[ONE], NONE, &[], 2, NOT_TOML, true),
-    (ANSWER, "", &[ONE], NONE, &[], 2, BAD_SHAPE, true),
-    (ANSWER, CONFIG, &[], NONE, &[], 0, "", false),
-    (
-        ANSWER,
-        CONFIG,
-        &THREE,
-        NONE,
-        &[NEW, Created("b", OTHER_TOKEN), AGAIN],
-        0,
-        "",
-        false,
-    ),
-    (
-        ANSWER,
-        CONFIG,
-        &[Create("tok-x", BODY), Create("tok-c", BODY), ONE],
-        NONE,
-        &[
-            Refusal("401 Unauthorized", NO_CALLER),
-            Refusal("403 Forbidden", DENIED),
-            NEW,
-        ],
-        0,
-        "",
-        false,
-    ),
-    (
-        ANSWER,
-        CONFIG,
-        &[ONE, Cut("tok-a")],
-        NONE,
-        &[NEW],
-        8,
-        CUT_SHORT,
-        false,
-    ),
-    (
-        ANSWER,
-        CONFIG,
-        &[Bytes(GET), ONE],
-        NONE,
-        &[CLOSED],
-        0,
-        "",
-        false,
-    ),
-    (
-        ANSWER,
-        CONFIG,
-        &[Bytes(GET)],
-        WRITE_FAILS,
-        &[],
-        4,
-        WRITE_FAULT,
-        false,
-    ),
-    (
-        ANSWER,
-        CONFIG,
-        &[ONE, Bytes(CLOSING), Bytes(NO_LENGTH)],
-        NONE,
-        &[NEW, CLOSED_X],
-        0,
-        "",
-        false,
-    ),
-    (
-        ANSWER,
-        CONFIG,
-        &[Bytes("GET")],
-        NONE,
-        &[],
-        8,
-        CUT_SHORT,
-        false,
-    ),
-    (
-        ANSWER,
-        CONFIG,
-        &[ONE, Bytes(NO_LENGTH), ONE],
-        NONE,
-        &[NEW, Refusal("400 Bad Request", WIRE_4)],
-        8,
-        END_4,
-        false,
-    ),
-    (
-        ANSWER,
-        CONFIG,
-        &[Bytes(NO_LENGTH)],
-        WRITE_FAILS,
-        &[],
-        8,
-        END_4,
-        false,
-    ),
-    (
-        ANSWER,
-        CONFIG,
-        &[Bytes(TWO_LENGTHS)],
-        NONE,
-        &[Refusal("400 Bad Request", WIRE_5)],
-        8,
-        END_5,
-        false,
-    ),
-    (
-        ANSWER,
-        CONFIG,
-        &[Bytes(CODED)],
-        NONE,
-        &[Refusal("400 Bad Request", WIRE_6)],
-        8,
-        END_6,
-        false,
-    ),
-    (
-        ANSWER,
-        CONFIG,
-        &[Bytes(TOO_LONG), ONE],
-        NONE,
-        &[Refusal("400 Bad Request", WIRE_7)],
-        8,
-        END_7,
-        false,
-    ),
-    (
-        ANSWER,
-        CONFIG,
-        &THREE,
-        READ_FAILS,
-        &[],
-        4,
-        READ_FAULT,
-        false,
-    ),
-    (
-        ANSWER,
-        CONFIG,
-        &THREE,
-        WRITE_FAILS,
-        &[],
-        4,
-        WRITE_FAULT,
-        false,
-    ),
-    (ANSWER, CONFIG, &THREE, STALLS, &[], 9, STALLED, false),
+/// One run for each way to end but want of memory.
+const CASES: [Case; 13] = [
+    Case {
+        words: "serve",
+        status: 1,
+        line: "rdb: words refused\n",
+        is_unread: true,
+        ..IDLE
+    },
+    Case {
+        words: "--help",
+        config: "no",
+        output: HELP,
+        is_unread: true,
+        ..IDLE
+    },
+    Case {
+        words: "--help",
+        fails: WRITE_FAILS,
+        status: 4,
+        line: "rdb: fault of output\n",
+        is_unread: true,
+        ..IDLE
+    },
+    Case {
+        fails: CONFIG_FAILS,
+        status: 4,
+        line: "rdb: fault of config\n",
+        is_unread: true,
+        ..IDLE
+    },
+    Case {
+        config: "no",
+        status: 2,
+        line: "rdb: configuration refused: 1 NotToml\n",
+        is_unread: true,
+        ..IDLE
+    },
+    Case { input: &[], ..IDLE },
+    Case {
+        input: CALLS,
+        output: REPLIES,
+        ..IDLE
+    },
+    Case {
+        input: &[OTHER, NO_LENGTH],
+        output: CLOSED,
+        ..IDLE
+    },
+    Case {
+        input: CUT,
+        status: 8,
+        line: "rdb: wire 8 CutShort\n",
+        ..IDLE
+    },
+    Case {
+        input: &[NO_LENGTH, OTHER],
+        output: FAREWELL,
+        status: 8,
+        line: "rdb: wire 4 NoLength\n",
+        ..IDLE
+    },
+    Case {
+        fails: READ_FAILS,
+        status: 4,
+        line: "rdb: fault of input\n",
+        ..IDLE
+    },
+    Case {
+        fails: WRITE_FAILS,
+        status: 4,
+        line: "rdb: fault of output\n",
+        ..IDLE
+    },
+    Case {
+        fails: STALLS,
+        status: 9,
+        line: "rdb: output takes nothing\n",
+        ..IDLE
+    },
 ];
 
-fn joined(alloc: Global, parts: &[&str]) -> Result<Vec<u8>, AllocError> {
+/// The moments at which messages are asked, the last one for all others: 2023-11-14T22:13:20Z, and so many seconds later.
+fn clock(alloc: Global) -> Result<ListClock, AllocError> {
+    let moments = vec![in alloc;
+        1_700_000_000_000_000,
+        1_700_000_000_000_000,
+        1_700_000_000_000_000,
+        1_700_000_001_000_000,
+        1_700_000_002_000_000,
+        1_700_000_003_000_000,
+        1_700_000_004_000_000,
+        1_700_000_010_000_000,
+        1_700_000_030_000_000,
+    ]?;
+    ListClock::new(alloc, moments)
+}
+
+fn joined(alloc: Global, pieces: &[&str]) -> Result<Vec<u8>, AllocError> {
     let mut all = Vec::new(alloc);
-    for part in parts {
-        all.extend_from_slice(part.as_bytes())?;
+    for piece in pieces {
+        all.extend_from_slice(piece.as_bytes())?;
     }
     Ok(all)
 }
 
 fn words_of(alloc: Global, line: &str) -> Result<Vec<String>, AllocError> {
     let mut words = Vec::new(alloc);
-    if !line.is_empty() {
-        for word in line.split(' ') {
-            words.push(String::from_str(alloc, word)?)?;
-        }
+    for word in line.split(' ') {
+        words.push(String::from_str(alloc, word)?)?;
     }
     Ok(words)
 }
 
-fn put_request(all: &mut Vec<u8>, token: &str, body: &str) -> Result<(), AllocError> {
-    for part in [CREATE, token, LENGTH, body] {
-        all.extend_from_slice(part.as_bytes())?;
-    }
-    Ok(())
+fn check_unread(rt: &impl Abort, case: &Case, input: &mut MemorySource) {
+    let mut room = [0u8; 1];
+    let given = input.read(&mut room).ok();
+    assert_eq!(rt;
+        (given, room),
+        (Some(1), [b'P']),
+        "input of {}, {}",
+        case.words,
+        case.line
+    );
 }
 
-fn input_of(alloc: Global, asks: &[Asks]) -> Result<Vec<u8>, AllocError> {
-    let mut all = Vec::new(alloc);
-    for ask in asks {
-        match *ask {
-            Create(token, body) => put_request(&mut all, token, body)?,
-            Cut(token) => put_request(&mut all, token, "{\"invocati")?,
-            Bytes(text) => all.extend_from_slice(text.as_bytes())?,
-        }
-    }
-    Ok(all)
-}
-
-fn output_of(alloc: Global, gets: &[Gets]) -> Result<Vec<u8>, AllocError> {
-    let mut all = Vec::new(alloc);
-    for get in gets {
-        let parts = match *get {
-            Created(letter, token) => [OK, token, CREATED_AT, letter, ACTIVE],
-            Refusal(status, rest) => ["HTTP/1.1 ", status, REFUSED, rest, ""],
-            Text(text) => [text, "", "", "", ""],
-        };
-        all.extend_from_slice(joined(alloc, &parts)?.as_slice())?;
-    }
-    Ok(all)
-}
-
-/// Runs a case over its configuration and its input.
-fn check<I: Source>(
-    rt: &(impl Abort + AllocGlobal),
-    case: &Case,
-    config: &mut I,
-    input: &mut I,
-) -> Result<(), Fail> {
+fn check(rt: &(impl Abort + AllocGlobal), case: &Case) -> Result<(), Fail> {
     let alloc = rt.alloc();
-    let (name, _, _, fails, gets, status, line, is_unread) = *case;
-    let words = words_of(alloc, name)?;
-    let mut output = MemorySink::new(alloc, fails.output.to_vec(alloc)?)?;
+    let words = words_of(alloc, case.words)?;
+    let text = joined(alloc, &[case.config])?;
+    let mut config = MemorySource::new(alloc, text, case.fails.config.to_vec(alloc)?)?;
+    let stream = joined(alloc, case.input)?;
+    let mut input = MemorySource::new(alloc, stream, case.fails.input.to_vec(alloc)?)?;
+    let mut output = MemorySink::new(alloc, case.fails.output.to_vec(alloc)?)?;
     let mut errors = MemorySink::new(alloc, Vec::new(alloc))?;
-    let clock = ListClock::new(alloc, vec![in alloc; NOW]?)?;
     let outcome = run_program(
         rt,
         alloc,
         words.as_slice(),
-        config,
-        input,
+        &mut config,
+        &mut input,
         &mut output,
         &mut errors,
-        clock,
+        clock(alloc)?,
     );
-    assert_eq!(rt; errors.written(), line.as_bytes(), "errors of {name}");
-    assert_eq!(rt; outcome.status, status, "status of {name}, {line}");
-    let expected = output_of(alloc, gets)?;
+    let expected = joined(alloc, case.output)?;
+    assert_eq!(rt;
+        errors.written(),
+        case.line.as_bytes(),
+        "errors of {}",
+        case.words
+    );
+    assert_eq!(rt;
+        outcome.status,
+        case.status,
+        "status of {}, {}",
+        case.words, case.line
+    );
     assert_eq!(rt;
         output.written(),
         expected.as_slice(),
-        "output of {name}, {line}"
+        "output of {}, {}",
+        case.words,
+        case.line
     );
-    if is_unread {
-        let mut room = [0u8; 1];
-        assert_eq!(rt; input.read(&mut room).ok(), Some(1));
-        assert_eq!(rt; room, [b'P'], "input of {name}, {line}");
+    if case.is_unread {
+        check_unread(rt, case, &mut input);
     }
     Ok(())
 }
 
-fn check_whole(rt: &(impl Abort + AllocGlobal), case: &Case) -> Result<(), Fail> {
-    let alloc = rt.alloc();
-    let (_, config, asks, fails, _, _, _, _) = *case;
-    let bytes = joined(alloc, &[config])?;
-    let mut config = MemorySource::new(alloc, bytes, fails.config.to_vec(alloc)?)?;
-    let bytes = input_of(alloc, asks)?;
-    let mut input = MemorySource::new(alloc, bytes, fails.input.to_vec(alloc)?)?;
-    check(rt, case, &mut config, &mut input)
-}
-
-/// The same bytes, one to each read.
-fn check_dripping(rt: &(impl Abort + AllocGlobal), case: &Case) -> Result<(), Fail> {
-    let alloc = rt.alloc();
-    let (_, config, asks, fails, _, _, _, _) = *case;
-    if !fails.config.is_empty() || !fails.input.is_empty() {
-        return Ok(());
-    }
-    let bytes = joined(alloc, &[config])?;
-    let mut config = Drip { bytes, place: 0 };
-    let bytes = input_of(alloc, asks)?;
-    let mut input = Drip { bytes, place: 0 };
-    check(rt, case, &mut config, &mut input)
-}
-
 fn check_all(rt: &(impl Abort + AllocGlobal), cases: &[Case]) -> Result<(), Fail> {
     for case in cases {
-        check_whole(rt, case)?;
-        check_dripping(rt, case)?;
+        check(rt, case)?;
     }
     Ok(())
 }
