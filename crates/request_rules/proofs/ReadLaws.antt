@@ -76,4 +76,3 @@ pub no_method_of_texts : (asked : Asked) (service name : List ℕ) → None ≡ 
     → name ≡ asked.method → method_of asked.service asked.method ≡ None
 no_method_of_texts asked service name none service_is name_is =
     sym (none ∙ (ap (λ (x : List ℕ). method_of x name) service_is ∙ ap (method_of asked.service) name_is))
-

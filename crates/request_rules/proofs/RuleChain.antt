@@ -23,7 +23,6 @@ use Rattle.request_rules.specs.Breaches.{BrokenBelow}
 use Rattle.request_rules.specs.Broken.{HasNoMethod, HasNoCaller, HasBadBody, Wants, NamesNone, HasNoToken, HasBadToken, Lacks, denied, LacksOneOf, LacksRight, MeetsInactive, HasBadDeadline, out_of_reach, IncludesItself, NamesTooMany, TakesName, OverflowsInclusions, FindsTableFull, table_full, of_invocation, refusal, target_of, BrokenAlone, Scene, Rule, all_there, token_shown, token_right, rights_held, still_active, deadline_near, not_itself, few_names, name_free, room_left, number_of, IsBroken, BrokenIn, Broken}
 use Rattle.request_rules.proofs.FormLaws.{one_request_asked, one_fault, never_both, method_is_there}
 use Rattle.request_rules.proofs.RuleOrder.{Or, Lies, IsOne, HasOneFirst, lies_at, lies_both, first_alone, first_before, first_behind, unbroken_both, one_first_both, one_first_alone}
-
 use Rattle.request_rules.proofs.RuleFacts.{lies_names_none, one_names_none, lies_no_token, one_no_token, lies_bad_token, one_bad_token, lies_lacks, one_lacks, lies_inactive, one_inactive, lies_bad_deadline, one_bad_deadline, lies_itself, one_itself, lies_too_many, one_too_many, lies_takes_name, one_takes_name, lies_table_full, one_table_full, lies_no_method, one_no_method, lies_no_caller, one_no_caller, lies_bad_body, one_bad_body}
 
 -- the rule with this number
@@ -118,8 +117,8 @@ pub none_up_to : (s : Settings) (x : Scene) (asked : Asked) (caller : ℕ) (requ
 none_up_to s x asked caller request k below none r is = elim (cases_lt (number_of is.0) (number_of k)) [
   | inl less ↦ below r (is.0, less, is.2)
   | inr more ↦
-    let at : number_of is.0 ≡ number_of k = omega (arith, is.1) in
-    none r (subst (λ (j : Rule). IsBroken s x asked caller request j r) (same_rule is.0 k at) is.2)
+      let at : number_of is.0 ≡ number_of k = omega (arith, is.1) in
+      none r (subst (λ (j : Rule). IsBroken s x asked caller request j r) (same_rule is.0 k at) is.2)
 ]
 
 pub none_in_gap : (s : Settings) (x : Scene) (asked : Asked) (caller : ℕ) (request : Request) → IsUnbroken (BrokenBelow 16 s x asked caller request)
@@ -153,7 +152,7 @@ first_of_below s x asked caller request n r is = record {
   first = λ other also. elim (cases_lt (number_of also.0) n) as (λ _. place_in_order r.rule ≤ place_in_order other.rule) [
     | inl less ↦ is.first other (also.0, less, also.1)
     | inr more ↦
-      omega (arith, is.broken.1, (lies_rule s x asked caller request is.broken.0 r is.broken.2).1, (lies_rule s x asked caller request also.0 other also.1).0)
+        omega (arith, is.broken.1, (lies_rule s x asked caller request is.broken.0 r is.broken.2).1, (lies_rule s x asked caller request also.0 other also.1).0)
   ];
 }
 
@@ -170,8 +169,8 @@ pub unbroken_in : (s : Settings) (x : Scene) (asked : Asked) (caller : ℕ) (req
 unbroken_in s x asked caller request below none r is = elim (cases_lt (number_of is.0) 20) [
   | inl less ↦ below r (is.0, less, is.1)
   | inr more ↦
-    let at : number_of is.0 ≡ number_of room_left = omega (arith, (bounds is.0).1) in
-    none r (subst (λ (j : Rule). IsBroken s x asked caller request j r) (same_rule is.0 room_left at) is.1)
+      let at : number_of is.0 ≡ number_of room_left = omega (arith, (bounds is.0).1) in
+      none r (subst (λ (j : Rule). IsBroken s x asked caller request j r) (same_rule is.0 room_left at) is.1)
 ]
 
 lies_in : (s : Settings) (x : Scene) (asked : Asked) (caller : ℕ) (request : Request) → Lies 8 20 (BrokenIn s x asked caller request)

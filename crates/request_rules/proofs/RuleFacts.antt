@@ -169,4 +169,3 @@ one_table_full rows edges (UpdateInvocation id deadline tags) r p never that = a
 one_table_full rows edges (FinalizeInvocation id) r p never that = absurd never
 one_table_full rows edges (UpdateIncludedInvocations including add) r p this that = this.refusal_is ∙ sym that.refusal_is
 one_table_full rows edges (GetInvocation id) r p never that = absurd never
-

@@ -69,11 +69,7 @@ fn add_place(places: &mut Vec<u32>, place: Option<u32>) -> Result<(), AllocError
 
 /// The places of those of the invocations with these ids that are there. `Err` where there is no
 /// memory for them.
-pub fn places_of(
-    alloc: Global,
-    table: &Table,
-    ids: &[InvocationId],
-) -> Result<Vec<u32>, AllocError>
+pub fn places_of(alloc: Global, table: &Table, ids: &[InvocationId]) -> Result<Vec<u32>, AllocError>
     ensures { IfOk result (λ places. places.items ≡ places_named table.now.rows ids.now) }
 {
     let mut places = Vec::with_capacity(alloc, ids.len())?;
@@ -101,7 +97,7 @@ fn own_missing<'r>(table: &Table, own: Option<&'r InvocationId>) -> Option<&'r I
     ensures { MatchOption result
         (IsNoneOf (λ id. ¬ HasId table.now.rows id) (with_own (option_map (λ id. id.now) own.entry) []))
         (λ id. IsFirstOf (λ id. ¬ HasId table.now.rows id)
-            (with_own (option_map (λ id. id.now) own.entry) []) id.now) }
+        (with_own (option_map (λ id. id.now) own.entry) []) id.now) }
 {
     let Some(id) = own else {
         return None;

@@ -106,11 +106,7 @@ impl<'r> Asker<'r> {
     }
 
     /// Whether the caller lacks a right that the request takes.
-    pub(crate) fn lacks_right(
-        &self,
-        table: &'r Table,
-        request: &'r Request,
-    ) -> Option<Breach<'r>>
+    pub(crate) fn lacks_right(&self, table: &'r Table, request: &'r Request) -> Option<Breach<'r>>
         requires { self.now.caller < length self.now.policy.now.users }
         ensures { Finds (LacksRight (record { policy = self.now.policy.now }) table.now.rows
             self.now.caller request.now) result }
