@@ -107,7 +107,7 @@ found_or_waits edges old node found held h k e =
           ]
     ]
 
-through : (edges : List Edge) (states : List State) (walk : List ℕ) (a b : ℕ) → Leads edges walk a b → ReachesActive edges states b → ReachesActive edges states a
+pub through : (edges : List Edge) (states : List State) (walk : List ℕ) (a b : ℕ) → Leads edges walk a b → ReachesActive edges states b → ReachesActive edges states a
 through edges states [] a b w r = absurd w.is_walk
 through edges states (x ∷ []) a b w r = subst (ReachesActive edges states) (sym (same_Some x b w.ends) ∙ same_Some x a w.begins) r
 through edges states (x ∷ (y ∷ rest)) a b w r =

@@ -5,3 +5,4 @@ pub mod LawLemmas
 pub mod MarkLemmas
 pub mod NodeLemmas
 pub mod SettleLemmas
+pub mod WaitLemmas

@@ -71,6 +71,10 @@ Holds states found node = IsIn Active states node ⊎ (IsIn Finalizing states no
 abbrev pub IsHeldUp : List Edge → List State → List ℕ → ℕ → Type 0
 IsHeldUp edges states found node = (target : ℕ) × (HasEdge edges node target × Holds states found target)
 
+-- the node includes an active one
+abbrev pub IncludesActive : List Edge → List State → ℕ → Type 0
+IncludesActive edges states node = (target : ℕ) × (HasEdge edges node target × IsIn Active states target)
+
 -- the nodes that may become final with this one
 pub record AreFound (edges : List Edge) (states : List State) (node : ℕ) (found : List ℕ) : Type 0 where
   pub begun : Contains found node

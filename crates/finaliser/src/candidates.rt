@@ -3,7 +3,7 @@ ghost use Rattle.std.specs.Prelude.{◌≡◌, ◌≤◌, ◌<◌, ◌+◌, ◌+
 ghost use Rattle.std.specs.List.Sorted.{IsStrictlyIncreasing};
 ghost use Rattle.std.specs.List.{filter};
 ghost use Rattle.inclusion_graph.specs.Edges.{HasEdge, has};
-ghost use Rattle.finaliser.specs.Holding.{AreFound, AreFreed, AreHeld, Comes, Holds, IsClosed, IsGrown, IsHeldUp, IsSource, is_free};
+ghost use Rattle.finaliser.specs.Holding.{AreFound, AreFreed, AreHeld, Comes, Holds, IncludesActive, IsClosed, IsGrown, IsHeldUp, IsSource, is_free};
 ghost use Rattle.finaliser.specs.Marks.{unfinal};
 ghost use Rattle.finaliser.specs.Settling.{IsIn};
 
@@ -86,6 +86,28 @@ fn is_held_up(graph: &Graph, states: &[State], found: &NodeSet, node: u32) -> bo
 {
     for target in graph.targets(node) {
         if holds(states, found, *target) {
+            return true;
+        }
+    }
+    false
+}
+
+/// Whether a node is active.
+fn is_active(states: &[State], node: u32) -> bool
+    requires { node < length states.now }
+    ensures { IsTrue result ↔ IsIn State.Active states.now node }
+{
+    states[node as usize] == State::Active
+}
+
+/// Whether a node includes an active one, so that nothing becomes final with it.
+pub(crate) fn includes_active(graph: &Graph, states: &[State], node: u32) -> bool
+    requires count { graph.now.nodes ≡ length states.now }
+    requires node { node < length states.now }
+    ensures { IsTrue result ↔ IncludesActive graph.now.edges states.now node }
+{
+    for target in graph.targets(node) {
+        if is_active(states, *target) {
             return true;
         }
     }

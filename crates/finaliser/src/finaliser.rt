@@ -4,7 +4,7 @@ ghost use Rattle.inclusion_graph.specs.Edges.{edges_from};
 ghost use Rattle.inclusion_graph.specs.Plans.{Fits, IsEdgeFault, IsElsewhere, new_targets};
 ghost use Rattle.finaliser.specs.Settling.{IsIn, IsSettled, ReachesActive, Settles};
 
-use crate::candidates::{find_held, settle_free};
+use crate::candidates::{find_held, includes_active, settle_free};
 use crate::node_set::NodeSet;
 use inclusion_graph::{EdgeFault, EdgePlan, Graph};
 use names_realms::State;
@@ -192,6 +192,10 @@ impl Finaliser {
     {
         let place = node as usize;
         self.states[place] = State::Finalizing;
+        if includes_active(&self.graph, self.states.as_slice(), node) {
+            self.states[place] = State::Active;
+            return false;
+        }
         find_held(
             &self.graph,
             self.states.as_slice(),
@@ -218,6 +222,9 @@ impl Finaliser {
         ensures spare { self.old.spare ≤ self.new.spare }
     {
         self.states[node as usize] = State::Finalizing;
+        if includes_active(&self.graph, self.states.as_slice(), node) {
+            return;
+        }
         find_held(
             &self.graph,
             self.states.as_slice(),

@@ -1,9 +1,8 @@
 -- Rows that are added, updated and included: the world stays valid.
-use Rattle.std.proofs.Common.{◌≡◌, ◌≢◌, ◌<◌, ◌≤◌, ◌+◌, ℕ, zero, suc, ℤ, pos, ◌≤ℤ◌, ◌<ℤ◌, nat_eq, List, [], ◌∷◌, ◌++◌, length, get_or, Contains, Option, Some, None, unwrap_or, refl, sym, ap, ◌∙◌, subst, inl, inr, arith, append_assoc}
-use Rattle.std.specs.List.{All, AllPairs, cons_option, slice_get}
+use Rattle.std.proofs.Common.{◌≡◌, ◌≢◌, ◌<◌, ◌≤◌, ◌+◌, ℕ, zero, suc, ℤ, pos, ◌≤ℤ◌, ◌<ℤ◌, List, [], ◌∷◌, ◌++◌, length, get_or, Contains, Option, Some, None, unwrap_or, refl, sym, ap, ◌∙◌, subst, inl, inr, arith, append_assoc}
+use Rattle.std.specs.List.{All, AllPairs, slice_get}
 use Rattle.std.specs.Option.{ForSome}
-use Rattle.std.proofs.lemmas.Bool.{cases_Bool, cases_eq, cond-true, cond-false, false≢true}
-use Rattle.std.proofs.lemmas.Bool.Decides.{Decides-eqb}
+use Rattle.std.proofs.lemmas.Bool.{cases_Bool, cases_eq, false≢true}
 use Rattle.std.proofs.lemmas.Int.{ints}
 use Rattle.std.proofs.lemmas.List.{append-nil, length-append, length_push}
 use Rattle.std.proofs.lemmas.List.Elements.{All-append, All-contains, All-map, All-push, All-weaker, Contains-get_or, filter_map-append}
@@ -15,7 +14,7 @@ use Rattle.names_realms.specs.declared.states.State.TheVariants.{Active, Finaliz
 use Rattle.inclusion_graph.specs.declared.edge.Edge.{Edge}
 use Rattle.inclusion_graph.specs.Edges.{HasEdge, edges_from, fresh, has, target_from, targets_of}
 use Rattle.inclusion_graph.specs.Walks.{Reaches}
-use Rattle.inclusion_graph.proofs.EdgeLemmas.{length_edges, targets_are}
+use Rattle.inclusion_graph.proofs.EdgeLemmas.{length_edges, others_edges, own, targets_are}
 use Rattle.inclusion_graph.proofs.ListLemmas.{fresh_held, fresh_new, has_from}
 use Rattle.inclusion_graph.proofs.WalkLemmas.{along}
 use Rattle.finaliser.specs.Settling.{ReachesActive}
@@ -159,22 +158,6 @@ valid_updated w moment p deadline tags valid active given pairs call later quiet
     }
 
 -- targets among more edges
-own : (edge : Edge) (edges : List Edge) (node : ℕ) → edge.from ≡ node → targets_of (edge ∷ edges) node ≡ edge.to ∷ targets_of edges node
-own edge edges node e =
-    ap (λ o. cons_option o (targets_of edges node))
-    (cond-true (nat_eq edge.from node) (Some edge.to) None ((Decides-eqb edge.from node).1 e))
-
-others : (edge : Edge) (edges : List Edge) (node : ℕ) → edge.from ≢ node → targets_of (edge ∷ edges) node ≡ targets_of edges node
-others edge edges node away =
-    ap (λ o. cons_option o (targets_of edges node))
-    (cond-false (nat_eq edge.from node) (Some edge.to) None
-    (elim (cases_Bool (nat_eq edge.from node)) [ inl same ↦ absurd (away ((Decides-eqb edge.from node).0 same)) | inr no_ ↦ no_ ]))
-
-others_edges : (from node : ℕ) (ts : List ℕ) → from ≢ node → targets_of (edges_from from ts) node ≡ []
-others_edges from node [] away = refl
-others_edges from node (t ∷ ts) away =
-    others (record { from = from; to = t }) (edges_from from ts) node away ∙ others_edges from node ts away
-
 pub targets_appended : (edges new : List Edge) (node : ℕ) → targets_of (edges ++ new) node ≡ targets_of edges node ++ targets_of new node
 targets_appended edges new node = filter_map-append (target_from node) edges new
 

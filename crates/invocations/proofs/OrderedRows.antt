@@ -22,6 +22,15 @@ use Rattle.invocations.specs.Orders.{IsRising, HasOneMore, HasOneFewer, IsIdInde
 use Rattle.invocations.proofs.OrderLemmas.{rising_insert, one_more_insert, none_equal, first_least}
 use Rattle.invocations.proofs.RowLemmas.{at_place, at_front, at_end}
 
+-- the first of the entries
+pub first_is : (entries : List Due) (due : Due) → 0 < length entries → due ≡ get_or entries 0 due → slice_get entries 0 ≡ Some due
+first_is entries due within e = slice_get-get_or entries 0 due within ∙ ap Some (sym e)
+
+-- there is no first entry where there is none
+pub first_none : (entries : List Due) (count : ℕ) → count ≡ length entries → (0 < count → ⊥) → slice_get entries 0 ≡ None
+first_none [] count e none = refl
+first_none (due ∷ rest) count e none = absurd (none (omega (arith, e)))
+
 pub due_order_total : IsTotalOrder due_order
 due_order_total = then_total (on_total (λ (d : Due). d.deadline) int_cmp_total) (on_total (λ (d : Due). d.place) nat_cmp_total)
 

@@ -1,5 +1,6 @@
 //! Deadlines with the places of their rows, kept in order.
-ghost use Rattle.std.specs.Prelude.{◌≡◌, ◌≤◌, ◌<◌, ◌+◌, ◌≤ℤ◌, ◌<ℤ◌, ◌⊎◌, ◌++◌, ◌∷◌, [], List, OnOk, Contains, length, vec_len, vec_capacity};
+ghost use Rattle.std.specs.Prelude.{◌≡◌, ◌≤◌, ◌<◌, ◌+◌, ◌≤ℤ◌, ◌<ℤ◌, ◌⊎◌, ◌++◌, ◌∷◌, [], List, OnOk, Contains, length};
+ghost use Rattle.std.specs.VecDeque.{deque_len, deque_capacity};
 ghost use Rattle.invocations.specs.Due.{IsNextPlace};
 ghost use Rattle.invocations.specs.Orders.{HasOneFewer, HasOneMore, HasReplaced, IsDueIndex, IsRising, IsSlot, deadline_in, deadlines_of, due_order};
 ghost use Rattle.invocations.specs.declared.invocation.Invocation.{Invocation};
@@ -7,6 +8,7 @@ ghost use Rattle.invocations.specs.declared.invocation.Invocation.{Invocation};
 use crate::invocation::Invocation;
 use names_realms::{Moment, State};
 use std::alloc::{AllocError, Global};
+use std::collections::VecDeque;
 
 /// A deadline, and the place of its row.
 #[derive(Clone, Copy, Debug, PartialEq, Eq, PartialOrd, Ord)]
@@ -32,7 +34,7 @@ impl Due {
 /// The deadlines of the active rows, in order, those that are equal in the order of the places.
 #[derive(Drop)]
 pub(crate) struct DueIndex {
-    pub(crate) entries: Vec<Due>,
+    pub(crate) entries: VecDeque<Due>,
 }
 
 impl DueIndex {
@@ -41,17 +43,17 @@ impl DueIndex {
         ensures { result.entries.items ≡ [] }
     {
         DueIndex {
-            entries: Vec::new(alloc),
+            entries: VecDeque::new(alloc),
         }
     }
 
     /// Makes room for one more.
     pub(crate) fn reserve(&mut self, additional: usize) -> Result<(), AllocError>
         ensures entries { self.new.entries.items ≡ self.old.entries.items }
-        ensures len { vec_len self.new.entries ≡ vec_len self.old.entries }
+        ensures len { deque_len self.new.entries ≡ deque_len self.old.entries }
         ensures room { OnOk result
-            (vec_len self.new.entries + additional ≤ vec_capacity self.new.entries) }
-        ensures capacity { vec_capacity self.old.entries ≤ vec_capacity self.new.entries }
+            (deque_len self.new.entries + additional ≤ deque_capacity self.new.entries) }
+        ensures capacity { deque_capacity self.old.entries ≤ deque_capacity self.new.entries }
     {
         self.entries.reserve(additional)
     }
@@ -64,16 +66,16 @@ impl DueIndex {
         self.entries.binary_search(due)
     }
 
-    /// Adds a deadline. There is room for it. Those behind it move back: at most 65,536 entries
-    /// of 16 bytes.
+    /// Adds a deadline. There is room for it. Those before it or those behind it move, whichever
+    /// are fewer: at most 32,768 entries of 16 bytes.
     pub(crate) fn add(&mut self, due: Due)
         requires rising { IsRising due_order self.old.entries.items }
         requires absent { ¬ Contains self.old.entries.items due }
-        requires room { vec_len self.old.entries < vec_capacity self.old.entries }
+        requires room { deque_len self.old.entries < deque_capacity self.old.entries }
         ensures rising { IsRising due_order self.new.entries.items }
         ensures entries { HasOneMore self.old.entries.items due self.new.entries.items }
-        ensures len { vec_len self.new.entries ≡ vec_len self.old.entries + 1 }
-        ensures capacity { vec_capacity self.old.entries ≤ vec_capacity self.new.entries }
+        ensures len { deque_len self.new.entries ≡ deque_len self.old.entries + 1 }
+        ensures capacity { deque_capacity self.old.entries ≤ deque_capacity self.new.entries }
     {
         if let Err(at) = self.search(&due) {
             let _ = self.entries.insert(at, due);
@@ -84,12 +86,12 @@ impl DueIndex {
     pub(crate) fn add_row(&mut self, rows: &[Invocation], row: &Invocation)
         requires index { IsDueIndex (deadlines_of rows.now) self.old.entries.items }
         requires few { length rows.now < 65_536 }
-        requires room { vec_len self.old.entries < vec_capacity self.old.entries }
+        requires room { deque_len self.old.entries < deque_capacity self.old.entries }
         ensures index { IsDueIndex
             (deadlines_of rows.now ++ deadline_in row.now.state row.now.deadline ∷ [])
             self.new.entries.items }
-        ensures len { vec_len self.new.entries ≤ vec_len self.old.entries + 1 }
-        ensures capacity { vec_capacity self.old.entries ≤ vec_capacity self.new.entries }
+        ensures len { deque_len self.new.entries ≤ deque_len self.old.entries + 1 }
+        ensures capacity { deque_capacity self.old.entries ≤ deque_capacity self.new.entries }
     {
         if row.state == State::Active {
             self.add(Due {
@@ -99,14 +101,15 @@ impl DueIndex {
         }
     }
 
-    /// Takes a deadline out. Those behind it move up.
+    /// Takes a deadline out. Those before it or those behind it move, whichever are fewer: none
+    /// where it is the first.
     pub(crate) fn remove(&mut self, due: Due)
         requires rising { IsRising due_order self.old.entries.items }
         requires there { Contains self.old.entries.items due }
         ensures rising { IsRising due_order self.new.entries.items }
         ensures entries { HasOneFewer self.old.entries.items due self.new.entries.items }
-        ensures len { vec_len self.new.entries + 1 ≡ vec_len self.old.entries }
-        ensures capacity { vec_capacity self.old.entries ≤ vec_capacity self.new.entries }
+        ensures len { deque_len self.new.entries + 1 ≡ deque_len self.old.entries }
+        ensures capacity { deque_capacity self.old.entries ≤ deque_capacity self.new.entries }
     {
         if let Ok(at) = self.search(&due) {
             let _ = self.entries.remove(at);
@@ -119,8 +122,8 @@ impl DueIndex {
         requires there { Contains self.old.entries.items due }
         requires absent { Contains self.old.entries.items to → to ≡ due }
         ensures entries { HasReplaced self.old.entries.items due to self.new.entries.items }
-        ensures len { vec_len self.new.entries ≡ vec_len self.old.entries }
-        ensures capacity { vec_capacity self.old.entries ≤ vec_capacity self.new.entries }
+        ensures len { deque_len self.new.entries ≡ deque_len self.old.entries }
+        ensures capacity { deque_capacity self.old.entries ≤ deque_capacity self.new.entries }
     {
         self.remove(due);
         self.add(to);
@@ -131,7 +134,7 @@ impl DueIndex {
         ensures { (rows : List Invocation) →
             IsDueIndex (deadlines_of rows) self.now.entries.items → IsNextPlace rows moment result }
     {
-        let Some(due) = self.entries.first() else {
+        let Some(due) = self.entries.front() else {
             return None;
         };
         if due.deadline <= moment {

@@ -26,6 +26,7 @@ pub struct Table {
 
 impl Model for Table {
     ghost use Rattle.std.specs.Prelude.{◌-◌, min, vec_len, vec_capacity};
+    ghost use Rattle.std.specs.VecDeque.{deque_len, deque_capacity};
     ghost use Rattle.invocations.specs.Rows.{TableState};
     ghost use Rattle.invocations.specs.Orders.{IsIndexed};
 
@@ -35,7 +36,7 @@ impl Model for Table {
       rows = t.rows.items;
       spare = min (min (vec_capacity t.rows) 65_536 - vec_len t.rows)
           (min (vec_capacity t.by_id.places - vec_len t.by_id.places)
-          (vec_capacity t.by_deadline.entries - vec_len t.by_deadline.entries));
+          (deque_capacity t.by_deadline.entries - deque_len t.by_deadline.entries));
     } };
 
     ghost invariant = { λ t.

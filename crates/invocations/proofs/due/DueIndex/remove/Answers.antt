@@ -1,5 +1,6 @@
-use Rattle.std.proofs.Common.{subst, sym, get_or}
+use Rattle.std.proofs.Common.{◌≡◌, ◌<◌, ◌+◌, Option, subst, sym, get_or, arith}
 use Rattle.std.specs.List.{remove}
+use Rattle.std.specs.Option.{OnSome}
 use Rattle.invocations.specs.declared.due.Due.{Due}
 use Rattle.invocations.specs.Orders.{IsRising, HasOneFewer, due_order}
 use Rattle.invocations.proofs.OrderLemmas.{rising_remove, one_fewer_remove}
@@ -8,7 +9,11 @@ use Rattle.invocations.proofs.due.DueIndex.remove.Goals as goal
 
 pub returns-in-Ok-clause-rising : goal.returns-in-Ok-clause-rising
 returns-in-Ok-clause-rising c =
-    subst (IsRising due_order) (sym c.remove.ensures.items)
+    let now = c.args.self.now.entries in
+    let there : c.in-Ok.at < now.len = omega (arith, c.in-Ok.ensures.0, now.ok.0) in
+    let is : c.remove.new.self.items ≡ remove now.items c.in-Ok.at =
+    subst (λ (o : Option Due). OnSome o (c.remove.new.self.items ≡ remove now.items c.in-Ok.at)) (c.remove.ensures.succeeds c.args.due there) c.remove.ensures.items in
+    subst (IsRising due_order) (sym is)
     (rising_remove due_order c.args.self.now.entries.items c.in-Ok.at c.args.due c.in-Ok.ensures.0 c.requires.rising)
 
 pub returns-in-Ok-clause-entries : goal.returns-in-Ok-clause-entries
@@ -16,6 +21,16 @@ returns-in-Ok-clause-entries c =
     let entries = c.args.self.now.entries.items in
     let at = get_or entries c.in-Ok.at c.args.due in
     let same = same_due at c.args.due (c.in-Ok.ensures.1 c.args.due) in
-    rw c.remove.ensures.items
+    let now = c.args.self.now.entries in
+    let there : c.in-Ok.at < now.len = omega (arith, c.in-Ok.ensures.0, now.ok.0) in
+    let is : c.remove.new.self.items ≡ remove now.items c.in-Ok.at =
+    subst (λ (o : Option Due). OnSome o (c.remove.new.self.items ≡ remove now.items c.in-Ok.at)) (c.remove.ensures.succeeds c.args.due there) c.remove.ensures.items in
+    subst (HasOneFewer entries c.args.due) (sym is)
     (subst (λ (d : Due). HasOneFewer entries d (remove entries c.in-Ok.at)) same
     (one_fewer_remove due_order_total entries c.in-Ok.at c.args.due c.in-Ok.ensures.0 c.requires.rising))
+
+pub returns-in-Ok-clause-len : goal.returns-in-Ok-clause-len
+returns-in-Ok-clause-len c =
+    let now = c.args.self.now.entries in
+    let there : c.in-Ok.at < now.len = omega (arith, c.in-Ok.ensures.0, now.ok.0) in
+    subst (λ (o : Option Due). OnSome o (c.remove.new.self.len + 1 ≡ now.len)) (c.remove.ensures.succeeds c.args.due there) c.remove.ensures.len

@@ -1,3 +1,5 @@
+use Rattle.std.proofs.Common.{◌≡◌, length, subst}
+use Rattle.std.specs.List.Sorted.{IsSearchInRange}
 use Rattle.invocations.proofs.OrderLemmas.{slot_from_search}
 use Rattle.invocations.proofs.OrderedRows.{due_order_total}
 use Rattle.invocations.specs.declared.due.Due.{Due}
@@ -5,5 +7,7 @@ use Rattle.invocations.proofs.due.DueIndex.search.Goals as goal
 
 pub returns : goal.returns
 returns c =
-    rw (← c.deref.ensures.value) (slot_from_search due_order_total (λ (e : Due). e) c.deref.result.now c.args.due.now c.binary_search.result
-    (rw c.deref.ensures.value c.requires) c.binary_search.ensures.bound c.binary_search.ensures.position)
+    let entries = c.args.self.now.entries in
+    let count : entries.len ≡ length entries.items = entries.ok.0 in
+    slot_from_search due_order_total (λ (e : Due). e) entries.items c.args.due.now c.binary_search.result c.requires
+    (subst (IsSearchInRange c.binary_search.result) count c.binary_search.ensures.bound) c.binary_search.ensures.position
