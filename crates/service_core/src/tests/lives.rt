@@ -15,7 +15,7 @@ const SECRET: [u8; 20] = [0x0b; 20];
 /// A request: so many seconds after 2023-11-14T22:13:20Z, by whose bearer token, with the update
 /// token of which invocation ("" shows none), by which method, with which body; and what it is told.
 struct Turn {
-    at: i64,
+    at: u32,
     bearer: &'static str,
     token_of: &'static str,
     method: &'static str,
@@ -644,7 +644,7 @@ fn asked(alloc: Global, turn: &Turn) -> Result<Asked, Fail> {
 }
 
 fn tell(rt: &impl Abort, alloc: Global, core: &mut Core, turn: &Turn) -> Result<(), Fail> {
-    let now = 1_700_000_000_000_000 + turn.at * 1_000_000;
+    let now = 1_700_000_000_000_000 + i64::from(turn.at) * 1_000_000;
     let told = core.serve(alloc, now, &asked(alloc, turn)?);
     let answer = shown(&told);
     assert_eq!(rt;
