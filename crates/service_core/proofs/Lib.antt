@@ -9,7 +9,6 @@ pub mod FinalityLaws
 pub mod AllowLaws
 pub mod DecideLaws
 pub mod ThereLaws
-pub mod PlanFormLaws
 pub mod ShowableLaws
 pub mod ShowLaws
 pub mod PlanRuleLaws

@@ -43,7 +43,7 @@ use Rattle.service_core.specs.CoreState.{CoreState}
 use Rattle.service_core.specs.Judged.{IsJudged}
 use Rattle.service_core.specs.Step.{IsAccepted, Refuses, scene_of}
 use Rattle.service_core.proofs.CoreLaws.{named_there}
-use Rattle.service_core.proofs.PlanFormLaws.{asked_has_forms}
+use Rattle.service_core.proofs.AskedForms.{asked_has_forms}
 use Rattle.service_core.proofs.ShowLaws.{row_placed}
 
 -- a caller wants this, and it breaks no rule below the last one
