@@ -240,14 +240,25 @@ fn tags_of(alloc: Global) -> Option<Listed<Pair>>
     Some(Listed::new(Vec::from_array(alloc, [pair]).ok()?))
 }
 
-/// Updates a row, if that can be. Whether it could.
+/// Whether it is told that an update would change a row that is there.
+fn would_update(alloc: Global, world: &InvocationWorld, place: u32, given: Option<Moment>) -> bool {
+    if place >= world.count() {
+        return false;
+    }
+    let tags = tags_of(alloc);
+    world.would_update(place, given, &tags)
+}
+
+/// Updates a row, if that can be. Whether it could, and it was told whether that changes the row.
 fn update(alloc: Global, world: &mut InvocationWorld, place: u32, deadline: u32, at: u32) -> bool {
     if !is_active(world, place) || !is_open(world, moment(at)) {
         return false;
     }
+    let last = world.last();
+    let told = would_update(alloc, world, place, deadline_of(deadline, at));
     let tags = tags_of(alloc);
     world.update(place, deadline_of(deadline, at), tags, moment(at));
-    true
+    told == (world.last() != last)
 }
 
 /// Carries out what is due. Whether that could be, and nothing is due any more.
@@ -343,6 +354,7 @@ fn rows_and_inclusions_are_told(rt: HostRuntime) -> Result<(), Fail> {
     assert!(rt; find(alloc, &world, "u-b")? == Some(1));
     assert!(rt; find(alloc, &world, "u-d")?.is_none());
     assert!(rt; includes_first(&world));
+    assert!(rt; world.table().rows().len() == 3);
     Ok(())
 }
 
