@@ -1,5 +1,5 @@
 //! Spans of time, and their one text.
-ghost use Rattle.std.specs.Prelude.{string_bytes, ◌≡◌, ◌≤◌, ◌<◌, ◌++◌, ◌+◌, ℕ, List, length, Ok, Err, IfOk, IfErr, OnOk, OnErr};
+ghost use Rattle.std.specs.Prelude.{string_bytes, ◌≡◌, ◌≤◌, ◌<◌, ◌++◌, ◌↔◌, None, Ok, Err, IfOk, IfErr, IfSome, OnOk, OnErr};
 ghost use Rattle.moments_spans.specs.MomentReading.{seen};
 ghost use Rattle.moments_spans.specs.SpanGrammar.{IsSpanFault, IsSpanText};
 ghost use Rattle.moments_spans.specs.Spans.{most_span, span_text};
@@ -9,11 +9,25 @@ use crate::moment_reading::{byte, decimals};
 use crate::moments::push_decimals;
 use name_parts::{NameFault, append};
 use std::alloc::{AllocError, Global};
+use std::marker::Model;
 
-/// A span of time, in microseconds.
+/// A span of time of at most 315,576,000,000 seconds, in microseconds.
 #[derive(Clone, Copy, Debug, PartialEq, Eq, PartialOrd, Ord)]
 pub struct Span {
-    pub micros: u64,
+    micros: u64,
+}
+
+impl Model for Span {
+    ghost use Rattle.std.specs.Prelude.{◌≤◌, ℕ};
+    ghost use Rattle.moments_spans.specs.Spans.{most_span};
+
+    ghost Value = { ℕ };
+
+    ghost view = { λ s. s.micros };
+
+    ghost invariant = { λ s. s.micros ≤ most_span };
+
+    ghost inverse = { λ n. record { micros = n } };
 }
 
 /// Reads up to twelve digits.
@@ -69,18 +83,14 @@ fn span_micros(text: &[u8]) -> Result<u64, usize>
 /// What is read of a text of this length, where the reader gives this.
 #[tactic(auto, unfolding(crate::specs::SpanReading::span_judged))]
 fn judged(len: usize, read: Result<u64, usize>) -> Result<Span, NameFault>
-    ensures ok { IfOk result (λ s. span_judged len read ≡ Ok s.micros) }
-    ensures range { IfOk result (λ s. s.micros ≤ most_span) }
+    ensures ok { IfOk result (λ s. span_judged len read ≡ Ok s) }
     ensures fault { IfErr result (λ f. span_judged len read ≡ Err f) }
 {
     match read {
-        Ok(micros) => {
-            if micros <= 315_576_000_000_000_000 {
-                Ok(Span { micros })
-            } else {
-                Err(NameFault::OutOfRange)
-            }
-        }
+        Ok(micros) => match Span::from_micros(micros) {
+            Some(span) => Ok(span),
+            None => Err(NameFault::OutOfRange),
+        },
         Err(left) => Err(NameFault::BadByte {
             at: len.saturating_sub(left),
         }),
@@ -101,8 +111,7 @@ fn push_span(alloc: Global, out: &mut String, micros: u64) -> Result<(), AllocEr
 
 /// Reads a span from left to right.
 fn read(text: &[u8]) -> Result<Span, NameFault>
-    ensures ok { IfOk result (λ s. span_of text.now ≡ Ok s.micros) }
-    ensures range { IfOk result (λ s. s.micros ≤ most_span) }
+    ensures ok { IfOk result (λ s. span_of text.now ≡ Ok s) }
     ensures fault { IfErr result (λ f. span_of text.now ≡ Err f) }
 {
     if text.is_empty() {
@@ -112,12 +121,31 @@ fn read(text: &[u8]) -> Result<Span, NameFault>
 }
 
 impl Span {
-    /// Reads a span, all of the text: 1 to 12 digits, where there are decimals a point and one to nine digits, and `s`. What decimals
-    /// say below a microsecond is dropped. `OutOfRange` where it is more than 315,576,000,000 seconds. Takes no memory, and so never
-    /// answers `Memory`.
+    /// The span of so many microseconds; none where they are more than 315,576,000,000 seconds.
+    pub fn from_micros(micros: u64) -> Option<Span>
+        ensures some { IfSome result (λ s. s ≡ micros) }
+        ensures none { (result ≡ None) ↔ (most_span < micros) }
+    {
+        if micros <= 315_576_000_000_000_000 {
+            Some(Span { micros })
+        } else {
+            None
+        }
+    }
+
+    /// The microseconds.
+    pub fn micros(&self) -> u64
+        ensures value { result ≡ self.now }
+        ensures range { self.now ≤ most_span }
+    {
+        self.micros
+    }
+
+    /// Reads a span, all of the text: 1 to 12 digits, where there are decimals a point and one to
+    /// nine digits, and `s`. What decimals say below a microsecond is dropped. `OutOfRange` where it
+    /// is more than 315,576,000,000 seconds. Takes no memory, and so never answers `Memory`.
     pub fn parse(alloc: Global, text: &[u8]) -> Result<Span, NameFault>
-        ensures said { IfOk result (λ s. IsSpanText text.now s.micros) }
-        ensures range { IfOk result (λ s. s.micros ≤ most_span) }
+        ensures said { IfOk result (λ s. IsSpanText text.now s) }
         ensures wrong { IfErr result (IsSpanFault text.now) }
     {
         let _ = alloc;
@@ -126,17 +154,19 @@ impl Span {
 
     /// The text of the span, as `write_to` appends it.
     pub fn to_text(&self, alloc: Global) -> Result<String, AllocError>
-        ensures { IfOk result (λ text. string_bytes text ≡ span_text self.now.micros) }
+        ensures range { self.now ≤ most_span }
+        ensures text { IfOk result (λ text. string_bytes text ≡ span_text self.now) }
     {
         let mut text = String::new(alloc);
         push_span(alloc, &mut text, self.micros)?;
         Ok(text)
     }
 
-    /// Appends the span in seconds with the fewest of 0, 3 or 6 decimals that are exact, and `s`: all of it or nothing.
+    /// Appends the span in seconds with the fewest of 0, 3 or 6 decimals that are exact, and `s`:
+    /// all of it or nothing.
     pub fn write_to(&self, alloc: Global, out: &mut Vec<u8>) -> Result<(), AllocError>
-        ensures said { self.now.micros ≤ most_span → IsSpanText (span_text self.now.micros) self.now.micros }
-        ensures ok { OnOk result (out.new.items ≡ out.old.items ++ span_text self.now.micros) }
+        ensures said { IsSpanText (span_text self.now) self.now }
+        ensures ok { OnOk result (out.new.items ≡ out.old.items ++ span_text self.now) }
         ensures err { OnErr result (out.new.items ≡ out.old.items) }
     {
         let text = self.to_text(alloc)?;

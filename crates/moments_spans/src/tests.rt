@@ -57,7 +57,7 @@ fn micros_of(read: Result<Moment, NameFault>) -> Result<i64, NameFault> {
 
 fn span_of(read: Result<Span, NameFault>) -> Result<u64, NameFault> {
     match read {
-        Ok(span) => Ok(span.micros),
+        Ok(span) => Ok(span.micros()),
         Err(fault) => Err(fault),
     }
 }
@@ -84,10 +84,12 @@ fn writes_moments_and_spans(rt: HostRuntime) -> Result<(), Fail> {
     let alloc = rt.alloc();
     let mut out = Vec::new(alloc);
     Moment::new(1_700_000_009_999_999).write_to(alloc, &mut out)?;
-    Span { micros: 250_000 }.write_to(alloc, &mut out)?;
+    let quarter = Span::from_micros(250_000).ok_or("is no span")?;
+    quarter.write_to(alloc, &mut out)?;
     Moment::new(-62_135_596_800_000_000).write_to(alloc, &mut out)?;
     assert!(rt;
         out.as_slice() == b"2023-11-14T22:13:29.999999Z0.250s0001-01-01T00:00:00Z".as_slice()
     );
+    assert!(rt; Span::from_micros(315_576_000_000_000_001).is_none());
     Ok(())
 }
