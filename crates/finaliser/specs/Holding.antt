@@ -1,4 +1,5 @@
--- The code's own words for what a retirement can make final: nodes that are found, and those of them that are held up.
+-- The code's own words for what a retirement can make final: nodes that are found, and those of
+-- them that are held up.
 use Rattle.std.specs.Prelude.{◌≡◌, ℕ, ◌+◌, ◌-◌, ◌<◌, ◌≤◌, ◌⊎◌, nat_eq, Bool, not, List, [], ◌++◌, Option, Some, None, drop, Contains, length, slice_get}
 use Rattle.std.specs.List.{All, IsDistinct}
 use Rattle.names_realms.specs.declared.states.State.{State}
@@ -10,8 +11,8 @@ use Rattle.inclusion_graph.specs.Walks.{Reaches}
 use Rattle.finaliser.specs.Marks.{unfinal, unmarked}
 use Rattle.finaliser.specs.Settling.{IsIn, IsSettled}
 
--- a set of nodes, in the order in which they were added, out of those below a number, and for how many more nodes there is
--- room
+-- a set of nodes, in the order in which they were added, out of those below a number, and for how
+-- many more nodes there is room
 pub record NodeSetState : Type 0 where
   pub nodes : List ℕ
   pub below : ℕ
@@ -39,15 +40,19 @@ IsSource edges states node source = IsIn Finalizing states source × HasEdge edg
 
 -- a finalizing node that reaches one of these
 abbrev pub Comes : List Edge → List State → List ℕ → ℕ → Type 0
-Comes edges states nodes node = IsIn Finalizing states node × ((other : ℕ) × (Contains nodes other × Reaches edges node other))
+Comes edges states nodes node =
+    IsIn Finalizing states node × ((other : ℕ) × (Contains nodes other × Reaches edges node other))
 
--- the sources of the node before some place are passed, and those of them that are finalizing are in the set
-pub record ArePassed (edges : List Edge) (states : List State) (node : ℕ) (nodes : List ℕ) (next : Option ℕ) : Type 0 where
+-- the sources of the node before some place are passed, and those of them that are finalizing are
+-- in the set
+pub record ArePassed (edges : List Edge) (states : List State) (node : ℕ) (nodes : List ℕ)
+    (next : Option ℕ) : Type 0 where
   pub start : ℕ
   pub done : List ℕ
   pub first : IsFirstTo edges node start next
   pub sources : sources_of edges node ≡ done ++ sources_of (drop start edges) node
-  pub all : (source : ℕ) → Contains done source → IsIn Finalizing states source → Contains nodes source
+  pub all : (source : ℕ) → Contains done source → IsIn Finalizing states source
+      → Contains nodes source
 
 -- how many edges are left from a place on
 abbrev pub edges_left : List Edge → Option ℕ → ℕ
@@ -56,36 +61,44 @@ edges_left edges (Some at) = length edges - at
 
 -- with a node, each finalizing one is there that has an edge to it
 abbrev pub IsClosed : List Edge → List State → List ℕ → Type 0
-IsClosed edges states nodes = (a b : ℕ) → HasEdge edges a b → Contains nodes b → IsIn Finalizing states a → Contains nodes a
+IsClosed edges states nodes =
+    (a b : ℕ) → HasEdge edges a b → Contains nodes b → IsIn Finalizing states a → Contains nodes a
 
 -- the same, for the nodes at the places below this
 abbrev pub IsClosedBelow : List Edge → List State → List ℕ → ℕ → Type 0
 IsClosedBelow edges states nodes at =
-    (a b place : ℕ) → place < at → slice_get nodes place ≡ Some b → HasEdge edges a b → IsIn Finalizing states a → Contains nodes a
+    (a b place : ℕ) → place < at → slice_get nodes place ≡ Some b → HasEdge edges a b
+    → IsIn Finalizing states a → Contains nodes a
 
 -- a node holds up those that include it: it is active, or finalizing and not found
 abbrev pub Holds : List State → List ℕ → ℕ → Type 0
-Holds states found node = IsIn Active states node ⊎ (IsIn Finalizing states node × (¬ Contains found node))
+Holds states found node =
+    IsIn Active states node ⊎ (IsIn Finalizing states node × (¬ Contains found node))
 
 -- the node includes one that holds it up
 abbrev pub IsHeldUp : List Edge → List State → List ℕ → ℕ → Type 0
-IsHeldUp edges states found node = (target : ℕ) × (HasEdge edges node target × Holds states found target)
+IsHeldUp edges states found node =
+    (target : ℕ) × (HasEdge edges node target × Holds states found target)
 
 -- the node includes an active one
 abbrev pub IncludesActive : List Edge → List State → ℕ → Type 0
-IncludesActive edges states node = (target : ℕ) × (HasEdge edges node target × IsIn Active states target)
+IncludesActive edges states node =
+    (target : ℕ) × (HasEdge edges node target × IsIn Active states target)
 
 -- the nodes that may become final with this one
-pub record AreFound (edges : List Edge) (states : List State) (node : ℕ) (found : List ℕ) : Type 0 where
+pub record AreFound (edges : List Edge) (states : List State) (node : ℕ)
+    (found : List ℕ) : Type 0 where
   pub begun : Contains found node
   pub finalizing : All (IsIn Finalizing states) found
   pub closed : IsClosed edges states found
 
 -- the nodes that are held up, themselves or by others
 pub record AreHeld (edges : List Edge) (states : List State) (found held : List ℕ) : Type 0 where
-  pub begun : (node : ℕ) → Contains found node → IsHeldUp edges states found node → Contains held node
+  pub begun : (node : ℕ) → Contains found node → IsHeldUp edges states found node
+      → Contains held node
   pub closed : IsClosed edges states held
-  pub sound : (node : ℕ) → Contains held node → (other : ℕ) × (Reaches edges node other × Holds states found other)
+  pub sound : (node : ℕ) → Contains held node
+      → (other : ℕ) × (Reaches edges node other × Holds states found other)
 
 -- a node of the found ones that isn't held up
 abbrev pub is_free : List ℕ → ℕ → Bool
@@ -103,9 +116,10 @@ pub record AreWithin (edges : List Edge) (nodes : ℕ) : Type 0 where
   pub from : All (λ edge. edge.from < nodes) edges
   pub to : All (λ edge. edge.to < nodes) edges
 
--- what a finaliser keeps between calls: a state for each node, nothing left to settle, two empty sets, and room for all
--- finals to come
-pub record IsKept (graph : GraphState) (states : List State) (found held : NodeSetState) (finals : List ℕ) (room : ℕ) : Type 0 where
+-- what a finaliser keeps between calls: a state for each node, nothing left to settle, two empty
+-- sets, and room for all finals to come
+pub record IsKept (graph : GraphState) (states : List State) (found held : NodeSetState)
+    (finals : List ℕ) (room : ℕ) : Type 0 where
   pub nodes : graph.nodes ≡ length states
   pub joined : AreWithin graph.edges (length states)
   pub settled : IsSettled graph.edges states

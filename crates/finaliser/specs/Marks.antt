@@ -43,10 +43,13 @@ pub record IsTurned (edges : List Edge) (old new : List Bool) (changed : Bool) :
   pub count : length new ≡ length old
 
 -- the nodes below this that are finalizing and not marked, with the states after they became final
-pub record IsSettledBelow (marks : List Bool) (old new : List State) (below : ℕ) (finals : List ℕ) : Type 0 where
+pub record IsSettledBelow (marks : List Bool) (old new : List State) (below : ℕ)
+    (finals : List ℕ) : Type 0 where
   pub rising : IsStrictlyIncreasing finals
   pub low : All (λ node. node < below) finals
-  pub all : (node : ℕ) → Contains finals node ↔ ((node < below) × IsIn Finalizing old node × (slice_index_or marks node false ≡ false))
+  pub all : (node : ℕ)
+      → Contains finals node ↔ ((node < below) × IsIn Finalizing old node
+      × (slice_index_or marks node false ≡ false))
   pub final : (node : ℕ) → Contains finals node → IsIn Finalized new node
   pub others : (node : ℕ) → (¬ Contains finals node) → slice_get new node ≡ slice_get old node
   pub count : length new ≡ length old

@@ -7,8 +7,8 @@ use Rattle.inclusion_graph.specs.declared.edge.Edge.{Edge}
 use Rattle.inclusion_graph.specs.Edges.{GraphState}
 use Rattle.inclusion_graph.specs.Walks.{Reaches}
 
--- A finaliser: its graph, the state of each node, the nodes that are newly final, and for how many more nodes there is
--- room.
+-- A finaliser: its graph, the state of each node, the nodes that are newly final, and for how many
+-- more nodes there is room.
 pub record FinaliserState : Type 0 where
   pub graph : GraphState
   pub states : List State
@@ -28,11 +28,12 @@ pub record IsSettled (edges : List Edge) (states : List State) : Type 0 where
   pub waits : (node : ℕ) → IsIn Finalizing states node → ReachesActive edges states node
   pub done : (node : ℕ) → IsIn Finalized states node → ¬ ReachesActive edges states node
 
--- Every node that is finalizing and reaches no active one becomes final, all at once, and all else stays. Those that
--- become final are listed, ascending.
+-- Every node that is finalizing and reaches no active one becomes final, all at once, and all else
+-- stays. Those that become final are listed, ascending.
 pub record Settles (edges : List Edge) (old new : List State) (finals : List ℕ) : Type 0 where
   pub rising : IsStrictlyIncreasing finals
-  pub all : (node : ℕ) → Contains finals node ↔ (IsIn Finalizing old node × (¬ ReachesActive edges old node))
+  pub all : (node : ℕ)
+      → Contains finals node ↔ (IsIn Finalizing old node × (¬ ReachesActive edges old node))
   pub final : (node : ℕ) → Contains finals node → IsIn Finalized new node
   pub others : (node : ℕ) → (¬ Contains finals node) → slice_get new node ≡ slice_get old node
   pub count : length new ≡ length old

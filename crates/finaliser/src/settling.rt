@@ -1,4 +1,5 @@
-//! What becomes final, by turns over all edges: the plain program, beside which the other is tested.
+//! What becomes final, by turns over all edges: the plain program, beside which the other is
+//! tested.
 ghost use Rattle.std.specs.Prelude.{◌≡◌, ◌≤◌, ◌<◌, ◌+◌, ◌++◌, ◌⊎◌, ◌↔◌, IsTrue, IfOk, OnErr, ◌∷◌, [], ℕ, true, false, List, All, Contains, length, slice_index_or, slice_set, vec_len, vec_capacity};
 ghost use Rattle.finaliser.specs.Marks.{IsPulled, IsSettledBelow, IsSound, IsTurned, IsWithin, unfinal};
 ghost use Rattle.finaliser.specs.Settling.{IsIn, Settles};

@@ -3,7 +3,8 @@ use Rattle.std.specs.Prelude.{◌≡◌, ℕ, ◌+◌, ◌≤◌, Bool, List, []
 use Rattle.std.specs.List.{filter_map, list_any}
 use Rattle.inclusion_graph.specs.declared.edge.Edge.{Edge}
 
--- A graph: how many nodes it has, its edges in order of arrival, and for how many more nodes and edges there is room.
+-- A graph: how many nodes it has, its edges in order of arrival, and for how many more nodes and
+-- edges there is room.
 pub record GraphState : Type 0 where
   pub nodes : ℕ
   pub edges : List Edge
@@ -30,11 +31,13 @@ source_to node edge = if edge.to == node then Some edge.from else None
 abbrev pub sources_of : List Edge → ℕ → List ℕ
 sources_of edges node = filter_map (source_to node) edges
 
--- Of the edges from a place on, none leads to the node; or the first that does is at that place, and the others follow.
+-- Of the edges from a place on, none leads to the node; or the first that does is at that place,
+-- and the others follow.
 abbrev pub IsFirstTo : List Edge → ℕ → ℕ → Option ℕ → Type 0
 IsFirstTo edges node start None = sources_of (drop start edges) node ≡ []
 IsFirstTo edges node start (Some at) =
-    (start ≤ at) × ((source : ℕ) × ((slice_get edges at ≡ Some (record { from = source; to = node }))
+    (start ≤ at) × ((source : ℕ)
+    × ((slice_get edges at ≡ Some (record { from = source; to = node }))
     × (sources_of (drop start edges) node ≡ source ∷ sources_of (drop (at + 1) edges) node)))
 
 -- whether the list has the number

@@ -9,15 +9,19 @@ use Rattle.inclusion_graph.specs.Edges.{HasEdge, IsFirstTo, sources_of}
 abbrev pub HasEnds : List Edge → ℕ → Option Ends → Type 0
 HasEnds edges node None = sources_of edges node ≡ []
 HasEnds edges node (Some ends) =
-    IsFirstTo edges node 0 (Some ends.first) × ((source : ℕ) × ((slice_get edges ends.last ≡ Some (record { from = source; to = node }))
+    IsFirstTo edges node 0 (Some ends.first)
+    × ((source : ℕ) × ((slice_get edges ends.last ≡ Some (record { from = source; to = node }))
     × (sources_of (drop (ends.last + 1) edges) node ≡ [])))
 
 -- each edge is linked to the next one to the same node, and each node has the ends of its edges
-pub record AreLinked (edges : List Edge) (next : List (Option ℕ)) (ends : List (Option Ends)) : Type 0 where
+pub record AreLinked (edges : List Edge) (next : List (Option ℕ))
+    (ends : List (Option Ends)) : Type 0 where
   pub count : length next ≡ length edges
   pub within : All (λ edge. edge.to < length ends) edges
-  pub ends_are : (node : ℕ) (is : Option Ends) → slice_get ends node ≡ Some is → HasEnds edges node is
-  pub next_are : (place : ℕ) (edge : Edge) (is : Option ℕ) → slice_get edges place ≡ Some edge → slice_get next place ≡ Some is
+  pub ends_are : (node : ℕ) (is : Option Ends) → slice_get ends node ≡ Some is
+      → HasEnds edges node is
+  pub next_are : (place : ℕ) (edge : Edge) (is : Option ℕ) → slice_get edges place ≡ Some edge
+      → slice_get next place ≡ Some is
       → IsFirstTo edges edge.to (place + 1) is
 
 -- the ends where one more edge leads to the node

@@ -18,16 +18,20 @@ unmarked (false ∷ marks) = suc (unmarked marks)
 -- marks for the numbers below this, set for those of the list
 abbrev pub HasMarks : List Bool → ℕ → List ℕ → Type 0
 HasMarks marks below numbers =
-    (length marks ≡ below) × ((number : ℕ) → number < below → slice_index_or marks number false ≡ has numbers number)
+    (length marks ≡ below)
+    × ((number : ℕ) → number < below → slice_index_or marks number false ≡ has numbers number)
 
--- marks for the targets that were named so far; the list has these, and those to which an edge leads from the node
-pub record IsJoined (edges : List Edge) (from below : ℕ) (named : List ℕ) (marks : List Bool) (all : List ℕ) : Type 0 where
+-- marks for the targets that were named so far; the list has these, and those to which an edge
+-- leads from the node
+pub record IsJoined (edges : List Edge) (from below : ℕ) (named : List ℕ) (marks : List Bool)
+    (all : List ℕ) : Type 0 where
   pub says : HasMarks marks below named
   pub there : (node : ℕ) → Contains all node ↔ (HasEdge edges from node ⊎ Contains named node)
 
 -- marked are just the nodes that are found
 pub record IsMarked (marks : List Bool) (steps : List Step) : Type 0 where
-  pub says : (node : ℕ) → node < length marks → slice_index_or marks node false ≡ has (nodes_of steps) node
+  pub says : (node : ℕ) → node < length marks
+      → slice_index_or marks node false ≡ has (nodes_of steps) node
   pub within : All (λ step. step.node < length marks) steps
   pub count : length steps + unmarked marks ≡ length marks
 
@@ -43,25 +47,31 @@ abbrev pub IsRooted : List Edge → List ℕ → List Step → Type 0
 IsRooted edges roots steps =
     (place : ℕ) (step : Step) → slice_get steps place ≡ Some step
     → MatchOption step.back (Contains roots step.node)
-    (λ back. (back < place) × ((node : ℕ) × (slice_get (nodes_of steps) back ≡ Some node) × HasEdge edges node step.node))
+    (λ back. (back < place)
+    × ((node : ℕ) × (slice_get (nodes_of steps) back ≡ Some node)
+    × HasEdge edges node step.node))
 
 -- so far has a search come whose steps before this place were gone on from
-pub record IsSearched (edges : List Edge) (roots : List ℕ) (marks : List Bool) (steps : List Step) (at : ℕ) : Type 0 where
+pub record IsSearched (edges : List Edge) (roots : List ℕ) (marks : List Bool) (steps : List Step)
+    (at : ℕ) : Type 0 where
   pub marked : IsMarked marks steps
   pub rooted : IsRooted edges roots steps
   pub begun : (root : ℕ) → Contains roots root → Contains (nodes_of steps) root
-  pub closed : (place node target : ℕ) → place < at → slice_get (nodes_of steps) place ≡ Some node → HasEdge edges node target
+  pub closed : (place node target : ℕ) → place < at → slice_get (nodes_of steps) place ≡ Some node
+      → HasEdge edges node target
       → Contains (nodes_of steps) target
 
 -- the nodes below this that are marked, ascending
 pub record IsTakenBelow (marks : List Bool) (at : ℕ) (nodes : List ℕ) : Type 0 where
   pub rising : IsStrictlyIncreasing nodes
   pub below : All (λ node. node < at) nodes
-  pub all : (node : ℕ) → Contains nodes node ↔ ((node < at) × (slice_index_or marks node false ≡ true))
+  pub all : (node : ℕ)
+      → Contains nodes node ↔ ((node < at) × (slice_index_or marks node false ≡ true))
 
 -- the lists of targets are those of the edges, and all is within the nodes
 pub record IsListed (edges : List Edge) (targets : List (Vec ℕ Global)) : Type 0 where
-  pub lists : (node : ℕ) (list : Vec ℕ Global) → slice_get targets node ≡ Some list → list.items ≡ targets_of edges node
+  pub lists : (node : ℕ) (list : Vec ℕ Global) → slice_get targets node ≡ Some list
+      → list.items ≡ targets_of edges node
   pub from : All (λ edge. edge.from < length targets) edges
   pub to : All (λ edge. edge.to < length targets) edges
   pub few : length edges ≤ 262_144

@@ -83,8 +83,8 @@ fn unmark(marks: &mut Vec<bool>, nodes: &[u32])
     }
 }
 
-/// Appends to the targets of a node those of the given ones that it hasn't yet, each once, in order.
-/// There is room for them. No node is marked before, and none afterwards.
+/// Appends to the targets of a node those of the given ones that it hasn't yet, each once, in
+/// order. There is room for them. No node is marked before, and none afterwards.
 pub(crate) fn append_new(
     edges: &EdgeList,
     from: u32,

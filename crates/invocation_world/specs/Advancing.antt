@@ -43,8 +43,8 @@ begun_if_due d row = if is_active row.state && int_eq row.deadline d then begun 
 abbrev pub all_begun : ℤ → List Invocation → List Invocation
 all_begun d rows = map (begun_if_due d) rows
 
--- These deadlines are carried out one after the other, each the least of those that are due, until nothing is due: all
--- rows that have it are begun at it, and then the rows settle at it.
+-- These deadlines are carried out one after the other, each the least of those that are due, until
+-- nothing is due: all rows that have it are begun at it, and then the rows settle at it.
 abbrev pub CarriesOut : List Edge → ℤ → List Invocation → List ℤ → List Invocation → Type 0
 CarriesOut inclusions moment rows [] after = AreQuiet rows moment × (after ≡ rows)
 CarriesOut inclusions moment rows (d ∷ later) after =
@@ -52,7 +52,8 @@ CarriesOut inclusions moment rows (d ∷ later) after =
     × ((between : List Invocation) × SettlesRows d inclusions (all_begun d rows) between
     × CarriesOut inclusions moment between later after)
 
--- the world with these rows after these deadlines were carried out: the last change is the moment, where there were any
+-- the world with these rows after these deadlines were carried out: the last change is the moment,
+-- where there were any
 abbrev pub after_deadlines : ℤ → List ℤ → List Invocation → World → World
 after_deadlines moment [] rows w = w
 after_deadlines moment (d ∷ later) rows w = record {

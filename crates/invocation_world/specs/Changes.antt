@@ -33,7 +33,8 @@ are_other_tags (Some given) stand = not (pointwise is_same_pair given stand)
 
 -- whether an update changes the row
 abbrev pub is_update : Option ℤ → Option (List Pair) → Invocation → Bool
-is_update deadline tags row = is_other_deadline deadline row.deadline || are_other_tags tags row.tags
+is_update deadline tags row =
+    is_other_deadline deadline row.deadline || are_other_tags tags row.tags
 
 -- the row with this deadline and these tags, each where it is given
 abbrev pub updated : Option ℤ → Option (List Pair) → Invocation → Invocation
@@ -42,7 +43,8 @@ updated deadline tags row = record row {
   tags = unwrap_or tags row.tags;
 }
 
-abbrev pub with_row_updated : ℤ → ℕ → Option ℤ → Option (List Pair) → World → Option Invocation → World
+abbrev pub with_row_updated : ℤ → ℕ → Option ℤ → Option (List Pair) → World → Option Invocation
+    → World
 with_row_updated moment place deadline tags w None = w
 with_row_updated moment place deadline tags w (Some row) =
     if is_update deadline tags row
@@ -67,8 +69,8 @@ with_edges moment (edge ∷ edges) w = record {
   last = moment;
 }
 
--- the world in which the row at this place includes each of the targets, those that it doesn't include yet in order
--- behind the others; where it includes all of them it stays whole
+-- the world in which the row at this place includes each of the targets, those that it doesn't
+-- include yet in order behind the others; where it includes all of them it stays whole
 abbrev pub with_inclusions : ℤ → ℕ → List ℕ → World → World
 with_inclusions moment place targets w =
     with_edges moment (edges_from place (fresh (targets_of w.inclusions place) targets)) w

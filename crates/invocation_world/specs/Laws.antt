@@ -33,25 +33,31 @@ AdvancesOnce = (moment : ℤ) (w v x : World) → Advances w moment v → Advanc
 abbrev pub HasAdvance : Type 0
 HasAdvance = (moment : ℤ) (w : World) → (after : World) × Advances w moment after
 
--- In a valid world, at the moment of a call that isn't before the last change, this gives a valid one, in which nothing
--- is due any more.
+-- In a valid world, at the moment of a call that isn't before the last change, this gives a valid
+-- one, in which nothing is due any more.
 abbrev pub AdvanceKeepsValid : Type 0
 AdvanceKeepsValid =
-    (moment : ℤ) (w after : World) → IsValid w → IsCallMoment moment → w.last ≤ℤ moment → Advances w moment after
+    (moment : ℤ) (w after : World) → IsValid w → IsCallMoment moment → w.last ≤ℤ moment
+    → Advances w moment after
     → IsValid after × IsQuiet after moment
 
--- So does each change at the moment of a call that isn't before the last change, at which nothing is due: a new row; the
--- retirement of an active row, once the rows settled; an update of an active row to a deadline that is still to come; and
--- inclusions in an active row of other rows that are there.
+-- So does each change at the moment of a call that isn't before the last change, at which nothing
+-- is due: a new row; the retirement of an active row, once the rows settled; an update of an active
+-- row to a deadline that is still to come; and inclusions in an active row of other rows that are
+-- there.
 abbrev pub ChangesKeepValid : Type 0
 ChangesKeepValid =
-    (moment : ℤ) (w : World) (place : ℕ) → IsValid w → IsCallMoment moment → w.last ≤ℤ moment → IsQuiet w moment
-    → ((row : Invocation) → CanAdd w.invocations row.id → IsRow moment row → row.state ≡ Active → row.created ≡ moment
+    (moment : ℤ) (w : World) (place : ℕ) → IsValid w → IsCallMoment moment → w.last ≤ℤ moment
+    → IsQuiet w moment
+    → ((row : Invocation) → CanAdd w.invocations row.id → IsRow moment row → row.state ≡ Active
+    → row.created ≡ moment
     → IsValid (with_row w row))
-    × ((after : World) → IsInState Active w.invocations place → Settles moment (with_begun moment place w) after
+    × ((after : World) → IsInState Active w.invocations place
+    → Settles moment (with_begun moment place w) after
     → IsValid after)
     × ((deadline : Option ℤ) (tags : Option (List Pair)) → IsInState Active w.invocations place
-    → ForSome deadline (λ given. (moment <ℤ given) × (given ≤ℤ latest_deadline)) → ForSome tags (All IsPair)
+    → ForSome deadline (λ given. (moment <ℤ given) × (given ≤ℤ latest_deadline))
+    → ForSome tags (All IsPair)
     → IsValid (with_update moment place deadline tags w))
     × ((targets : List ℕ) → IsInState Active w.invocations place
     → All (λ target. (target < length w.invocations) × (target ≢ place)) targets
@@ -60,7 +66,8 @@ ChangesKeepValid =
 
 -- The rows that are final stay as they are, and what they include and reach stays.
 pub record KeepsFinal (w after : World) : Type 0 where
-  pub rows : (place : ℕ) (row : Invocation) → slice_get w.invocations place ≡ Some row → row.state ≡ Finalized
+  pub rows : (place : ℕ) (row : Invocation) → slice_get w.invocations place ≡ Some row
+      → row.state ≡ Finalized
       → slice_get after.invocations place ≡ Some row
   pub included : (place : ℕ) → IsInState Finalized w.invocations place
       → targets_of after.inclusions place ≡ targets_of w.inclusions place
@@ -81,7 +88,8 @@ ChangesKeepFinal =
     × (IsInState Active w.invocations place → KeepsFinal w (with_begun moment place w))
     × ((deadline : Option ℤ) (tags : Option (List Pair)) → IsInState Active w.invocations place
     → KeepsFinal w (with_update moment place deadline tags w))
-    × ((targets : List ℕ) → IsInState Active w.invocations place → KeepsFinal w (with_inclusions moment place targets w))
+    × ((targets : List ℕ) → IsInState Active w.invocations place
+    → KeepsFinal w (with_inclusions moment place targets w))
 
 -- An update is said to change a row just where the row is another one afterwards.
 abbrev pub UpdateIsTold : Type 0

@@ -5,7 +5,8 @@ use Rattle.invocations.specs.Rows.{TableState, states_of}
 use Rattle.invocation_world.specs.World.{World, IsValid}
 
 abbrev pub world_of : TableState → FinaliserState → ℤ → World
-world_of table finaliser last = record { invocations = table.rows; inclusions = finaliser.graph.edges; last = last }
+world_of table finaliser last =
+    record { invocations = table.rows; inclusions = finaliser.graph.edges; last = last }
 
 -- the states of the finaliser are those of the rows, and none is newly final
 pub record AreLinked (table : TableState) (finaliser : FinaliserState) : Type 0 where

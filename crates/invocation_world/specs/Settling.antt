@@ -9,16 +9,19 @@ use Rattle.invocation_world.specs.World.{World}
 
 -- The rows at these places are ended at the moment, and all others stay.
 pub record AreEnded (moment : ℤ) (places : List ℕ) (old new : List Invocation) : Type 0 where
-  pub these : (place : ℕ) (row : Invocation) → Contains places place → slice_get old place ≡ Some row
+  pub these : (place : ℕ) (row : Invocation) → Contains places place
+      → slice_get old place ≡ Some row
       → slice_get new place ≡ Some (ended moment row)
   pub others : (place : ℕ) → (¬ Contains places place) → slice_get new place ≡ slice_get old place
 
--- There is a list of just the places of the rows that are finalizing and reach no active one. These rows are ended at
--- the moment, all at once, and all other rows stay.
-pub record SettlesRows (moment : ℤ) (inclusions : List Edge) (old new : List Invocation) : Type 0 where
+-- There is a list of just the places of the rows that are finalizing and reach no active one. These
+-- rows are ended at the moment, all at once, and all other rows stay.
+pub record SettlesRows (moment : ℤ) (inclusions : List Edge)
+    (old new : List Invocation) : Type 0 where
   pub places : List ℕ
   pub all : (place : ℕ) → Contains places place
-      ↔ (IsInState Finalizing old place × (¬ finaliser.ReachesActive inclusions (states_of old) place))
+      ↔ (IsInState Finalizing old place
+      × (¬ finaliser.ReachesActive inclusions (states_of old) place))
   pub are_ended : AreEnded moment places old new
 
 -- The rows settle at this moment, and the inclusions and the last change stay.

@@ -21,8 +21,8 @@ graph_of state = record {
   spare_edges = state.spare_inclusions;
 }
 
--- The plan fits the world: its row is active, the targets are other rows that are there, which it doesn't include yet,
--- each once, and there is room for them.
+-- The plan fits the world: its row is active, the targets are other rows that are there, which it
+-- doesn't include yet, each once, and there is room for them.
 pub record Fits (state : WorldState) (plan : PlanState) : Type 0 where
   pub active : IsInState Active state.world.invocations plan.from
   pub held : plan.held ≡ targets_of state.world.inclusions plan.from

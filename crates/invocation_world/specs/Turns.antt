@@ -9,8 +9,8 @@ use Rattle.invocations.specs.Rows.{begun, with_changed}
 use Rattle.invocation_world.specs.Advancing.{AreQuiet}
 use Rattle.invocation_world.specs.Settling.{SettlesRows}
 
--- the next row that is due is begun at its deadline, and the rows settle at it, and so on with these places, until
--- nothing is due
+-- the next row that is due is begun at its deadline, and the rows settle at it, and so on with
+-- these places, until nothing is due
 abbrev pub RetiresInTurn : List Edge → ℤ → List Invocation → List ℕ → List Invocation → Type 0
 RetiresInTurn inclusions moment rows [] after = AreQuiet rows moment × (after ≡ rows)
 RetiresInTurn inclusions moment rows (place ∷ places) after =
@@ -21,7 +21,8 @@ RetiresInTurn inclusions moment rows (place ∷ places) after =
 
 -- some places lead there in turn
 abbrev pub RunsTo : List Edge → ℤ → List Invocation → List Invocation → Type 0
-RunsTo inclusions moment rows after = (places : List ℕ) × RetiresInTurn inclusions moment rows places after
+RunsTo inclusions moment rows after =
+    (places : List ℕ) × RetiresInTurn inclusions moment rows places after
 
 -- how many are active
 abbrev pub active_count : List State → ℕ

@@ -13,8 +13,8 @@ use Rattle.finaliser.specs.Settling as finaliser
 use Rattle.invocations.specs.declared.invocation.Invocation.{Invocation}
 use Rattle.invocations.specs.Rows.{IsInState, IsTable, states_of}
 
--- The invocations in order of creation; their inclusions in order of arrival, each an edge from the place of the
--- including row to that of the included one; and the moment of the last change.
+-- The invocations in order of creation; their inclusions in order of arrival, each an edge from the
+-- place of the including row to that of the included one; and the moment of the last change.
 pub record World : Type 0 where
   pub invocations : List Invocation
   pub inclusions : List Edge
@@ -49,7 +49,8 @@ with_row w row = record {
   last = row.created;
 }
 
--- The row at this place reaches an active one by a walk of inclusions, which may be the walk of the row alone.
+-- The row at this place reaches an active one by a walk of inclusions, which may be the walk of the
+-- row alone.
 abbrev pub ReachesActive : World → ℕ → Type 0
 ReachesActive w place = finaliser.ReachesActive w.inclusions (states_of w.invocations) place
 
@@ -73,11 +74,14 @@ IsCallMoment t = IsUntil latest_call t
 abbrev pub IsPair : Pair → Type 0
 IsPair p = IsPairKey p.key × IsPairValue p.value
 
--- An active row has its deadline still before it, and no start and no end of its finalization; a finalizing one has the
--- start alone; a final one has both. Each lies between 1970 and the last change.
+-- An active row has its deadline still before it, and no start and no end of its finalization; a
+-- finalizing one has the start alone; a final one has both. Each lies between 1970 and the last
+-- change.
 abbrev pub IsStage : ℤ → State → ℤ → Option ℤ → Option ℤ → Type 0
-IsStage last Active deadline started finished = (last <ℤ deadline) × (started ≡ None) × (finished ≡ None)
-IsStage last Finalizing deadline started finished = IsSomeAnd started (IsUntil last) × (finished ≡ None)
+IsStage last Active deadline started finished =
+    (last <ℤ deadline) × (started ≡ None) × (finished ≡ None)
+IsStage last Finalizing deadline started finished =
+    IsSomeAnd started (IsUntil last) × (finished ≡ None)
 IsStage last Finalized deadline started finished =
     IsSomeAnd started (IsUntil last) × IsSomeAnd finished (IsUntil last)
 

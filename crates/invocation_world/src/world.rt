@@ -129,7 +129,8 @@ impl InvocationWorld {
 
     /// Whether something is due at a moment: an active row whose deadline it is, or an earlier one.
     pub fn is_due(&self, moment: Moment) -> bool
-        ensures due { MatchBool result (IsDueAt self.now.world moment) (IsQuiet self.now.world moment) }
+        ensures due { MatchBool result (IsDueAt self.now.world moment)
+            (IsQuiet self.now.world moment) }
         ensures valid { IsValid self.now.world }
     {
         self.table.next_due(moment).is_some()

@@ -9,8 +9,8 @@ use Rattle.invocations.specs.Rows.{HasId, IsPlaceOf}
 abbrev pub CanAdd : List Invocation → List ℕ → Type 0
 CanAdd rows id = (¬ HasId rows id) × (length rows < 65_536)
 
--- A row has the id already, and stands at that place; or there are 65,536 rows, and none has the id; or a row could be
--- added, if there were memory.
+-- A row has the id already, and stands at that place; or there are 65,536 rows, and none has the
+-- id; or a row could be added, if there were memory.
 abbrev pub IsAddFault : List Invocation → List ℕ → AddFault → Type 0
 IsAddFault rows id (Taken place) = IsPlaceOf rows id place
 IsAddFault rows id (Full count) = (¬ HasId rows id) × (length rows ≡ 65_536) × (count ≡ 65_536)

@@ -67,7 +67,8 @@ deadlines_of rows = map (λ row. deadline_in row.state row.deadline) rows
 -- all deadlines with their places, in order
 pub record IsDueIndex (deadlines : List (Option ℤ)) (entries : List Due) : Type 0 where
   pub rising : IsRising due_order entries
-  pub all : (due : Due) → Contains entries due ↔ (slice_get deadlines due.place ≡ Some (Some due.deadline))
+  pub all : (due : Due)
+      → Contains entries due ↔ (slice_get deadlines due.place ≡ Some (Some due.deadline))
   pub few : length entries ≤ length deadlines
 
 -- rows with both indexes

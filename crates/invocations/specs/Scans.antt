@@ -7,7 +7,9 @@ use Rattle.invocations.specs.Due.{IsDue, IsNextDue}
 
 -- the due row with the least deadline, the first of several
 abbrev pub IsBestRow : List Invocation → ℤ → Due → Type 0
-IsBestRow rows moment due = (row : Invocation) × IsNextDue rows moment due.place row × (due.deadline ≡ row.deadline)
+IsBestRow rows moment due =
+    (row : Invocation) × IsNextDue rows moment due.place row × (due.deadline ≡ row.deadline)
 
 abbrev pub IsBest : List Invocation → ℤ → Option Due → Type 0
-IsBest rows moment best = MatchOption best (All (λ row. ¬ IsDue moment row) rows) (IsBestRow rows moment)
+IsBest rows moment best =
+    MatchOption best (All (λ row. ¬ IsDue moment row) rows) (IsBestRow rows moment)

@@ -1,4 +1,5 @@
--- Laws of requests and their faults: each service, method and body asks for one request or has one fault.
+-- Laws of requests and their faults: each service, method and body asks for one request or has one
+-- fault.
 use Rattle.std.specs.Prelude.{◌≡◌, ◌⊎◌, ◌≤◌, ◌≢◌, ℕ, true, List, All, Some, None}
 use Rattle.names_realms.specs.Pairs.{IsPairKey, IsPairValue}
 use Rattle.names_realms.specs.declared.pairs.Pair.{Pair}
@@ -15,37 +16,52 @@ use Rattle.call_forms.specs.declared.forms.Refusal.{Refusal}
 
 -- One body asks for at most one request.
 abbrev pub OneRequestAsked : Type 0
-OneRequestAsked = (service method body : List ℕ) (q r : Request) → Asks service method body q → Asks service method body r → q ≡ r
+OneRequestAsked =
+    (service method body : List ℕ) (q r : Request) → Asks service method body q
+    → Asks service method body r → q ≡ r
 
 -- It has at most one fault.
 abbrev pub OneFault : Type 0
-OneFault = (service method body : List ℕ) (f g : FormFault) → HasFault service method body f → HasFault service method body g → f ≡ g
+OneFault =
+    (service method body : List ℕ) (f g : FormFault) → HasFault service method body f
+    → HasFault service method body g → f ≡ g
 
 -- It never asks for a request and has a fault.
 abbrev pub NeverBoth : Type 0
-NeverBoth = (service method body : List ℕ) (q : Request) (f : FormFault) → Asks service method body q → ¬ HasFault service method body f
+NeverBoth =
+    (service method body : List ℕ) (q : Request) (f : FormFault) → Asks service method body q
+    → ¬ HasFault service method body f
 
 -- It asks for a request, or it has a fault.
 abbrev pub IsAskedOrFaulty : List ℕ → List ℕ → List ℕ → Type 0
-IsAskedOrFaulty service method body = ((q : Request) × Asks service method body q) ⊎ ((f : FormFault) × HasFault service method body f)
+IsAskedOrFaulty service method body =
+    ((q : Request) × Asks service method body q)
+    ⊎ ((f : FormFault) × HasFault service method body f)
 
 abbrev pub AsksOrHasFault : Type 0
 AsksOrHasFault = (service method body : List ℕ) → IsAskedOrFaulty service method body
 
 -- A fault has a refusal, by rule 1, or one of the rules 3 to 6.
 abbrev pub IsRefusedByForm : List ℕ → FormFault → Type 0
-IsRefusedByForm target f = (r : Refusal) × (refusal_of target f ≡ Some r) × (1 ≤ r.rule) × (r.rule ≤ 6) × (r.rule ≢ 2)
+IsRefusedByForm target f =
+    (r : Refusal) × (refusal_of target f ≡ Some r) × (1 ≤ r.rule) × (r.rule ≤ 6) × (r.rule ≢ 2)
 
 abbrev pub FaultIsRefused : Type 0
-FaultIsRefused = (service method body target : List ℕ) (f : FormFault) → HasFault service method body f → IsRefusedByForm target f
+FaultIsRefused =
+    (service method body target : List ℕ) (f : FormFault) → HasFault service method body f
+    → IsRefusedByForm target f
 
 -- No body asks for an update that changes nothing.
 abbrev pub UpdateChangesSomething : Type 0
-UpdateChangesSomething = (service method body id : List ℕ) → ¬ Asks service method body (UpdateInvocation id None None)
+UpdateChangesSomething =
+    (service method body id : List ℕ) → ¬ Asks service method body (UpdateInvocation id None None)
 
--- What a row shows can be shown: its creator has the form of a user's name, and its tags are pairs of their grammar.
+-- What a row shows can be shown: its creator has the form of a user's name, and its tags are pairs
+-- of their grammar.
 abbrev pub IsPairOfGrammar : Pair → Type 0
 IsPairOfGrammar pair = IsPairKey pair.key × IsPairValue pair.value
 
 abbrev pub RowIsShowable : Type 0
-RowIsShowable = (s : InvocationShown) → is_user_name s.creator ≡ true → All IsPairOfGrammar s.tags → IsShowable (Invocation s)
+RowIsShowable =
+    (s : InvocationShown) → is_user_name s.creator ≡ true → All IsPairOfGrammar s.tags
+    → IsShowable (Invocation s)

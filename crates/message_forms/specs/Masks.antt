@@ -1,4 +1,5 @@
--- Update masks: one text that names the fields that a request changes, and fields that are looked at only where it names them.
+-- Update masks: one text that names the fields that a request changes, and fields that are looked
+-- at only where it names them.
 use Rattle.std.specs.Prelude.{◌≡◌, ◌==◌, ◌||◌, if◌then◌else◌, ⊤, ℕ, Bool, true, false, List, [], ◌∷◌, codes, Option, Some, None}
 use Rattle.std.specs.List.{list_all, list_any, slice_split}
 use Rattle.std.specs.Str.{bytes_eq}
@@ -26,7 +27,8 @@ abbrev pub a_mask : Data → Option FieldFault
 a_mask null = Some (here WrongKind)
 a_mask (boolean b) = Some (here WrongKind)
 a_mask (number n) = Some (here WrongKind)
-a_mask (string s) = if list_all can_be_updated (pieces s) then None else Some (here (BadValue NotUpdatable))
+a_mask (string s) =
+    if list_all can_be_updated (pieces s) then None else Some (here (BadValue NotUpdatable))
 a_mask (array ds) = Some (here WrongKind)
 a_mask (object ms) = Some (here WrongKind)
 

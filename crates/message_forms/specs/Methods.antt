@@ -1,4 +1,5 @@
--- The table of methods: the service and the name of each, the fields of its requests, and what a value asks for by it.
+-- The table of methods: the service and the name of each, the fields of its requests, and what a
+-- value asks for by it.
 use Rattle.std.specs.Prelude.{◌≡◌, ℕ, List, codes, Option, Some, None, if◌then◌else◌}
 use Rattle.std.specs.Str.{bytes_eq}
 use Rattle.serde_json.specs.Data.{Data}
@@ -14,7 +15,8 @@ recorder_method name =
     if bytes_eq name (codes "CreateInvocation") then Some CreateInvocation
     else (if bytes_eq name (codes "UpdateInvocation") then Some UpdateInvocation
     else (if bytes_eq name (codes "FinalizeInvocation") then Some FinalizeInvocation
-    else (if bytes_eq name (codes "UpdateIncludedInvocations") then Some UpdateIncludedInvocations else None)))
+    else (if bytes_eq name (codes "UpdateIncludedInvocations") then Some UpdateIncludedInvocations
+    else None)))
 
 -- the methods that read
 abbrev pub reader_method : List ℕ → Option Method

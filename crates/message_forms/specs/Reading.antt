@@ -31,7 +31,8 @@ pub record IsFieldFault (method : Method) (value : Data) (fault : FormFault) : T
   pub is_first : request_fault method value ≡ Some found
   pub told : fault ≡ field_fault found.kind found.path
 
--- The method is there, the body is JSON, its value has no fault by the method's fields, and it asks for this.
+-- The method is there, the body is JSON, its value has no fault by the method's fields, and it asks
+-- for this.
 pub record Asks (service name body : List ℕ) (request : Request) : Type 0 where
   pub method : Method
   pub named : method_of service name ≡ Some method
@@ -40,10 +41,13 @@ pub record Asks (service name body : List ℕ) (request : Request) : Type 0 wher
   pub no_fault : request_fault method value ≡ None
   pub meant : Means method value request
 
--- Else this is the first thing that is wrong: there is no such method, or the body is no JSON, or a field is at fault.
+-- Else this is the first thing that is wrong: there is no such method, or the body is no JSON, or a
+-- field is at fault.
 pub data HasFault (service name body : List ℕ) (fault : FormFault) : Type 0 where
   no_method : method_of service name ≡ None → fault ≡ NoMethod → HasFault service name body fault
-  not_json : (method : Method) → method_of service name ≡ Some method → ((d : Data) → ¬ IsJson body d) → fault ≡ NotJson
+  not_json : (method : Method) → method_of service name ≡ Some method
+      → ((d : Data) → ¬ IsJson body d) → fault ≡ NotJson
       → HasFault service name body fault
-  in_field : (method : Method) → method_of service name ≡ Some method → (d : Data) → IsJson body d → IsFieldFault method d fault
+  in_field : (method : Method) → method_of service name ≡ Some method → (d : Data) → IsJson body d
+      → IsFieldFault method d fault
       → HasFault service name body fault

@@ -12,11 +12,13 @@ use Rattle.message_forms.specs.declared.reading.FormFault.TheVariants.{NoMethod,
 abbrev pub value_subject : List Step → Why → List ℕ
 value_subject field why = path_text field ++ (codes " " ++ why_text why)
 
--- Rule 1 names the target, rules 4 and 5 name the field, and rule 6 says besides why its value is refused. Want of memory is no refusal.
+-- Rule 1 names the target, rules 4 and 5 name the field, and rule 6 says besides why its value is
+-- refused. Want of memory is no refusal.
 abbrev pub refusal_of : List ℕ → FormFault → Option Refusal
 refusal_of target NoMethod = Some (record { rule = 1; subject = target })
 refusal_of target NotJson = Some (record { rule = 3; subject = [] })
 refusal_of target (WrongKind field) = Some (record { rule = 4; subject = path_text field })
 refusal_of target (Missing field) = Some (record { rule = 5; subject = path_text field })
-refusal_of target (BadValue field why) = Some (record { rule = 6; subject = value_subject field why })
+refusal_of target (BadValue field why) =
+    Some (record { rule = 6; subject = value_subject field why })
 refusal_of target Memory = None

@@ -1,4 +1,5 @@
--- The texts of replies: JSON (RFC 8259) by the Proto3 mapping, without blanks, the members in byte order of their names.
+-- The texts of replies: JSON (RFC 8259) by the Proto3 mapping, without blanks, the members in byte
+-- order of their names.
 use Rattle.std.specs.Prelude.{ℕ, ℤ, List, ◌++◌, codes, ⊤}
 use Rattle.serde_json.specs.Data.{Data, string, object, Members, no_members}
 use Rattle.serde_json.specs.Written.{compact_text}

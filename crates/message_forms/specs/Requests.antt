@@ -43,7 +43,8 @@ pub record IsNewInvocation (d : Data) (new : NewInvocation) : Type 0 where
   pub deadline_is : HoldsMaybe (IsText IsMomentText) (set_at name.deadline d) new.deadline
   pub tags_are : HoldsList IsTag (set_at name.tags d) new.tags
 
--- of a request for a new invocation: a request id, which isn't built yet, the new id, and the invocation
+-- of a request for a new invocation: a request id, which isn't built yet, the new id, and the
+-- invocation
 abbrev pub create_fields : List (Data → Option FieldFault)
 create_fields =
     an_object
@@ -67,7 +68,8 @@ an_invocation_name = a_text invocation_name_fault
 abbrev pub IsNameOf : Data → List ℕ → Type 0
 IsNameOf = IsText (λ text id. IsInvocationName id text)
 
--- of what names an invocation: its name. So are the requests that end an invocation, or show it, and the invocation in an update.
+-- of what names an invocation: its name. So are the requests that end an invocation, or show it,
+-- and the invocation in an update.
 abbrev pub named_fields : List (Data → Option FieldFault)
 named_fields = an_object ∷ required name.name empty_text an_invocation_name ∷ []
 
@@ -82,7 +84,8 @@ abbrev pub a_changed_deadline : Data → Option FieldFault
 a_changed_deadline d = required name.deadline empty_text (a_text moment_fault) d
 
 abbrev pub IsChangedDeadline : Data → ℤ → Type 0
-IsChangedDeadline d deadline = Holds (IsText IsMomentText) (filled_at name.deadline empty_text d) deadline
+IsChangedDeadline d deadline =
+    Holds (IsText IsMomentText) (filled_at name.deadline empty_text d) deadline
 
 abbrev pub some_changed_tags : Data → Option FieldFault
 some_changed_tags d = optional name.tags (a_list a_tag) d
@@ -103,13 +106,18 @@ update_fields =
 unfoldable pub an_update_request : Data → Option FieldFault
 an_update_request d = fault_of update_fields d
 
--- A value asks to give the invocation with this id a deadline and tags, each where its mask names it.
-pub record IsUpdate (d : Data) (id : List ℕ) (deadline : Option ℤ) (tags : Option (List Pair)) : Type 0 where
+-- A value asks to give the invocation with this id a deadline and tags, each where its mask names
+-- it.
+pub record IsUpdate (d : Data) (id : List ℕ) (deadline : Option ℤ)
+    (tags : Option (List Pair)) : Type 0 where
   pub id_is : Holds IsNamed (filled_at name.invocation never_empty d) id
-  pub deadline_is : HoldsWhere (is_named name.deadline d) (Holds IsChangedDeadline (filled_at name.invocation never_empty d)) deadline
-  pub tags_are : HoldsWhere (is_named name.tags d) (Holds AreChangedTags (filled_at name.invocation never_empty d)) tags
+  pub deadline_is : HoldsWhere (is_named name.deadline d)
+      (Holds IsChangedDeadline (filled_at name.invocation never_empty d)) deadline
+  pub tags_are : HoldsWhere (is_named name.tags d)
+      (Holds AreChangedTags (filled_at name.invocation never_empty d)) tags
 
--- of a request to include invocations: the including one, those to add, and those to remove, which isn't built yet
+-- of a request to include invocations: the including one, those to add, and those to remove, which
+-- isn't built yet
 abbrev pub include_fields : List (Data → Option FieldFault)
 include_fields =
     an_object
@@ -128,7 +136,8 @@ pub record IsInclude (d : Data) (including : List ℕ) (add : List (List ℕ)) :
 
 -- What a value asks for, by the fields of the request's method.
 abbrev pub AsksFor : Data → Request → Type 0
-AsksFor d (CreateInvocation id realm deadline tags) = IsCreate d id (record { realm = realm; deadline = deadline; tags = tags })
+AsksFor d (CreateInvocation id realm deadline tags) =
+    IsCreate d id (record { realm = realm; deadline = deadline; tags = tags })
 AsksFor d (UpdateInvocation id deadline tags) = IsUpdate d id deadline tags
 AsksFor d (FinalizeInvocation id) = IsNamed d id
 AsksFor d (UpdateIncludedInvocations including add) = IsInclude d including add

@@ -23,7 +23,8 @@ new_invocation_data new =
 -- a request for a new invocation with this id
 abbrev pub create_data : List ℕ → Data → Data
 create_data id new =
-    object (put_required name.invocation (λ d. d) new (put_required name.invocation_id (λ text. string text) id no_members))
+    object (put_required name.invocation (λ d. d) new
+    (put_required name.invocation_id (λ text. string text) id no_members))
 
 -- an invocation by its name
 abbrev pub name_data : List ℕ → Data
@@ -50,25 +51,30 @@ mask_written None None = None
 -- an update of it by this mask
 abbrev pub update_data : List ℕ → Data → Data
 update_data mask changed =
-    object (put_required name.update_mask (λ text. string text) mask (put_required name.invocation (λ d. d) changed no_members))
+    object (put_required name.update_mask (λ text. string text) mask
+    (put_required name.invocation (λ d. d) changed no_members))
 
 -- a request to include invocations
 abbrev pub include_data : List ℕ → List (List ℕ) → Data
 include_data including add =
-    object (put_required name.including_invocation name_data including (put_list name.add_invocations name_data add no_members))
+    object (put_required name.including_invocation name_data including
+    (put_list name.add_invocations name_data add no_members))
 
 -- a request's members under their lowerCamelCase names, in byte order
 abbrev pub request_data : Request → Data
 request_data (CreateInvocation id realm deadline tags) =
-    create_data id (new_invocation_data (record { realm = realm; deadline = deadline; tags = tags }))
+    create_data id (new_invocation_data
+    (record { realm = realm; deadline = deadline; tags = tags }))
 request_data (UpdateInvocation id deadline tags) =
     update_data (unwrap_or (mask_written deadline tags) []) (changed_data id deadline tags)
 request_data (FinalizeInvocation id) = named_data id
 request_data (UpdateIncludedInvocations including add) = include_data including add
 request_data (GetInvocation id) = named_data id
 
--- What is written of the invocation in an update is read as its name, and as the deadline and the tags that are given.
-pub record IsChanged (d : Data) (id : List ℕ) (deadline : Option ℤ) (tags : Option (List Pair)) : Type 0 where
+-- What is written of the invocation in an update is read as its name, and as the deadline and the
+-- tags that are given.
+pub record IsChanged (d : Data) (id : List ℕ) (deadline : Option ℤ)
+    (tags : Option (List Pair)) : Type 0 where
   pub is_set : set d ≡ Some d
   pub no_fault : a_named d ≡ None
   pub named : IsNamed d id

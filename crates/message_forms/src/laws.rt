@@ -1,4 +1,5 @@
-//! Laws of the definitions that the contracts cite. These functions do nothing: what each of them ensures is the law.
+//! Laws of the definitions that the contracts cite. These functions do nothing: what each of them
+//! ensures is the law.
 ghost use Rattle.message_forms.specs.Laws.{OneRequestAsked, OneFault, NeverBoth, AsksOrHasFault, FaultIsRefused, UpdateChangesSomething, RowIsShowable};
 
 /// One body asks for one request.
@@ -31,7 +32,8 @@ pub fn update_changes_something()
     ensures { UpdateChangesSomething }
 {}
 
-/// What a row shows is UTF-8: a creator of the form of a user's name, and tags of the grammar of pairs.
+/// What a row shows is UTF-8: a creator of the form of a user's name, and tags of the grammar of
+/// pairs.
 pub fn row_is_showable()
     ensures { RowIsShowable }
 {}

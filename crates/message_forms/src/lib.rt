@@ -1,4 +1,5 @@
-//! Requests as they are read from JSON, and replies as they are written: the messages of the service, by one table of methods.
+//! Requests as they are read from JSON, and replies as they are written: the messages of the
+//! service, by one table of methods.
 #![tactic(auto)]
 
 pub mod laws;

@@ -52,7 +52,8 @@ impl From<ReadFault> for FormFault {
 /// The JSON value of a body.
 fn json_of(alloc: Global, body: &[u8]) -> Result<Value, FormFault>
     ensures ok { IfOk result (λ v. IsJson body.now (view v)) }
-    ensures err { IfErr result (λ f. f ≢ FormFault.Memory → (f ≡ FormFault.NotJson) × ((d : Data) → ¬ IsJson body.now d)) }
+    ensures err { IfErr result
+        (λ f. f ≢ FormFault.Memory → (f ≡ FormFault.NotJson) × ((d : Data) → ¬ IsJson body.now d)) }
 {
     match read_json(alloc, body) {
         Ok(value) => Ok(value),
@@ -63,8 +64,10 @@ fn json_of(alloc: Global, body: &[u8]) -> Result<Value, FormFault>
 
 /// Reads a value by the fields of the method.
 fn read_value(alloc: Global, method: Method, value: &Value) -> Result<Request, FormFault>
-    ensures ok { IfOk result (λ q. (request_fault method (view value.now) ≡ None) × Means method (view value.now) q) }
-    ensures err { IfErr result (λ f. f ≢ FormFault.Memory → IsFieldFault method (view value.now) f) }
+    ensures ok { IfOk result
+        (λ q. (request_fault method (view value.now) ≡ None) × Means method (view value.now) q) }
+    ensures err { IfErr result
+        (λ f. f ≢ FormFault.Memory → IsFieldFault method (view value.now) f) }
 {
     match method.read(alloc, value) {
         Ok(request) => Ok(request),
@@ -72,8 +75,9 @@ fn read_value(alloc: Global, method: Method, value: &Value) -> Result<Request, F
     }
 }
 
-/// Reads a request: by this service and this method, from this body. The first fault where it has one: of the method, then of the
-/// body as JSON, then of its fields in the method's order; and `Memory`.
+/// Reads a request: by this service and this method, from this body. The first fault where it has
+/// one: of the method, then of the body as JSON, then of its fields in the method's order; and
+/// `Memory`.
 pub fn read_request(
     alloc: Global,
     service: &[u8],
@@ -81,7 +85,8 @@ pub fn read_request(
     body: &[u8],
 ) -> Result<Request, FormFault>
     ensures ok { IfOk result (Asks service.now method.now body.now) }
-    ensures err { IfErr result (λ f. f ≢ FormFault.Memory → HasFault service.now method.now body.now f) }
+    ensures err { IfErr result
+        (λ f. f ≢ FormFault.Memory → HasFault service.now method.now body.now f) }
 {
     let Some(method) = Method::of(service, method) else {
         return Err(FormFault::NoMethod);

@@ -9,8 +9,9 @@ use json_fields::{Step, Why, path_text};
 use lists::Bytes;
 use std::alloc::{AllocError, Global};
 
-/// The refusal of a fault of the form, by rules 1 and 3 to 6. `target` is what the caller asked for, which rule 1 names. `Err` where
-/// there is no memory for its subject, and for the fault `Memory`, which is no refusal.
+/// The refusal of a fault of the form, by rules 1 and 3 to 6. `target` is what the caller asked
+/// for, which rule 1 names. `Err` where there is no memory for its subject, and for the fault
+/// `Memory`, which is no refusal.
 pub fn refusal_of(alloc: Global, target: &[u8], fault: &FormFault) -> Result<Refusal, AllocError>
     ensures { IfOk result (λ r. refusal_of target.now fault.now ≡ Some r) }
 {

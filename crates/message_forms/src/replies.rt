@@ -19,7 +19,8 @@ use serde_json::{Map, Value};
 use std::alloc::{AllocError, Global};
 use std::marker::Model;
 
-/// An invocation as a reply shows it, by what the service holds. Contracts see it as the values that are shown.
+/// An invocation as a reply shows it, by what the service holds. Contracts see it as the values
+/// that are shown.
 #[derive(Drop)]
 pub struct ShownInvocation<'r, 'i> {
     pub id: &'r InvocationId,

@@ -150,7 +150,8 @@ const READ: [(&str, &str); 8] = [
     ),
 ];
 
-/// Bodies for the other methods, and the texts of their refusals. `N` begins what stands beside the name of a right invocation.
+/// Bodies for the other methods, and the texts of their refusals. `N` begins what stands beside the
+/// name of a right invocation.
 const OTHERS_REFUSED: [(&str, &str, &str); 31] = [
     ("UpdateInvocation", "5", "4 WrongKind: body\n"),
     ("UpdateInvocation", "{}", "5 Missing: invocation\n"),
@@ -335,8 +336,9 @@ const OTHERS_READ: [(&str, &str, &str); 10] = [
     ),
 ];
 
-/// The body of a row: `D` begins a deadline and `T` tags of a new invocation that is right otherwise, `N` what stands beside the name
-/// of one that is updated, and `I` the invocations to add to one.
+/// The body of a row: `D` begins a deadline and `T` tags of a new invocation that is right
+/// otherwise, `N` what stands beside the name of one that is updated, and `I` the invocations to
+/// add to one.
 fn body_of(alloc: Global, row: &str) -> Result<String, AllocError> {
     let front = "{\"invocationId\":\"u-a\",\"invocation\":{\"realm\":\"proj:ci\",";
     if let Some(rest) = row.strip_prefix("D") {

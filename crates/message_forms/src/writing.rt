@@ -217,9 +217,9 @@ fn request_value(alloc: Global, request: &Request) -> Result<Value, AllocError>
     }
 }
 
-/// The text of a request, which is read again as the same request by its method: compact JSON, the members by their lowerCamelCase
-/// names in byte order, unset ones left out. `Err` where there is no memory for it, and for an update that changes nothing, for which
-/// no body asks.
+/// The text of a request, which is read again as the same request by its method: compact JSON, the
+/// members by their lowerCamelCase names in byte order, unset ones left out. `Err` where there is
+/// no memory for it, and for an update that changes nothing, for which no body asks.
 pub fn write_request(alloc: Global, request: &Request) -> Result<Bytes, AllocError>
     ensures text { IfOk result (λ text. text ≡ compact_text (request_data request.now)) }
     ensures reads_back { IfOk result (λ text. Asks (service_of (method_asked request.now))

@@ -10,8 +10,8 @@ use Rattle.name_parts.specs.declared.faults.NameFault.TheVariants.{Empty, BadByt
 use Rattle.name_parts.specs.Grammar.{IsFirstBadPlace}
 use Rattle.moments_spans.specs.Moments.{two_digits, date_text, moment_at, IsInYears}
 
--- Of digits the first is worth so many microseconds, and each further one a tenth of the one before it. What is worth less than one
--- microsecond is dropped.
+-- Of digits the first is worth so many microseconds, and each further one a tenth of the one before
+-- it. What is worth less than one microsecond is dropped.
 abbrev pub worth_of : ℕ → List ℕ → ℕ
 worth_of worth [] = 0
 worth_of worth (b ∷ bs) = worth * (b - 48) + worth_of (worth / 10) bs
@@ -56,8 +56,10 @@ pub record IsClockText (text : List ℕ) (micros : ℕ) : Type 0 where
 -- `Z`, or a sign and HH:MM; as how many minutes the clock is before UTC
 pub data IsZone (text : List ℕ) (minutes : ℤ) : Type 0 where
   utc : text ≡ 90 ∷ [] → minutes ≡ pos 0 → IsZone text minutes
-  before : (rest : List ℕ) (n : ℕ) → IsHourAndMinute rest n → text ≡ 43 ∷ rest → minutes ≡ pos n → IsZone text minutes
-  behind : (rest : List ℕ) (n : ℕ) → IsHourAndMinute rest n → text ≡ 45 ∷ rest → minutes ≡ neg_ℤ (pos n) → IsZone text minutes
+  before : (rest : List ℕ) (n : ℕ) → IsHourAndMinute rest n → text ≡ 43 ∷ rest → minutes ≡ pos n
+      → IsZone text minutes
+  behind : (rest : List ℕ) (n : ℕ) → IsHourAndMinute rest n → text ≡ 45 ∷ rest
+      → minutes ≡ neg_ℤ (pos n) → IsZone text minutes
 
 -- a date, `T`, a time of day and a zone; as microseconds since 1970-01-01T00:00:00Z
 pub record IsMomentText (text : List ℕ) (micros : ℤ) : Type 0 where
@@ -78,8 +80,11 @@ pub record SaysMoment (text : List ℕ) : Type 0 where
   pub micros : ℤ
   pub said : IsMomentText text micros
 
--- What is wrong with a text: it is empty, or breaks the grammar first here, or says a moment outside the years 1 to 9999 in UTC.
+-- What is wrong with a text: it is empty, or breaks the grammar first here, or says a moment
+-- outside the years 1 to 9999 in UTC.
 pub data IsMomentFault (text : List ℕ) (fault : NameFault) : Type 0 where
   empty : text ≡ [] → fault ≡ Empty → IsMomentFault text fault
-  bad : text ≢ [] → (place : ℕ) → IsFirstBadPlace SaysMoment text place → fault ≡ BadByte place → IsMomentFault text fault
-  outside : (micros : ℤ) → IsMomentText text micros → ¬ IsInYears micros → fault ≡ OutOfRange → IsMomentFault text fault
+  bad : text ≢ [] → (place : ℕ) → IsFirstBadPlace SaysMoment text place → fault ≡ BadByte place
+      → IsMomentFault text fault
+  outside : (micros : ℤ) → IsMomentText text micros → ¬ IsInYears micros → fault ≡ OutOfRange
+      → IsMomentFault text fault

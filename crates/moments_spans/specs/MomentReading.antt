@@ -1,5 +1,7 @@
--- How the code reads a moment from left to right. Callers read `MomentGrammar`, which says what it finds. A reader gives its value and the rest, or how many bytes stood from the first bad place on: the
--- first byte after which no text of the grammar goes on, or the end of a text that ends too soon.
+-- How the code reads a moment from left to right. Callers read `MomentGrammar`, which says what it
+-- finds. A reader gives its value and the rest, or how many bytes stood from the first bad place
+-- on: the first byte after which no text of the grammar goes on, or the end of a text that ends too
+-- soon.
 use Rattle.std.specs.Prelude.{ℕ, zero, suc, ◌+◌, ◌-◌, ◌*◌, ◌/◌, ◌&&◌, ◌==◌, if◌then◌else◌, nat_le, Bool, true, false, int_le, List, [], ◌∷◌, length, Result, Ok, Err, ℤ, pos, neg_ℤ}
 use Rattle.std.specs.Borrow.{Bor}
 use Rattle.std.specs.Char.{is_ascii_digit}
@@ -26,7 +28,8 @@ seen_rest (Err left) = Err left
 unfoldable pub digit_from : ℕ → ℕ → ℕ → ℕ → List ℕ → Result (ℕ × List ℕ) ℕ
 digit_from worth low high so_far [] = Err 0
 digit_from worth low high so_far (b ∷ bs) =
-    if is_ascii_digit b && nat_le (so_far + worth * (b - 48)) high && nat_le low (so_far + worth * (b - 48) + (worth - 1))
+    if is_ascii_digit b && nat_le (so_far + worth * (b - 48)) high
+    && nat_le low (so_far + worth * (b - 48) + (worth - 1))
     then Ok (so_far + worth * (b - 48), bs)
     else Err (length (b ∷ bs))
 
@@ -59,17 +62,20 @@ day_from text = do
   day ← two_from 1 (days_in_month (pos year.0) month.0) behind_month
   Ok (days_from_civil (pos year.0) month.0 day.0, day.1)
 
--- up to so many digits more behind a point, each worth a tenth of the one before it; what is worth less than a microsecond is dropped
+-- up to so many digits more behind a point, each worth a tenth of the one before it; what is worth
+-- less than a microsecond is dropped
 unfoldable pub fraction_from : ℕ → ℕ → ℕ → List ℕ → ℕ × List ℕ
 fraction_from zero worth so_far text = (so_far, text)
 fraction_from (suc left) worth so_far [] = (so_far, [])
 fraction_from (suc left) worth so_far (b ∷ bs) =
-    if is_ascii_digit b then fraction_from left (worth / 10) (so_far + worth * (b - 48)) bs else (so_far, b ∷ bs)
+    if is_ascii_digit b then fraction_from left (worth / 10) (so_far + worth * (b - 48)) bs
+    else (so_far, b ∷ bs)
 
 -- at least one digit, and up to nine
 unfoldable pub digits_from : List ℕ → Result (ℕ × List ℕ) ℕ
 digits_from [] = Err 0
-digits_from (b ∷ bs) = if is_ascii_digit b then Ok (fraction_from 9 100_000 0 (b ∷ bs)) else Err (length (b ∷ bs))
+digits_from (b ∷ bs) =
+    if is_ascii_digit b then Ok (fraction_from 9 100_000 0 (b ∷ bs)) else Err (length (b ∷ bs))
 
 -- the decimals where there is a point, as microseconds
 unfoldable pub decimals_from : List ℕ → Result (ℕ × List ℕ) ℕ
@@ -133,4 +139,5 @@ moment_judged len (Err left) = Err (BadByte (len - left))
 
 -- What a text reads as: its moment, or what is wrong with it.
 abbrev pub moment_of : List ℕ → Result ℤ NameFault
-moment_of text = if length text == 0 then Err Empty else moment_judged (length text) (moment_from text)
+moment_of text =
+    if length text == 0 then Err Empty else moment_judged (length text) (moment_from text)

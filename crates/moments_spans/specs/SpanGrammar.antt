@@ -29,8 +29,11 @@ pub record SaysSpan (text : List ℕ) : Type 0 where
   pub micros : ℕ
   pub said : IsSpanText text micros
 
--- What is wrong with a text: it is empty, or breaks the grammar first here, or says more than 315,576,000,000 seconds.
+-- What is wrong with a text: it is empty, or breaks the grammar first here, or says more than
+-- 315,576,000,000 seconds.
 pub data IsSpanFault (text : List ℕ) (fault : NameFault) : Type 0 where
   empty : text ≡ [] → fault ≡ Empty → IsSpanFault text fault
-  bad : text ≢ [] → (place : ℕ) → IsFirstBadPlace SaysSpan text place → fault ≡ BadByte place → IsSpanFault text fault
-  outside : (micros : ℕ) → IsSpanText text micros → most_span < micros → fault ≡ OutOfRange → IsSpanFault text fault
+  bad : text ≢ [] → (place : ℕ) → IsFirstBadPlace SaysSpan text place → fault ≡ BadByte place
+      → IsSpanFault text fault
+  outside : (micros : ℕ) → IsSpanText text micros → most_span < micros → fault ≡ OutOfRange
+      → IsSpanFault text fault

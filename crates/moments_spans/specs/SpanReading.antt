@@ -1,4 +1,5 @@
--- How the code reads a span from left to right. Callers read `SpanGrammar`, which says what it finds.
+-- How the code reads a span from left to right. Callers read `SpanGrammar`, which says what it
+-- finds.
 use Rattle.std.specs.Prelude.{ℕ, zero, suc, ◌+◌, ◌-◌, ◌*◌, ◌==◌, if◌then◌else◌, nat_le, List, [], ◌∷◌, length, Result, Ok, Err}
 use Rattle.std.specs.Char.{is_ascii_digit}
 use Rattle.name_parts.specs.declared.faults.NameFault.{NameFault}
@@ -10,12 +11,14 @@ use Rattle.moments_spans.specs.Spans.{most_span}
 unfoldable pub whole_from : ℕ → ℕ → List ℕ → ℕ × List ℕ
 whole_from zero so_far text = (so_far, text)
 whole_from (suc left) so_far [] = (so_far, [])
-whole_from (suc left) so_far (b ∷ bs) = if is_ascii_digit b then whole_from left (10 * so_far + (b - 48)) bs else (so_far, b ∷ bs)
+whole_from (suc left) so_far (b ∷ bs) =
+    if is_ascii_digit b then whole_from left (10 * so_far + (b - 48)) bs else (so_far, b ∷ bs)
 
 -- at least one digit, and up to twelve
 unfoldable pub seconds_from : List ℕ → Result (ℕ × List ℕ) ℕ
 seconds_from [] = Err 0
-seconds_from (b ∷ bs) = if is_ascii_digit b then Ok (whole_from 12 0 (b ∷ bs)) else Err (length (b ∷ bs))
+seconds_from (b ∷ bs) =
+    if is_ascii_digit b then Ok (whole_from 12 0 (b ∷ bs)) else Err (length (b ∷ bs))
 
 -- nothing more
 abbrev pub span_ended : ℕ → List ℕ → Result ℕ ℕ

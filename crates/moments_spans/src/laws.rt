@@ -1,4 +1,5 @@
-//! Laws of the definitions that the contracts cite. These functions do nothing: what each of them ensures is the law.
+//! Laws of the definitions that the contracts cite. These functions do nothing: what each of them
+//! ensures is the law.
 ghost use Rattle.moments_spans.specs.Laws.{DecimalsAreFewest, OneMomentFault, OneMomentSaid, OneSpanFault, OneSpanSaid, PrintedDecimalsAreSaid, PrintedMomentIsSaid, PrintedSpanIsSaid, SaidMomentHasNoFault, SaidSpanHasNoFault};
 
 /// One text says at most one moment.

@@ -1,4 +1,5 @@
-//! Reading moments, each reader from the front of a text. Where it fails it tells how many bytes stand from the first bad place on.
+//! Reading moments, each reader from the front of a text. Where it fails it tells how many bytes
+//! stand from the first bad place on.
 ghost use Rattle.std.specs.Prelude.{◌≡◌, ◌≤◌, ◌<◌, ◌+◌, ◌-◌, ◌*◌, ◌≤ℤ◌, ◌↔◌, ℕ, List, [], length, pos, neg_ℤ, Ok, IfOk, IsTrue};
 ghost use Rattle.std.specs.Int.{IsInRange};
 ghost use Rattle.jiff.specs.Words.{IsBetween, IsEpochDay};
@@ -8,7 +9,8 @@ ghost use Rattle.moments_spans.specs.Moments.{moment_at};
 
 use jiff::civil::Date;
 
-/// Reads one digit more, worth so much, of a number that can still come to lie from `low` to `high`.
+/// Reads one digit more, worth so much, of a number that can still come to lie from `low` to
+/// `high`.
 #[tactic(auto, unfolding(crate::specs::MomentReading::digit_from))]
 fn digit(text: &[u8], worth: u32, low: u32, high: u32, so_far: u32) -> Result<(u32, &[u8]), usize>
     requires worth { IsInRange 1 1000 worth }
@@ -116,7 +118,8 @@ fn day(text: &[u8]) -> Result<(i32, &[u8]), usize>
     Ok((day_number(year, month, day), rest))
 }
 
-/// Reads up to nine digits behind a point as microseconds, of which the text has the first at least.
+/// Reads up to nine digits behind a point as microseconds, of which the text has the first at
+/// least.
 fn fraction(text: &[u8]) -> (u32, &[u8])
     ensures value { (result.0, result.1.now) ≡ fraction_from 9 100_000 0 text.now }
     ensures bound { result.0 < 1_000_000 }

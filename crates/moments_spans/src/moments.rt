@@ -127,7 +127,8 @@ fn push_clock(out: &mut String, micros: u64) -> Result<(), AllocError>
 fn push_day_and_clock(out: &mut String, day: i32, clock: u64) -> Result<(), AllocError>
     requires day { IsBetween (neg_ℤ (pos 719_162)) (pos 2_932_896) day }
     requires clock { clock < 86_400_000_000 }
-    ensures { OnOk result (string_bytes out.new ≡ string_bytes out.old ++ text_of_day_and_clock day clock) }
+    ensures { OnOk result
+        (string_bytes out.new ≡ string_bytes out.old ++ text_of_day_and_clock day clock) }
 {
     push_date(out, date_of(day))?;
     out.push('T')?;
@@ -201,9 +202,10 @@ impl Moment {
         self.micros
     }
 
-    /// Reads a moment of RFC 3339, all of the text: `YYYY-MM-DDTHH:MM:SS`, where there are decimals a point and one to nine digits,
-    /// and `Z` or an offset as `+HH:MM`. What decimals say below a microsecond is dropped. `OutOfRange` where the moment is before the
-    /// year 1 or after the year 9999 in UTC. Takes no memory, and so never answers `Memory`.
+    /// Reads a moment of RFC 3339, all of the text: `YYYY-MM-DDTHH:MM:SS`, where there are decimals
+    /// a point and one to nine digits, and `Z` or an offset as `+HH:MM`. What decimals say below a
+    /// microsecond is dropped. `OutOfRange` where the moment is before the year 1 or after the year
+    /// 9999 in UTC. Takes no memory, and so never answers `Memory`.
     pub fn parse(alloc: Global, text: &[u8]) -> Result<Moment, NameFault>
         ensures said { IfOk result (λ m. IsMomentText text.now m) }
         ensures wrong { IfErr result (IsMomentFault text.now) }
@@ -222,8 +224,8 @@ impl Moment {
         Ok(text)
     }
 
-    /// Appends the moment as RFC 3339 has it, in UTC with `Z` and the fewest of 0, 3 or 6 decimals that are exact: all of it or
-    /// nothing.
+    /// Appends the moment as RFC 3339 has it, in UTC with `Z` and the fewest of 0, 3 or 6 decimals
+    /// that are exact: all of it or nothing.
     pub fn write_to(&self, alloc: Global, out: &mut Vec<u8>) -> Result<(), AllocError>
         ensures said { IsMomentText (moment_text self.now) self.now }
         ensures ok { OnOk result (out.new.items ≡ out.old.items ++ moment_text self.now) }

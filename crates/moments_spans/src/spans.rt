@@ -142,8 +142,8 @@ impl Span {
     }
 
     /// Reads a span, all of the text: 1 to 12 digits, where there are decimals a point and one to
-    /// nine digits, and `s`. What decimals say below a microsecond is dropped. `OutOfRange` where it
-    /// is more than 315,576,000,000 seconds. Takes no memory, and so never answers `Memory`.
+    /// nine digits, and `s`. What decimals say below a microsecond is dropped. `OutOfRange` where
+    /// it is more than 315,576,000,000 seconds. Takes no memory, and so never answers `Memory`.
     pub fn parse(alloc: Global, text: &[u8]) -> Result<Span, NameFault>
         ensures said { IfOk result (λ s. IsSpanText text.now s) }
         ensures wrong { IfErr result (IsSpanFault text.now) }

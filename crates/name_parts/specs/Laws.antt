@@ -10,11 +10,15 @@ use Rattle.name_parts.specs.Escapes.{escaped, escaped_fault, spelling}
 
 -- The bad place of a text is the first that breaks the grammar of the alphabet.
 abbrev pub LettersBreakFirst : Type 0
-LettersBreakFirst = (alphabet : Alphabet) (text : List ℕ) (place : ℕ) → alphabet_place alphabet text ≡ Some place → IsFirstBadPlace (λ t. has_alphabet alphabet t ≡ true) text place
+LettersBreakFirst =
+    (alphabet : Alphabet) (text : List ℕ) (place : ℕ) → alphabet_place alphabet text ≡ Some place
+    → IsFirstBadPlace (λ t. has_alphabet alphabet t ≡ true) text place
 
 -- The bad place of a text is the first that breaks the grammar of keys.
 abbrev pub KeysBreakFirst : Type 0
-KeysBreakFirst = (text : List ℕ) (place : ℕ) → key_place_from true text ≡ Some place → IsFirstBadPlace (λ t. is_key t ≡ true) text place
+KeysBreakFirst =
+    (text : List ℕ) (place : ℕ) → key_place_from true text ≡ Some place
+    → IsFirstBadPlace (λ t. is_key t ≡ true) text place
 
 -- the one spelling of bytes of the form, of any number
 abbrev pub IsEscaped : PartForm → List ℕ → Type 0
@@ -24,8 +28,9 @@ IsEscaped form text = (value : List ℕ) × (text ≡ escaped value) × (has_let
 abbrev pub BeginsNoSpelling : List ℕ → Type 0
 BeginsNoSpelling text = (b : ℕ) (rest : List ℕ) → b < 256 → text ≢ spelling b ++ rest
 
--- The first place that breaks the grammar of escaped parts. Some escaped part begins as this text does up to there, with the one
--- spelling of so many bytes. Behind them the first bad byte of the value stands, or no byte's one spelling does.
+-- The first place that breaks the grammar of escaped parts. Some escaped part begins as this text
+-- does up to there, with the one spelling of so many bytes. Behind them the first bad byte of the
+-- value stands, or no byte's one spelling does.
 pub record IsFirstBadSpelling (form : PartForm) (text : List ℕ) (place : ℕ) : Type 0 where
   pub within : place ≤ length text
   pub before : GoesOn (IsEscaped form) (take place text)
@@ -38,5 +43,6 @@ pub record IsFirstBadSpelling (form : PartForm) (text : List ℕ) (place : ℕ) 
 abbrev pub EscapesBreakFirst : Type 0
 EscapesBreakFirst =
     (form : PartForm) (text : List ℕ) (place : ℕ)
-    → (escaped_fault form text ≡ Some (BadByte place)) ⊎ (escaped_fault form text ≡ Some (NotCanonical place))
+    → (escaped_fault form text ≡ Some (BadByte place))
+    ⊎ (escaped_fault form text ≡ Some (NotCanonical place))
     → IsFirstBadSpelling form text place

@@ -16,7 +16,8 @@ abbrev pub has_alphabet : Alphabet → List ℕ → Bool
 has_alphabet alphabet [] = false
 has_alphabet alphabet (b ∷ bs) = may_begin alphabet b && list_all (may_follow alphabet) bs
 
--- A control character begins here. They are U+0000 to U+001F, U+007F, and U+0080 to U+009F, which UTF-8 spells 0xC2 and that byte.
+-- A control character begins here. They are U+0000 to U+001F, U+007F, and U+0080 to U+009F, which
+-- UTF-8 spells 0xC2 and that byte.
 abbrev pub begins_control : List ℕ → Bool
 begins_control [] = false
 begins_control (b ∷ []) = nat_lt b 32 || b == 127
@@ -66,7 +67,8 @@ pub record IsPart (form : PartForm) (text : List ℕ) : Type 0 where
 abbrev pub alphabet_place : Alphabet → List ℕ → Option ℕ
 alphabet_place alphabet [] = Some 0
 alphabet_place alphabet (b ∷ bs) =
-    if may_begin alphabet b then option_map (λ n. n + 1) (position (λ x. not (may_follow alphabet x)) bs) else Some 0
+    if may_begin alphabet b
+    then option_map (λ n. n + 1) (position (λ x. not (may_follow alphabet x)) bs) else Some 0
 
 -- the first place where no UTF-8 goes on or where a control character begins
 abbrev pub text_place : List ℕ → Option ℕ
@@ -75,7 +77,8 @@ text_place (b ∷ bs) =
     if min (utf8_valid_len (b ∷ bs)) (control_place (b ∷ bs)) == length (b ∷ bs) then None
     else Some (min (utf8_valid_len (b ∷ bs)) (control_place (b ∷ bs)))
 
--- Whether a key goes on with the byte at the start of a word, or behind it, and if so whether a word starts then.
+-- Whether a key goes on with the byte at the start of a word, or behind it, and if so whether a
+-- word starts then.
 abbrev pub key_step : Bool → ℕ → Option Bool
 key_step true b = if is_ascii_lowercase b then Some false else None
 key_step false b = if is_key_byte b then Some false else (if b == 47 then Some true else None)
@@ -84,7 +87,8 @@ key_step false b = if is_key_byte b then Some false else (if b == 47 then Some t
 abbrev pub key_place_from : Bool → List ℕ → Option ℕ
 key_place_from start [] = if start then Some 0 else None
 key_place_from start (b ∷ bs) =
-    elim (key_step start b) [ None ↦ Some 0 | Some next ↦ option_map (λ n. n + 1) (key_place_from next bs) ]
+    elim (key_step start b)
+    [ None ↦ Some 0 | Some next ↦ option_map (λ n. n + 1) (key_place_from next bs) ]
 
 -- the first bad place of a part
 abbrev pub bad_place : PartForm → List ℕ → Option ℕ
@@ -92,7 +96,8 @@ bad_place (Letters alphabet) text = alphabet_place alphabet text
 bad_place TestId text = text_place text
 bad_place PairKey text = key_place_from true text
 
--- the fault of so many bytes, of which there may be so many at most: that they are too many, then their first bad place
+-- the fault of so many bytes, of which there may be so many at most: that they are too many, then
+-- their first bad place
 abbrev pub limited_fault : ℕ → ℕ → Option ℕ → Option NameFault
 limited_fault most len bad = if nat_lt most len then Some (TooLong len) else option_map BadByte bad
 
@@ -122,5 +127,6 @@ place_of _ = 0
 -- the first place at which the text isn't the literal, its length where it ends too soon
 abbrev pub literal_bad_place : List ℕ → List ℕ → Option ℕ
 literal_bad_place literal text =
-    if (common_prefix_len nat_eq text literal == length text) && (common_prefix_len nat_eq text literal == length literal) then None
+    if (common_prefix_len nat_eq text literal == length text)
+    && (common_prefix_len nat_eq text literal == length literal) then None
     else Some (common_prefix_len nat_eq text literal)

@@ -39,7 +39,8 @@ fn stands_as_itself(byte: u8) -> bool
 
 /// The value of a hexadecimal digit of either case.
 fn hex_value(digit: u8) -> Option<u8>
-    ensures { MatchOption result (is_digit digit 16 ≡ false) (λ v. (is_digit digit 16 ≡ true) × (v ≡ digit_value digit) × (v < 16)) }
+    ensures { MatchOption result (is_digit digit 16 ≡ false)
+        (λ v. (is_digit digit 16 ≡ true) × (v ≡ digit_value digit) × (v < 16)) }
 {
     match digit {
         b'0'..=b'9' => Some(digit - b'0'),
@@ -136,11 +137,14 @@ fn fault_of_spellings(text: &[u8], bad: Option<usize>) -> Option<NameFault>
     }
 }
 
-/// What is wrong with how many bytes an escaped part has: that it is empty, else that its value is too long. Nothing is decoded for it.
+/// What is wrong with how many bytes an escaped part has: that it is empty, else that its value is
+/// too long. Nothing is decoded for it.
 #[tactic(auto, unfolding(crate::specs::Escapes::escaped_fault))]
 fn fault_of_len(form: PartForm, text: &[u8]) -> Option<NameFault>
     ensures fault { IfSome result (λ f. (escaped_fault form text.now ≡ Some f) × (place_of f ≡ 0)) }
-    ensures none { IfNone result (escaped_fault form text.now ≡ first_fault (bad_place form (percent_decode text.now)) (spelled text.now)) }
+    ensures none { IfNone result
+        (escaped_fault form text.now
+        ≡ first_fault (bad_place form (percent_decode text.now)) (spelled text.now)) }
     ensures few { IfNone result (length (percent_decode text.now) ≤ most_bytes form) }
 {
     if text.is_empty() {
@@ -174,11 +178,14 @@ fn text_of(bytes: Vec<u8>) -> String
     }
 }
 
-/// Reads an escaped part, all of the text. Its fault where it is no spelling of one, and `Memory` where there is none for the part.
+/// Reads an escaped part, all of the text. Its fault where it is no spelling of one, and `Memory`
+/// where there is none for the part.
 pub fn read_escaped(alloc: Global, form: PartForm, text: &[u8]) -> Result<String, NameFault>
-    ensures ok { IfOk result (λ t. (text.now ≡ escaped (string_bytes t)) × IsPart form (string_bytes t)) }
+    ensures ok { IfOk result
+        (λ t. (text.now ≡ escaped (string_bytes t)) × IsPart form (string_bytes t)) }
     ensures none { IfOk result (λ _. escaped_fault form text.now ≡ None) }
-    ensures fault { IfErr result (λ f. f ≢ NameFault.Memory → escaped_fault form text.now ≡ Some f) }
+    ensures fault { IfErr result
+        (λ f. f ≢ NameFault.Memory → escaped_fault form text.now ≡ Some f) }
     ensures within { IfErr result (λ f. place_of f ≤ length text.now) }
 {
     if let Some(fault) = fault_of_len(form, text) {

@@ -10,9 +10,11 @@ pub enum NameFault {
     Empty,
     /// A part has more bytes than its limit: so many, after undoing escapes.
     TooLong { len: usize },
-    /// No text of the grammar goes on like this at this place, which is the length where the text ends too soon.
+    /// No text of the grammar goes on like this at this place, which is the length where the text
+    /// ends too soon.
     BadByte { at: usize },
-    /// Here stands a second spelling: a `%` that begins no escape, a lower-case escape, or one of a byte that stands as itself.
+    /// Here stands a second spelling: a `%` that begins no escape, a lower-case escape, or one of a
+    /// byte that stands as itself.
     NotCanonical { at: usize },
     /// The value is outside the range of its type.
     OutOfRange,

@@ -1,7 +1,7 @@
 //! The parts that names are made of.
 //!
-//! A part has an alphabet and a limit, and a name spells it as it is or escaped, behind a literal and up to the next slash. Every other
-//! text has one fault, at its place.
+//! A part has an alphabet and a limit, and a name spells it as it is or escaped, behind a literal
+//! and up to the next slash. Every other text has one fault, at its place.
 #![tactic(auto)]
 
 mod alphabets;

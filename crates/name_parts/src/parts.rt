@@ -16,7 +16,8 @@ pub enum PartForm {
     Letters(Alphabet),
     /// A test's id: UTF-8 without control characters.
     TestId,
-    /// A pair's key: words of lower-case letters, digits and `_`, parted by `/`, each of which begins with a letter.
+    /// A pair's key: words of lower-case letters, digits and `_`, parted by `/`, each of which
+    /// begins with a letter.
     PairKey,
 }
 
@@ -70,7 +71,8 @@ impl PartForm {
     }
 }
 
-/// The fault of a text of this length with this limit and this first bad place: that it is too long, or else its bad place.
+/// The fault of a text of this length with this limit and this first bad place: that it is too
+/// long, or else its bad place.
 pub fn limited(most: usize, len: usize, bad: Option<usize>) -> Option<NameFault>
     requires { IfSome bad (λ at. at ≤ len) }
     ensures value { result ≡ limited_fault most len bad }
@@ -85,7 +87,8 @@ pub fn limited(most: usize, len: usize, bad: Option<usize>) -> Option<NameFault>
     }
 }
 
-/// The fault of a text, where the text stands behind so many bytes of a longer one: its place is moved by so many.
+/// The fault of a text, where the text stands behind so many bytes of a longer one: its place is
+/// moved by so many.
 pub fn moved(behind: usize, fault: NameFault) -> NameFault
     requires { place_of fault + behind < 2 ^ 64 }
     ensures { result ≡ shifted behind fault }
@@ -108,8 +111,8 @@ pub fn shifted_fault(behind: usize, fault: Option<NameFault>) -> Option<NameFaul
     }
 }
 
-/// What is wrong with a part, where it is no fault of its own to be empty: that it is too long, else its first bad place, which is 0
-/// where it is empty.
+/// What is wrong with a part, where it is no fault of its own to be empty: that it is too long,
+/// else its first bad place, which is 0 where it is empty.
 pub fn fault_unless_empty(form: PartForm, text: &[u8]) -> Option<NameFault>
     ensures value { result ≡ unempty_fault form text.now }
     ensures within { IfSome result (λ f. place_of f ≤ length text.now) }
@@ -134,7 +137,8 @@ pub fn fault_of_part(form: PartForm, text: &[u8]) -> Option<NameFault>
     fault_unless_empty(form, text)
 }
 
-/// Reads a part, all of the text. Its fault where it is none, and `Memory` where there is none for the part.
+/// Reads a part, all of the text. Its fault where it is none, and `Memory` where there is none for
+/// the part.
 pub fn read_part(alloc: Global, form: PartForm, text: &[u8]) -> Result<String, NameFault>
     ensures ok { IfOk result (λ t. (string_bytes t ≡ text.now) × IsPart form text.now) }
     ensures none { IfOk result (λ _. part_fault form text.now ≡ None) }

@@ -126,7 +126,8 @@ pub fn utf8_len(text: &[u8]) -> usize
     }
 }
 
-/// The first place where no UTF-8 goes on or where a control character begins, or 0 where there are no bytes.
+/// The first place where no UTF-8 goes on or where a control character begins, or 0 where there are
+/// no bytes.
 pub(crate) fn bad_in_text(text: &[u8]) -> Option<usize>
     ensures place { result ≡ text_place text.now }
     ensures within { IfSome result (λ place. place ≤ length text.now) }

@@ -26,7 +26,8 @@ pub record IsArtifactName (a : ArtifactName) (text : List ℕ) : Type 0 where
 
 -- what is wrong with a text, part by part
 unfoldable pub artifact_tail_fault : List ℕ → Option NameFault
-artifact_tail_fault text = behind (codes "/artifacts/") (escaped_fault (Letters alphabet.Artifact)) text
+artifact_tail_fault text =
+    behind (codes "/artifacts/") (escaped_fault (Letters alphabet.Artifact)) text
 
 unfoldable pub result_and_artifact_fault : List ℕ → Option NameFault
 result_and_artifact_fault text = up_to_slash result_id_fault artifact_tail_fault text
@@ -40,12 +41,16 @@ test_and_rest_fault text = up_to_slash (escaped_fault TestId) result_artifact_ta
 unfoldable pub test_artifact_tail_fault : List ℕ → Option NameFault
 test_artifact_tail_fault text = behind (codes "/tests/") test_and_rest_fault text
 
--- Behind an invocation's id go on both `/artifacts/` and `/tests/`: the one with which the text has the longer common front counts.
+-- Behind an invocation's id go on both `/artifacts/` and `/tests/`: the one with which the text has
+-- the longer common front counts.
 unfoldable pub goes_to_tests : List ℕ → Bool
-goes_to_tests text = nat_lt (common_prefix_len nat_eq text (codes "/artifacts/")) (common_prefix_len nat_eq text (codes "/tests/"))
+goes_to_tests text =
+    nat_lt (common_prefix_len nat_eq text (codes "/artifacts/"))
+    (common_prefix_len nat_eq text (codes "/tests/"))
 
 unfoldable pub behind_id_fault : List ℕ → Option NameFault
-behind_id_fault text = if goes_to_tests text then test_artifact_tail_fault text else artifact_tail_fault text
+behind_id_fault text =
+    if goes_to_tests text then test_artifact_tail_fault text else artifact_tail_fault text
 
 unfoldable pub artifact_parts_fault : List ℕ → Option NameFault
 artifact_parts_fault text = up_to_slash invocation_id_fault behind_id_fault text

@@ -14,9 +14,11 @@ use Rattle.names_realms.specs.ArtifactNames.{IsArtifactName, artifact_name_fault
 use Rattle.names_realms.specs.Pairs.{IsPairKey, IsPairValue, pair_fault}
 use Rattle.names_realms.specs.Realms.{IsRealm, realm_fault}
 
--- One text names at most one result. So a result's name is read as that result again, and two results never share a name.
+-- One text names at most one result. So a result's name is read as that result again, and two
+-- results never share a name.
 abbrev pub OneResultNamed : Type 0
-OneResultNamed = (r s : ResultName) (text : List ℕ) → IsResultName r text → IsResultName s text → r ≡ s
+OneResultNamed =
+    (r s : ResultName) (text : List ℕ) → IsResultName r text → IsResultName s text → r ≡ s
 
 -- One text names at most one invocation or result.
 abbrev pub OneParentNamed : Type 0
@@ -24,11 +26,13 @@ OneParentNamed = (p q : Parent) (text : List ℕ) → IsParentName p text → Is
 
 -- One text names at most one artifact.
 abbrev pub OneArtifactNamed : Type 0
-OneArtifactNamed = (a b : ArtifactName) (text : List ℕ) → IsArtifactName a text → IsArtifactName b text → a ≡ b
+OneArtifactNamed =
+    (a b : ArtifactName) (text : List ℕ) → IsArtifactName a text → IsArtifactName b text → a ≡ b
 
 -- One text names at most one invocation by its id.
 abbrev pub OneInvocationNamed : Type 0
-OneInvocationNamed = (id other text : List ℕ) → IsInvocationName id text → IsInvocationName other text → id ≡ other
+OneInvocationNamed =
+    (id other text : List ℕ) → IsInvocationName id text → IsInvocationName other text → id ≡ other
 
 -- An id of an invocation, a test, a result or an artifact has no fault.
 abbrev pub IdHasNoFault : Type 0
@@ -36,11 +40,13 @@ IdHasNoFault = (form : PartForm) (text : List ℕ) → IsPart form text → part
 
 -- The name of an invocation has no fault.
 abbrev pub InvocationNameHasNoFault : Type 0
-InvocationNameHasNoFault = (id text : List ℕ) → IsInvocationName id text → invocation_name_fault text ≡ None
+InvocationNameHasNoFault =
+    (id text : List ℕ) → IsInvocationName id text → invocation_name_fault text ≡ None
 
 -- The name of a result has no fault.
 abbrev pub ResultNameHasNoFault : Type 0
-ResultNameHasNoFault = (r : ResultName) (text : List ℕ) → IsResultName r text → result_name_fault text ≡ None
+ResultNameHasNoFault =
+    (r : ResultName) (text : List ℕ) → IsResultName r text → result_name_fault text ≡ None
 
 -- The name of a parent has no fault.
 abbrev pub ParentNameHasNoFault : Type 0
@@ -48,7 +54,8 @@ ParentNameHasNoFault = (p : Parent) (text : List ℕ) → IsParentName p text �
 
 -- The name of an artifact has no fault.
 abbrev pub ArtifactNameHasNoFault : Type 0
-ArtifactNameHasNoFault = (a : ArtifactName) (text : List ℕ) → IsArtifactName a text → artifact_name_fault text ≡ None
+ArtifactNameHasNoFault =
+    (a : ArtifactName) (text : List ℕ) → IsArtifactName a text → artifact_name_fault text ≡ None
 
 -- A realm has no fault.
 abbrev pub RealmHasNoFault : Type 0
@@ -56,8 +63,11 @@ RealmHasNoFault = (text : List ℕ) → IsRealm text → realm_fault text ≡ No
 
 -- A key and a value have no fault.
 abbrev pub PairHasNoFault : Type 0
-PairHasNoFault = (key value : List ℕ) → IsPairKey key → IsPairValue value → pair_fault key value ≡ None
+PairHasNoFault =
+    (key value : List ℕ) → IsPairKey key → IsPairValue value → pair_fault key value ≡ None
 
 -- The bad place of a realm is the first that breaks the grammar.
 abbrev pub RealmBreaksFirst : Type 0
-RealmBreaksFirst = (text : List ℕ) (place : ℕ) → realm_fault text ≡ Some (BadByte place) → IsFirstBadPlace IsRealm text place
+RealmBreaksFirst =
+    (text : List ℕ) (place : ℕ) → realm_fault text ≡ Some (BadByte place)
+    → IsFirstBadPlace IsRealm text place

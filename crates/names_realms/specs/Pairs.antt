@@ -9,7 +9,8 @@ use Rattle.names_realms.specs.declared.pairs.PairFault.{PairFault}
 use Rattle.names_realms.specs.declared.pairs.PairFault.TheVariants.{Key, Value}
 use Rattle.name_parts.specs.Parts.{IsPart, limited_fault, part_fault}
 
--- words of lower-case letters, digits and `_`, each of which begins with a letter, parted by `/`, of at most 64 bytes
+-- words of lower-case letters, digits and `_`, each of which begins with a letter, parted by `/`,
+-- of at most 64 bytes
 abbrev pub IsPairKey : List ℕ → Type 0
 IsPairKey key = IsPart PairKey key
 
@@ -26,4 +27,5 @@ pair_value_fault value = limited_fault 256 (length value) (utf8_place value)
 
 -- the key is judged first
 abbrev pub pair_fault : List ℕ → List ℕ → Option PairFault
-pair_fault key value = option_or (option_map Key (part_fault PairKey key)) (option_map Value (pair_value_fault value))
+pair_fault key value =
+    option_or (option_map Key (part_fault PairKey key)) (option_map Value (pair_value_fault value))

@@ -17,9 +17,11 @@ abbrev pub IsParentName : Parent → List ℕ → Type 0
 IsParentName (Invocation id) text = IsInvocationName id text
 IsParentName (Result name) text = IsResultName name text
 
--- Behind `invocations/` stands an invocation's id alone, or, where a `/` comes, the rest of a result's name.
+-- Behind `invocations/` stands an invocation's id alone, or, where a `/` comes, the rest of a
+-- result's name.
 unfoldable pub parent_parts_fault : List ℕ → Option NameFault
-parent_parts_fault text = if slash_place text == length text then invocation_id_fault text else all_parts_fault text
+parent_parts_fault text =
+    if slash_place text == length text then invocation_id_fault text else all_parts_fault text
 
 unfoldable pub parent_named_fault : List ℕ → Option NameFault
 parent_named_fault text = behind (codes "invocations/") parent_parts_fault text

@@ -19,12 +19,14 @@ IsAscending [] = Unit {0}
 IsAscending (p ∷ []) = Unit {0}
 IsAscending (p ∷ q ∷ ps) = IsBefore p q × IsAscending (q ∷ ps)
 
--- The pairs before this place can be put in order, and one of them has the key of the pair at this place.
+-- The pairs before this place can be put in order, and one of them has the key of the pair at this
+-- place.
 abbrev pub IsFirstRepeat : List Pair → ℕ → Type 0
 IsFirstRepeat pairs at =
     (before : List Pair) × IsPermutation (take at pairs) before × IsAscending before
     × (repeated : Pair) × (slice_get pairs at ≡ Some repeated)
-    × (place : ℕ) × (earlier : Pair) × (slice_get before place ≡ Some earlier) × (earlier.key ≡ repeated.key)
+    × (place : ℕ) × (earlier : Pair) × (slice_get before place ≡ Some earlier)
+    × (earlier.key ≡ repeated.key)
 
 -- `key`, `:`, `value` and a newline of a pair
 abbrev pub pair_bytes : Pair → List ℕ

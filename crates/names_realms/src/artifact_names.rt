@@ -35,7 +35,8 @@ struct Ids {
 #[tactic(auto, unfolding(crate::specs::ArtifactNames::artifact_tail_fault, name_parts::specs::Sequences::behind))]
 fn read_artifact_tail(alloc: Global, text: &[u8]) -> Result<ArtifactId, NameFault>
     ensures ok { IfOk result (λ a. (text.now ≡ artifact_tail a) × IsArtifactId a) }
-    ensures fault { IfErr result (λ f. f ≢ NameFault.Memory → artifact_tail_fault text.now ≡ Some f) }
+    ensures fault { IfErr result
+        (λ f. f ≢ NameFault.Memory → artifact_tail_fault text.now ≡ Some f) }
     ensures within { IfErr result (λ f. place_of f ≤ length text.now) }
 {
     let rest = rest_behind(b"/artifacts/", text)?;
@@ -61,7 +62,8 @@ fn read_result(alloc: Global, text: &[u8]) -> Result<ResultId, NameFault>
 fn read_result_and_artifact(alloc: Global, text: &[u8]) -> Result<(ResultId, ArtifactId), NameFault>
     ensures ok { IfOk result (λ r. text.now ≡ r.0 ++ artifact_tail r.1) }
     ensures grammar { IfOk result (λ r. IsResultId r.0 × IsArtifactId r.1) }
-    ensures fault { IfErr result (λ f. f ≢ NameFault.Memory → result_and_artifact_fault text.now ≡ Some f) }
+    ensures fault { IfErr result
+        (λ f. f ≢ NameFault.Memory → result_and_artifact_fault text.now ≡ Some f) }
     ensures within { IfErr result (λ f. place_of f ≤ length text.now) }
 {
     let end = len_before(text, b'/');
@@ -78,7 +80,8 @@ fn read_result_and_artifact(alloc: Global, text: &[u8]) -> Result<(ResultId, Art
 fn read_result_tail(alloc: Global, text: &[u8]) -> Result<(ResultId, ArtifactId), NameFault>
     ensures ok { IfOk result (λ r. text.now ≡ codes "/results/" ++ (r.0 ++ artifact_tail r.1)) }
     ensures grammar { IfOk result (λ r. IsResultId r.0 × IsArtifactId r.1) }
-    ensures fault { IfErr result (λ f. f ≢ NameFault.Memory → result_artifact_tail_fault text.now ≡ Some f) }
+    ensures fault { IfErr result
+        (λ f. f ≢ NameFault.Memory → result_artifact_tail_fault text.now ≡ Some f) }
     ensures within { IfErr result (λ f. place_of f ≤ length text.now) }
 {
     let rest = rest_behind(b"/results/", text)?;
@@ -91,10 +94,13 @@ fn read_result_tail(alloc: Global, text: &[u8]) -> Result<(ResultId, ArtifactId)
 /// Reads an escaped test id and what `read_result_tail` reads.
 #[tactic(auto, unfolding(crate::specs::ArtifactNames::test_and_rest_fault, name_parts::specs::Sequences::up_to_slash))]
 fn read_test_and_rest(alloc: Global, text: &[u8]) -> Result<Ids, NameFault>
-    ensures ok { IfOk result (λ r. text.now ≡ escaped r.test ++ (codes "/results/" ++ (r.result ++ artifact_tail r.artifact))) }
+    ensures ok { IfOk result
+        (λ r. text.now ≡ escaped r.test
+        ++ (codes "/results/" ++ (r.result ++ artifact_tail r.artifact))) }
     ensures test { IfOk result (λ r. IsTestId r.test) }
     ensures others { IfOk result (λ r. IsResultId r.result × IsArtifactId r.artifact) }
-    ensures fault { IfErr result (λ f. f ≢ NameFault.Memory → test_and_rest_fault text.now ≡ Some f) }
+    ensures fault { IfErr result
+        (λ f. f ≢ NameFault.Memory → test_and_rest_fault text.now ≡ Some f) }
     ensures within { IfErr result (λ f. place_of f ≤ length text.now) }
 {
     let end = len_before(text, b'/');
@@ -113,10 +119,13 @@ fn read_test_and_rest(alloc: Global, text: &[u8]) -> Result<Ids, NameFault>
 /// Reads `/tests/` and what `read_test_and_rest` reads.
 #[tactic(auto, unfolding(crate::specs::ArtifactNames::test_artifact_tail_fault, name_parts::specs::Sequences::behind))]
 fn read_test_tail(alloc: Global, text: &[u8]) -> Result<Ids, NameFault>
-    ensures ok { IfOk result (λ r. text.now ≡ codes "/tests/" ++ (escaped r.test ++ (codes "/results/" ++ (r.result ++ artifact_tail r.artifact)))) }
+    ensures ok { IfOk result
+        (λ r. text.now ≡ codes "/tests/"
+        ++ (escaped r.test ++ (codes "/results/" ++ (r.result ++ artifact_tail r.artifact)))) }
     ensures test { IfOk result (λ r. IsTestId r.test) }
     ensures others { IfOk result (λ r. IsResultId r.result × IsArtifactId r.artifact) }
-    ensures fault { IfErr result (λ f. f ≢ NameFault.Memory → test_artifact_tail_fault text.now ≡ Some f) }
+    ensures fault { IfErr result
+        (λ f. f ≢ NameFault.Memory → test_artifact_tail_fault text.now ≡ Some f) }
     ensures within { IfErr result (λ f. place_of f ≤ length text.now) }
 {
     let rest = rest_behind(b"/tests/", text)?;
@@ -141,7 +150,8 @@ fn is_tests(text: &[u8]) -> bool
 fn of_invocation(invocation: InvocationId, artifact: ArtifactId) -> ArtifactName
     requires invocation { IsInvocationId invocation }
     requires artifact { IsArtifactId artifact }
-    ensures spelling { artifact_name result ≡ codes "invocations/" ++ (invocation ++ artifact_tail artifact) }
+    ensures spelling { artifact_name result
+        ≡ codes "invocations/" ++ (invocation ++ artifact_tail artifact) }
     ensures grammar { IsArtifactName result (artifact_name result) }
 {
     ArtifactName {
@@ -156,7 +166,11 @@ fn of_result(invocation: InvocationId, ids: Ids) -> ArtifactName
     requires invocation { IsInvocationId invocation }
     requires test { IsTestId ids.test }
     requires others { IsResultId ids.result × IsArtifactId ids.artifact }
-    ensures spelling { artifact_name result ≡ codes "invocations/" ++ (invocation ++ (codes "/tests/" ++ (escaped ids.test ++ (codes "/results/" ++ (ids.result ++ artifact_tail ids.artifact))))) }
+    ensures spelling { artifact_name result
+        ≡ codes "invocations/"
+        ++ (invocation ++ (codes "/tests/"
+        ++ (escaped ids.test ++ (codes "/results/"
+        ++ (ids.result ++ artifact_tail ids.artifact))))) }
     ensures grammar { IsArtifactName result (artifact_name result) }
 {
     let Ids {
@@ -182,7 +196,8 @@ fn read_behind_id(
     text: &[u8],
 ) -> Result<ArtifactName, NameFault>
     requires { IsInvocationId invocation }
-    ensures ok { IfOk result (λ a. codes "invocations/" ++ (invocation ++ text.now) ≡ artifact_name a) }
+    ensures ok { IfOk result
+        (λ a. codes "invocations/" ++ (invocation ++ text.now) ≡ artifact_name a) }
     ensures grammar { IfOk result (λ a. IsArtifactName a (artifact_name a)) }
     ensures fault { IfErr result (λ f. f ≢ NameFault.Memory → behind_id_fault text.now ≡ Some f) }
     ensures within { IfErr result (λ f. place_of f ≤ length text.now) }
@@ -200,7 +215,8 @@ fn read_behind_id(
 fn read_parts(alloc: Global, text: &[u8]) -> Result<ArtifactName, NameFault>
     ensures ok { IfOk result (λ a. codes "invocations/" ++ text.now ≡ artifact_name a) }
     ensures grammar { IfOk result (λ a. IsArtifactName a (artifact_name a)) }
-    ensures fault { IfErr result (λ f. f ≢ NameFault.Memory → artifact_parts_fault text.now ≡ Some f) }
+    ensures fault { IfErr result
+        (λ f. f ≢ NameFault.Memory → artifact_parts_fault text.now ≡ Some f) }
     ensures within { IfErr result (λ f. place_of f ≤ length text.now) }
 {
     let end = len_before(text, b'/');
@@ -217,7 +233,8 @@ fn read_parts(alloc: Global, text: &[u8]) -> Result<ArtifactName, NameFault>
 fn read_named(alloc: Global, text: &[u8]) -> Result<ArtifactName, NameFault>
     ensures ok { IfOk result (λ a. text.now ≡ artifact_name a) }
     ensures grammar { IfOk result (λ a. IsArtifactName a (artifact_name a)) }
-    ensures fault { IfErr result (λ f. f ≢ NameFault.Memory → artifact_named_fault text.now ≡ Some f) }
+    ensures fault { IfErr result
+        (λ f. f ≢ NameFault.Memory → artifact_named_fault text.now ≡ Some f) }
 {
     let rest = match rest_behind(b"invocations/", text) {
         Ok(rest) => rest,
@@ -233,7 +250,8 @@ fn read_named(alloc: Global, text: &[u8]) -> Result<ArtifactName, NameFault>
 fn read_whole(alloc: Global, text: &[u8]) -> Result<ArtifactName, NameFault>
     ensures ok { IfOk result (λ a. text.now ≡ artifact_name a) }
     ensures grammar { IfOk result (λ a. IsArtifactName a (artifact_name a)) }
-    ensures fault { IfErr result (λ f. f ≢ NameFault.Memory → artifact_name_fault text.now ≡ Some f) }
+    ensures fault { IfErr result
+        (λ f. f ≢ NameFault.Memory → artifact_name_fault text.now ≡ Some f) }
 {
     if text.is_empty() {
         return Err(NameFault::Empty);
@@ -275,8 +293,10 @@ impl ArtifactName {
     /// Reads the name of an artifact, all of the text. `Memory` where there is none for the name.
     pub fn parse(alloc: Global, text: &[u8]) -> Result<ArtifactName, NameFault>
         ensures ok { IfOk result (λ a. IsArtifactName a text.now) }
-        ensures refused { IfErr result (λ f. f ≢ NameFault.Memory → (a : ArtifactName) → ¬ IsArtifactName a text.now) }
-        ensures fault { IfErr result (λ f. f ≢ NameFault.Memory → artifact_name_fault text.now ≡ Some f) }
+        ensures refused { IfErr result
+            (λ f. f ≢ NameFault.Memory → (a : ArtifactName) → ¬ IsArtifactName a text.now) }
+        ensures fault { IfErr result
+            (λ f. f ≢ NameFault.Memory → artifact_name_fault text.now ≡ Some f) }
     {
         read_whole(alloc, text)
     }

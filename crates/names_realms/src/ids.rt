@@ -28,7 +28,8 @@ impl InvocationId {
     pub fn parse(alloc: Global, text: &[u8]) -> Result<InvocationId, NameFault>
         ensures ok { IfOk result (λ id. (id ≡ text.now) × IsInvocationId text.now) }
         ensures refused { IfErr result (λ f. f ≢ NameFault.Memory → ¬ IsInvocationId text.now) }
-        ensures fault { IfErr result (λ f. f ≢ NameFault.Memory → invocation_id_fault text.now ≡ Some f) }
+        ensures fault { IfErr result
+            (λ f. f ≢ NameFault.Memory → invocation_id_fault text.now ≡ Some f) }
     {
         let text = read_part(alloc, PartForm::Letters(Alphabet::Invocation), text)?;
         Ok(InvocationId { text })
@@ -37,8 +38,10 @@ impl InvocationId {
     /// Reads `invocations/` and an id, all of the text. `Memory` where there is none for the id.
     pub fn parse_name(alloc: Global, text: &[u8]) -> Result<InvocationId, NameFault>
         ensures ok { IfOk result (λ id. IsInvocationName id text.now) }
-        ensures refused { IfErr result (λ f. f ≢ NameFault.Memory → (id : List ℕ) → ¬ IsInvocationName id text.now) }
-        ensures fault { IfErr result (λ f. f ≢ NameFault.Memory → invocation_name_fault text.now ≡ Some f) }
+        ensures refused { IfErr result
+            (λ f. f ≢ NameFault.Memory → (id : List ℕ) → ¬ IsInvocationName id text.now) }
+        ensures fault { IfErr result
+            (λ f. f ≢ NameFault.Memory → invocation_name_fault text.now ≡ Some f) }
     {
         match read_name(
             alloc,
@@ -85,7 +88,8 @@ impl InvocationId {
     }
 }
 
-/// The id of a test: 1 to 512 bytes of UTF-8 without the control characters U+0000 to U+001F and U+007F to U+009F.
+/// The id of a test: 1 to 512 bytes of UTF-8 without the control characters U+0000 to U+001F and
+/// U+007F to U+009F.
 #[derive(Debug, Drop)]
 pub struct TestId {
     pub(crate) text: String,
@@ -169,7 +173,8 @@ impl ResultId {
     pub fn parse(alloc: Global, text: &[u8]) -> Result<ResultId, NameFault>
         ensures ok { IfOk result (λ id. (id ≡ text.now) × IsResultId text.now) }
         ensures refused { IfErr result (λ f. f ≢ NameFault.Memory → ¬ IsResultId text.now) }
-        ensures fault { IfErr result (λ f. f ≢ NameFault.Memory → result_id_fault text.now ≡ Some f) }
+        ensures fault { IfErr result
+            (λ f. f ≢ NameFault.Memory → result_id_fault text.now ≡ Some f) }
     {
         let text = read_part(alloc, PartForm::Letters(Alphabet::Outcome), text)?;
         Ok(ResultId { text })
@@ -209,7 +214,8 @@ impl ResultId {
     }
 }
 
-/// The id of an artifact: 1 to 256 bytes, each a letter, a digit or one of `- _ . /`, the first not `/`.
+/// The id of an artifact: 1 to 256 bytes, each a letter, a digit or one of `- _ . /`, the first not
+/// `/`.
 #[derive(Debug, Drop)]
 pub struct ArtifactId {
     pub(crate) text: String,
@@ -231,7 +237,8 @@ impl ArtifactId {
     pub fn parse(alloc: Global, text: &[u8]) -> Result<ArtifactId, NameFault>
         ensures ok { IfOk result (λ id. (id ≡ text.now) × IsArtifactId text.now) }
         ensures refused { IfErr result (λ f. f ≢ NameFault.Memory → ¬ IsArtifactId text.now) }
-        ensures fault { IfErr result (λ f. f ≢ NameFault.Memory → artifact_id_fault text.now ≡ Some f) }
+        ensures fault { IfErr result
+            (λ f. f ≢ NameFault.Memory → artifact_id_fault text.now ≡ Some f) }
     {
         let text = read_part(alloc, PartForm::Letters(Alphabet::Artifact), text)?;
         Ok(ArtifactId { text })

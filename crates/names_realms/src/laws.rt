@@ -1,4 +1,5 @@
-//! Laws of the definitions that the contracts cite. These functions do nothing: what each of them ensures is the law.
+//! Laws of the definitions that the contracts cite. These functions do nothing: what each of them
+//! ensures is the law.
 ghost use Rattle.names_realms.specs.Laws.{ArtifactNameHasNoFault, IdHasNoFault, InvocationNameHasNoFault, OneArtifactNamed, OneInvocationNamed, OneParentNamed, OneResultNamed, PairHasNoFault, ParentNameHasNoFault, RealmBreaksFirst, RealmHasNoFault, ResultNameHasNoFault};
 
 /// One text names at most one invocation.
@@ -56,8 +57,8 @@ pub fn pair_has_no_fault()
     ensures { PairHasNoFault }
 {}
 
-/// The bad place of a realm is the first that breaks the grammar: some realm begins as the text does up to there, and none with the
-/// byte there too.
+/// The bad place of a realm is the first that breaks the grammar: some realm begins as the text
+/// does up to there, and none with the byte there too.
 pub fn realm_breaks_first()
     ensures { RealmBreaksFirst }
 {}

@@ -1,7 +1,7 @@
 //! Names, and the small values that every other crate speaks of.
 //!
-//! Each name has one grammar and one spelling. `parse` reads exactly the texts of the grammar, and says of every other text what is
-//! wrong with it and where. `write_to` appends the one spelling.
+//! Each name has one grammar and one spelling. `parse` reads exactly the texts of the grammar, and
+//! says of every other text what is wrong with it and where. `write_to` appends the one spelling.
 #![tactic(auto)]
 
 mod artifact_names;

@@ -84,13 +84,16 @@ fn copied(alloc: Global, bytes: &[u8]) -> Result<Bytes, AllocError>
 }
 
 impl Pair {
-    /// Reads a pair: a key `[a-z][a-z0-9_]*(/[a-z][a-z0-9_]*)*` of at most 64 bytes, and a value of at most 256 bytes of UTF-8, which may
-    /// be empty. The key is judged first. `Memory` where there is none for the pair.
+    /// Reads a pair: a key `[a-z][a-z0-9_]*(/[a-z][a-z0-9_]*)*` of at most 64 bytes, and a value of
+    /// at most 256 bytes of UTF-8, which may be empty. The key is judged first. `Memory` where
+    /// there is none for the pair.
     pub fn read(alloc: Global, key: &[u8], value: &[u8]) -> Result<Pair, PairFault>
         ensures ok { IfOk result (λ p. (p.key ≡ key.now) × (p.value ≡ value.now)) }
         ensures grammar { IfOk result (λ _. IsPairKey key.now × IsPairValue value.now) }
-        ensures refused { IfErr result (λ f. f ≢ PairFault.Memory → ¬ (IsPairKey key.now × IsPairValue value.now)) }
-        ensures fault { IfErr result (λ f. f ≢ PairFault.Memory → pair_fault key.now value.now ≡ Some f) }
+        ensures refused { IfErr result
+            (λ f. f ≢ PairFault.Memory → ¬ (IsPairKey key.now × IsPairValue value.now)) }
+        ensures fault { IfErr result
+            (λ f. f ≢ PairFault.Memory → pair_fault key.now value.now ≡ Some f) }
     {
         if let Some(fault) = fault_of_pair(key, value) {
             return Err(fault);

@@ -23,7 +23,8 @@ pub enum Parent {
 #[tactic(auto, unfolding(crate::specs::Parents::parent_parts_fault, crate::specs::ResultNames::result_name))]
 fn read_parts(alloc: Global, text: &[u8]) -> Result<Parent, NameFault>
     ensures ok { IfOk result (λ p. IsParentName p (codes "invocations/" ++ text.now)) }
-    ensures fault { IfErr result (λ f. f ≢ NameFault.Memory → parent_parts_fault text.now ≡ Some f) }
+    ensures fault { IfErr result
+        (λ f. f ≢ NameFault.Memory → parent_parts_fault text.now ≡ Some f) }
     ensures within { IfErr result (λ f. place_of f ≤ length text.now) }
 {
     if len_before(text, b'/') == text.len() {
@@ -38,7 +39,8 @@ fn read_parts(alloc: Global, text: &[u8]) -> Result<Parent, NameFault>
 #[tactic(auto, unfolding(crate::specs::Parents::parent_named_fault, name_parts::specs::Sequences::behind))]
 fn read_named(alloc: Global, text: &[u8]) -> Result<Parent, NameFault>
     ensures ok { IfOk result (λ p. IsParentName p text.now) }
-    ensures fault { IfErr result (λ f. f ≢ NameFault.Memory → parent_named_fault text.now ≡ Some f) }
+    ensures fault { IfErr result
+        (λ f. f ≢ NameFault.Memory → parent_named_fault text.now ≡ Some f) }
 {
     let rest = match rest_behind(b"invocations/", text) {
         Ok(rest) => rest,
@@ -94,10 +96,12 @@ pub(crate) fn push_parent_name(out: &mut Vec<u8>, parent: &Parent) -> Result<(),
 }
 
 impl Parent {
-    /// Reads the name of an invocation or of a result, all of the text. `Memory` where there is none for the name.
+    /// Reads the name of an invocation or of a result, all of the text. `Memory` where there is
+    /// none for the name.
     pub fn parse(alloc: Global, text: &[u8]) -> Result<Parent, NameFault>
         ensures ok { IfOk result (λ p. IsParentName p text.now) }
-        ensures refused { IfErr result (λ f. f ≢ NameFault.Memory → (p : Parent) → ¬ IsParentName p text.now) }
+        ensures refused { IfErr result
+            (λ f. f ≢ NameFault.Memory → (p : Parent) → ¬ IsParentName p text.now) }
         ensures fault { IfErr result (λ f. f ≢ NameFault.Memory → parent_fault text.now ≡ Some f) }
     {
         read_whole(alloc, text)

@@ -41,7 +41,8 @@ fn read_result_tail(alloc: Global, text: &[u8]) -> Result<ResultId, NameFault>
 pub(crate) fn read_test(alloc: Global, text: &[u8]) -> Result<TestId, NameFault>
     ensures ok { IfOk result (λ id. (text.now ≡ escaped id) × IsTestId id) }
     ensures none { IfOk result (λ _. escaped_fault PartForm.TestId text.now ≡ None) }
-    ensures fault { IfErr result (λ f. f ≢ NameFault.Memory → escaped_fault PartForm.TestId text.now ≡ Some f) }
+    ensures fault { IfErr result
+        (λ f. f ≢ NameFault.Memory → escaped_fault PartForm.TestId text.now ≡ Some f) }
     ensures within { IfErr result (λ f. place_of f ≤ length text.now) }
 {
     let text = read_escaped(alloc, PartForm::TestId, text)?;
@@ -53,7 +54,8 @@ pub(crate) fn read_test(alloc: Global, text: &[u8]) -> Result<TestId, NameFault>
 fn read_test_and_result(alloc: Global, text: &[u8]) -> Result<(TestId, ResultId), NameFault>
     ensures ok { IfOk result (λ r. text.now ≡ escaped r.0 ++ result_tail r.1) }
     ensures grammar { IfOk result (λ r. IsTestId r.0 × IsResultId r.1) }
-    ensures fault { IfErr result (λ f. f ≢ NameFault.Memory → test_and_result_fault text.now ≡ Some f) }
+    ensures fault { IfErr result
+        (λ f. f ≢ NameFault.Memory → test_and_result_fault text.now ≡ Some f) }
     ensures within { IfErr result (λ f. place_of f ≤ length text.now) }
 {
     let end = len_before(text, b'/');
@@ -84,7 +86,8 @@ fn read_test_tail(alloc: Global, text: &[u8]) -> Result<(TestId, ResultId), Name
 pub(crate) fn read_invocation(alloc: Global, text: &[u8]) -> Result<InvocationId, NameFault>
     ensures ok { IfOk result (λ id. (text.now ≡ id) × IsInvocationId id) }
     ensures none { IfOk result (λ _. invocation_id_fault text.now ≡ None) }
-    ensures fault { IfErr result (λ f. f ≢ NameFault.Memory → invocation_id_fault text.now ≡ Some f) }
+    ensures fault { IfErr result
+        (λ f. f ≢ NameFault.Memory → invocation_id_fault text.now ≡ Some f) }
     ensures within { IfErr result (λ f. place_of f ≤ length text.now) }
 {
     let text = read_part(alloc, PartForm::Letters(Alphabet::Invocation), text)?;
@@ -188,8 +191,10 @@ impl ResultName {
     /// Reads the name of a result, all of the text. `Memory` where there is none for the name.
     pub fn parse(alloc: Global, text: &[u8]) -> Result<ResultName, NameFault>
         ensures ok { IfOk result (λ r. IsResultName r text.now) }
-        ensures refused { IfErr result (λ f. f ≢ NameFault.Memory → (r : ResultName) → ¬ IsResultName r text.now) }
-        ensures fault { IfErr result (λ f. f ≢ NameFault.Memory → result_name_fault text.now ≡ Some f) }
+        ensures refused { IfErr result
+            (λ f. f ≢ NameFault.Memory → (r : ResultName) → ¬ IsResultName r text.now) }
+        ensures fault { IfErr result
+            (λ f. f ≢ NameFault.Memory → result_name_fault text.now ≡ Some f) }
     {
         read_whole(alloc, text)
     }

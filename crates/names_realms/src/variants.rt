@@ -46,7 +46,8 @@ fn in_order(alloc: Global, sorted: BTreeMap<Vec<u8>, Bytes>) -> Result<Vec<Pair>
 
 /// Feeds one pair to a hasher.
 fn feed_pair(hasher: &mut Sha256, pair: &Pair)
-    ensures { (m : List ℕ) → Holds256 hasher.old m → Holds256 hasher.new (m ++ pair_bytes pair.now) }
+    ensures { (m : List ℕ) → Holds256 hasher.old m
+        → Holds256 hasher.new (m ++ pair_bytes pair.now) }
 {
     hasher.update(pair.key.as_slice());
     hasher.update(b":");
@@ -87,11 +88,13 @@ fn label_text(pairs: &[Pair]) -> [u8; 16]
 }
 
 impl Variant {
-    /// The variant of these pairs, in the order of their keys. `NotCanonical` at the first place, counted from 0, whose key an earlier
-    /// pair has; `Memory` where there is none for the order.
+    /// The variant of these pairs, in the order of their keys. `NotCanonical` at the first place,
+    /// counted from 0, whose key an earlier pair has; `Memory` where there is none for the order.
     pub fn from_pairs(alloc: Global, pairs: Vec<Pair>) -> Result<Variant, NameFault>
         ensures ok { IfOk result (λ v. IsPermutation pairs.items v × IsAscending v) }
-        ensures fault { IfErr result (λ f. f ≢ NameFault.Memory → (at : ℕ) × (f ≡ NameFault.NotCanonical at) × IsFirstRepeat pairs.items at) }
+        ensures fault { IfErr result
+            (λ f. f ≢ NameFault.Memory
+            → (at : ℕ) × (f ≡ NameFault.NotCanonical at) × IsFirstRepeat pairs.items at) }
     {
         let mut sorted = BTreeMap::new(alloc);
         for pair in pairs {
@@ -112,7 +115,8 @@ impl Variant {
         self.pairs.as_slice()
     }
 
-    /// The label: the first 16 hexadecimal digits of SHA-256 over `key`, `:`, `value` and a newline of each pair in order.
+    /// The label: the first 16 hexadecimal digits of SHA-256 over `key`, `:`, `value` and a newline
+    /// of each pair in order.
     pub fn label(&self) -> [u8; 16]
         ensures { result ≡ label_of self.now }
     {

@@ -19,7 +19,8 @@ is_permission p (Some q) = bytes_eq (permission_text q) (permission_text p)
 
 -- the role holds the permission
 abbrev pub holds : PolicyTables → List ℕ → Permission → Bool
-holds t role p = list_any (λ x. is_permission p (permission_of x)) (role_at role t.roles).permissions
+holds t role p =
+    list_any (λ x. is_permission p (permission_of x)) (role_at role t.roles).permissions
 
 -- the name is that of the user at this place
 abbrev pub is_place : ℕ → Option ℕ → Bool
@@ -39,7 +40,9 @@ has_this_user t u None = false
 has_this_user t u (Some name) = list_any (is_user t u) (group_at name t.groups).members
 
 abbrev pub gives : PolicyTables → ℕ → List ℕ → Bool
-gives t u principal = is_this_user t u (behind (codes "user:") principal) || has_this_user t u (behind (codes "group:") principal)
+gives t u principal =
+    is_this_user t u (behind (codes "user:") principal)
+    || has_this_user t u (behind (codes "group:") principal)
 
 -- the binding gives the user a role that holds the permission
 abbrev pub binds_in : PolicyTables → ℕ → Permission → Binding → Bool
@@ -57,7 +60,8 @@ root_of realm = take (project_len realm) realm ++ codes ":@root"
 abbrev pub IsAsked : PolicyTables → List ℕ → List ℕ → Type 0
 IsAsked t realm name = Reaches t realm name ⊎ Reaches t (root_of realm) name
 
--- one of these realms binds a role that holds the permission to the user, or to a group with the user as a member
+-- one of these realms binds a role that holds the permission to the user, or to a group with the
+-- user as a member
 pub record Allows (t : PolicyTables) (u : ℕ) (p : Permission) (realm : List ℕ) : Type 0 where
   pub name : List ℕ
   pub asked : IsAsked t realm name

@@ -12,4 +12,5 @@ HasNoCycle t = (name : List ℕ) → ReachesItself t name → ⊥
 -- the realm reaches itself, and none with a lesser name does
 pub record IsLeastCycle (t : PolicyTables) (name : List ℕ) : Type 0 where
   pub itself : ReachesItself t name
-  pub least : (other : List ℕ) → ReachesItself t other → is_lt (slice_cmp nat_cmp other name) ≡ false
+  pub least : (other : List ℕ) → ReachesItself t other
+      → is_lt (slice_cmp nat_cmp other name) ≡ false

@@ -11,7 +11,8 @@ label_at labels p = slice_index_or labels p 0
 
 -- no edge leads to a greater label
 abbrev pub AreFalling : List (List ℕ) → List ℕ → Type 0
-AreFalling graph labels = (p q : ℕ) → has q (edges graph p) ≡ true → label_at labels q ≤ label_at labels p
+AreFalling graph labels =
+    (p q : ℕ) → has q (edges graph p) ≡ true → label_at labels q ≤ label_at labels p
 
 -- no place that is marked is reached from itself
 abbrev pub IsRuledOut : List (List ℕ) → List Bool → Type 0
@@ -24,7 +25,8 @@ name_at realms p = slice_index_or (map (λ r. r.name) realms) p []
 -- the name at a place comes before that of the place that is kept
 abbrev pub comes_first : List RealmTable → ℕ → Option ℕ → Bool
 comes_first realms p None = true
-comes_first realms p (Some kept) = is_lt (slice_cmp nat_cmp (name_at realms p) (name_at realms kept))
+comes_first realms p (Some kept) =
+    is_lt (slice_cmp nat_cmp (name_at realms p) (name_at realms kept))
 
 -- a place is kept, where it is reached from itself and its name comes first
 abbrev pub IsStep : List (List ℕ) → List RealmTable → ℕ → Option ℕ → Option ℕ → Type 0
@@ -33,9 +35,11 @@ IsStep graph realms p before after =
     ⊎ ((ReachesOn graph p p → comes_first realms p before ≡ false) × (after ≡ before))
 
 -- the place has the least name among those before this one that are reached from themselves
-pub record IsLeastPlace (graph : List (List ℕ)) (realms : List RealmTable) (n place : ℕ) : Type 0 where
+pub record IsLeastPlace (graph : List (List ℕ)) (realms : List RealmTable)
+    (n place : ℕ) : Type 0 where
   pub itself : ReachesOn graph place place
-  pub least : (p : ℕ) → p < n → ReachesOn graph p p → is_lt (slice_cmp nat_cmp (name_at realms p) (name_at realms place)) ≡ false
+  pub least : (p : ℕ) → p < n → ReachesOn graph p p
+      → is_lt (slice_cmp nat_cmp (name_at realms p) (name_at realms place)) ≡ false
 
 abbrev pub IsLeastBefore : List (List ℕ) → List RealmTable → ℕ → Option ℕ → Type 0
 IsLeastBefore graph realms n None = (p : ℕ) → p < n → ReachesOn graph p p → ⊥

@@ -71,24 +71,32 @@ checked t check = option_map (check_fault check) (least_of (failing t check (all
 
 -- the first fault in the tables' texts: their number, their forms, then the names that aren't there
 abbrev pub text_fault : PolicyTables → Option PolicyFault
-text_fault t = option_or (entries_fault t) (option_or (checked t Form) (option_or (checked t Roles) (option_or (checked t Realms) (checked t Principals))))
+text_fault t =
+    option_or (entries_fault t)
+    (option_or (checked t Form)
+    (option_or (checked t Roles) (option_or (checked t Realms) (checked t Principals))))
 
 -- the least token that two users have
 unfoldable pub owners_fault : PolicyTables → Option PolicyFault
 owners_fault t = option_map (λ f. TwoOwners f.path) (least_of (repeated [] t.users))
 
--- the first fault of tables: in their texts, then the least realm that reaches itself, then the least token of two users
+-- the first fault of tables: in their texts, then the least realm that reaches itself, then the
+-- least token of two users
 pub data IsTablesFault (t : PolicyTables) : PolicyFault → Type 0 where
   text : (f : PolicyFault) → text_fault t ≡ Some f → IsTablesFault t f
-  cycle : (name : List ℕ) → text_fault t ≡ None → IsLeastCycle t name → IsTablesFault t (RealmCycle name)
-  owners : (f : PolicyFault) → text_fault t ≡ None → HasNoCycle t → owners_fault t ≡ Some f → IsTablesFault t f
+  cycle : (name : List ℕ) → text_fault t ≡ None → IsLeastCycle t name
+      → IsTablesFault t (RealmCycle name)
+  owners : (f : PolicyFault) → text_fault t ≡ None → HasNoCycle t → owners_fault t ≡ Some f
+      → IsTablesFault t f
 
 -- the first fault of a text: its size, that it is no TOML, its shape, then that of its tables
 pub data IsFirstFault (text : List ℕ) : PolicyFault → Type 0 where
   size : most_bytes < length text → IsFirstFault text (TooMany (length text))
   toml : length text ≤ most_bytes → ((t : Members) → ¬ IsToml text t) → IsFirstFault text NotToml
-  shape : length text ≤ most_bytes → (t : Members) → IsToml text t → (f : PolicyFault) → shape_fault t ≡ Some f → IsFirstFault text f
-  tables : length text ≤ most_bytes → (t : Members) → IsToml text t → shape_fault t ≡ None → (f : PolicyFault) → IsTablesFault (tables_of t) f → IsFirstFault text f
+  shape : length text ≤ most_bytes → (t : Members) → IsToml text t → (f : PolicyFault)
+      → shape_fault t ≡ Some f → IsFirstFault text f
+  tables : length text ≤ most_bytes → (t : Members) → IsToml text t → shape_fault t ≡ None
+      → (f : PolicyFault) → IsTablesFault (tables_of t) f → IsFirstFault text f
 
 -- tables without a fault
 pub record IsSound (t : PolicyTables) : Type 0 where

@@ -23,18 +23,22 @@ use Rattle.permissions.specs.Reach.{Reaches}
 -- the bits of the roles before this one are those of their permissions
 pub record AreMasksBefore (roles : List Role) (n : ℕ) (masks : List ℕ) : Type 0 where
   pub count : length masks ≡ n
-  pub same : (place : ℕ) (p : Permission) → place < n → has_bit (slice_index_or masks place 0) p ≡ list_any (λ x. is_permission p (permission_of x)) (role_texts_at roles place)
+  pub same : (place : ℕ) (p : Permission) → place < n
+      → has_bit (slice_index_or masks place 0) p
+      ≡ list_any (λ x. is_permission p (permission_of x)) (role_texts_at roles place)
 
 abbrev pub AreMasks : PolicyTables → List ℕ → Type 0
 AreMasks t masks = AreMasksBefore t.roles (length t.roles) masks
 
 -- a grant to a group gives the permission to the user
 abbrev pub gives_member : PolicyTables → ℕ → Permission → GroupGrant → Bool
-gives_member t u p g = list_any (is_user t u) (members_at_place t.groups g.group) && has_bit g.mask p
+gives_member t u p g =
+    list_any (is_user t u) (members_at_place t.groups g.group) && has_bit g.mask p
 
 -- grants give the permission to the user
 abbrev pub granted : PolicyTables → ℕ → Permission → Grants → Bool
-granted t u p g = has_bit (unwrap_or (get nat_cmp g.users u) 0) p || list_any (gives_member t u p) g.groups.items
+granted t u p g =
+    has_bit (unwrap_or (get nat_cmp g.users u) 0) p || list_any (gives_member t u p) g.groups.items
 
 -- the grants of a place give the permission to the user
 abbrev pub granted_at : PolicyTables → ℕ → Permission → List Grants → ℕ → Bool
@@ -49,18 +53,23 @@ abbrev pub bound_at : PolicyTables → List RealmTable → ℕ → Permission �
 bound_at t realms u p place = list_any (binds_in t u p) (bindings_at realms place)
 
 -- the grants of each place before this one are those of its bindings
-pub record AreGrants (t : PolicyTables) (realms : List RealmTable) (n : ℕ) (grants : List Grants) : Type 0 where
+pub record AreGrants (t : PolicyTables) (realms : List RealmTable) (n : ℕ)
+    (grants : List Grants) : Type 0 where
   pub count : length grants ≡ n
-  pub same : (place u : ℕ) (p : Permission) → place < n → granted_at t u p grants place ≡ bound_at t realms u p place
+  pub same : (place u : ℕ) (p : Permission) → place < n
+      → granted_at t u p grants place ≡ bound_at t realms u p place
 
 -- the user is a member of the group at a place
 abbrev pub is_member : List Members → ℕ → ℕ → Bool
-is_member members group u = slice_index_or (map (λ m. contains nat_cmp m.places u) members) group false
+is_member members group u =
+    slice_index_or (map (λ m. contains nat_cmp m.places u) members) group false
 
 -- the members of each group before this one are those that it names
-pub record AreMembers (t : PolicyTables) (groups : List Group) (n : ℕ) (members : List Members) : Type 0 where
+pub record AreMembers (t : PolicyTables) (groups : List Group) (n : ℕ)
+    (members : List Members) : Type 0 where
   pub count : length members ≡ n
-  pub same : (group u : ℕ) → group < n → is_member members group u ≡ list_any (is_user t u) (members_at_place groups group)
+  pub same : (group u : ℕ) → group < n
+      → is_member members group u ≡ list_any (is_user t u) (members_at_place groups group)
 
 -- a place binds the user, or one that is reached from it does
 pub record IsBoundFrom (t : PolicyTables) (place u : ℕ) (p : Permission) : Type 0 where

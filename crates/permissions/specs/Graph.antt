@@ -1,4 +1,5 @@
--- A machine of the code: walks from place to place, where each place has a list of the places that it leads to.
+-- A machine of the code: walks from place to place, where each place has a list of the places that
+-- it leads to.
 use Rattle.std.specs.Prelude.{◌≡◌, ℕ, ◌<◌, ◌==◌, Bool, true, false, List, [], ◌∷◌, length, map, slice_index_or, count_by}
 use Rattle.std.specs.List.{list_any}
 use Rattle.policy_tables.specs.declared.tables.RealmTable.{RealmTable}

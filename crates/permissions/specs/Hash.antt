@@ -17,7 +17,9 @@ padded_with pad block = map (λ b. bit_xor b pad) block
 
 -- RFC 2104: H(K XOR opad, H(K XOR ipad, text)), with ipad the byte 0x36 and opad the byte 0x5c
 unfoldable pub hmac : List ℕ → List ℕ → List ℕ
-hmac key message = sha256 (padded_with 0x5c (key_block key) ++ sha256 (padded_with 0x36 (key_block key) ++ message))
+hmac key message =
+    sha256 (padded_with 0x5c (key_block key)
+    ++ sha256 (padded_with 0x36 (key_block key) ++ message))
 
 -- the update token of an invocation: the lower-case hex of the code over `rdb-update/` and its id
 abbrev pub token_text : List ℕ → List ℕ → List ℕ

@@ -7,7 +7,8 @@ use Rattle.policy_checks.specs.Permissions.{permission_text, every_permission}
 
 -- a permission's number is its place in the list of all
 unfoldable pub permission_number : Permission → ℕ
-permission_number p = unwrap_or (place_of (permission_text p) (map permission_text every_permission)) 0
+permission_number p =
+    unwrap_or (place_of (permission_text p) (map permission_text every_permission)) 0
 
 -- the permission's bit is set
 unfoldable pub has_bit : ℕ → Permission → Bool

@@ -1,4 +1,5 @@
--- A machine of the code: an order in which each place stands behind those that it leads to, and a walk that finds it.
+-- A machine of the code: an order in which each place stands behind those that it leads to, and a
+-- walk that finds it.
 use Rattle.std.specs.Prelude.{◌≡◌, ◌⊎◌, ℕ, ◌+◌, ◌-◌, ◌<◌, Bool, true, false, if◌then◌else◌, List, [], ◌∷◌, ◌++◌, length, map, take, slice_index_or}
 use Rattle.permissions.specs.declared.order.Frame.{Frame}
 use Rattle.permissions.specs.declared.order.Mark.{Mark}
@@ -13,7 +14,9 @@ pub record LeadsBack (graph : List (List ℕ)) : Type 0 where
 -- behind the places before it, each place stands behind those that it leads to
 abbrev pub IsLaid : List (List ℕ) → List ℕ → List ℕ → Type 0
 IsLaid graph before [] = Unit {0}
-IsLaid graph before (p ∷ ps) = ((q : ℕ) → has q (edges graph p) ≡ true → has q before ≡ true) × IsLaid graph (before ++ p ∷ []) ps
+IsLaid graph before (p ∷ ps) =
+    ((q : ℕ) → has q (edges graph p) ≡ true → has q before ≡ true)
+    × IsLaid graph (before ++ p ∷ []) ps
 
 -- all places, each behind those that it leads to
 pub record IsOrder (graph : List (List ℕ)) (order : List ℕ) : Type 0 where
@@ -25,12 +28,15 @@ pub record IsOrder (graph : List (List ℕ)) (order : List ℕ) : Type 0 where
 abbrev pub places_of : List Frame → List ℕ
 places_of path = map (λ f. f.place) path
 
--- Each place of a path leads to the next one. What its edges that were followed lead to stands in the order, but for the next one.
+-- Each place of a path leads to the next one. What its edges that were followed lead to stands in
+-- the order, but for the next one.
 abbrev pub IsPath : List (List ℕ) → List ℕ → List Frame → Type 0
 IsPath graph order [] = Unit {0}
-IsPath graph order (f ∷ []) = (q : ℕ) → has q (take f.followed (edges graph f.place)) ≡ true → has q order ≡ true
+IsPath graph order (f ∷ []) =
+    (q : ℕ) → has q (take f.followed (edges graph f.place)) ≡ true → has q order ≡ true
 IsPath graph order (f ∷ g ∷ fs) =
-    ((q : ℕ) → has q (take f.followed (edges graph f.place)) ≡ true → (has q order ≡ true) ⊎ (q ≡ g.place))
+    ((q : ℕ) → has q (take f.followed (edges graph f.place)) ≡ true
+    → (has q order ≡ true) ⊎ (q ≡ g.place))
     × (has g.place (edges graph f.place) ≡ true)
     × IsPath graph order (g ∷ fs)
 
@@ -48,9 +54,11 @@ is_unseen Open = false
 is_unseen Done = false
 
 -- how far a walk has come: what stands on the path, and in the order
-pub record IsWalked (graph : List (List ℕ)) (marks : List Mark) (path : List Frame) (order : List ℕ) : Type 0 where
+pub record IsWalked (graph : List (List ℕ)) (marks : List Mark) (path : List Frame)
+    (order : List ℕ) : Type 0 where
   pub count : length marks ≡ length graph
-  pub marked : (q : ℕ) → q < length graph → mark_at marks q ≡ mark_of (has q (places_of path)) (has q order)
+  pub marked : (q : ℕ) → q < length graph
+      → mark_at marks q ≡ mark_of (has q (places_of path)) (has q order)
   pub within : (q : ℕ) → has q (places_of path) ≡ true → q < length graph
   pub linked : IsPath graph order path
   pub laid : IsLaid graph [] order
@@ -68,7 +76,8 @@ frames_left graph (f ∷ fs) = 1 + (length (edges graph f.place) - f.followed) +
 abbrev pub unseen_left : List Mark → List (List ℕ) → ℕ
 unseen_left [] rows = 0
 unseen_left (m ∷ ms) [] = 0
-unseen_left (m ∷ ms) (row ∷ rows) = (if is_unseen m then 1 + length row else 0) + unseen_left ms rows
+unseen_left (m ∷ ms) (row ∷ rows) =
+    (if is_unseen m then 1 + length row else 0) + unseen_left ms rows
 
 abbrev pub steps_left : List (List ℕ) → List Mark → List Frame → ℕ
 steps_left graph marks path = unseen_left marks graph + frames_left graph path

@@ -14,7 +14,8 @@ realm_at name (r ∷ rs) = if bytes_eq name r.name then r else realm_at name rs
 abbrev pub extended : PolicyTables → List ℕ → List (List ℕ)
 extended t name = (realm_at name t.realms).extends
 
--- a walk from a realm over these, each of which the one before extends, the last of which is the other
+-- a walk from a realm over these, each of which the one before extends, the last of which is the
+-- other
 abbrev pub IsWalk : PolicyTables → List ℕ → List (List ℕ) → List ℕ → Type 0
 IsWalk t from [] to = from ≡ to
 IsWalk t from (x ∷ xs) to = (is_there x (extended t from) ≡ true) × IsWalk t x xs to

@@ -1,8 +1,9 @@
 //! Labels that show which places aren't reached from themselves.
 //!
-//! Tarjan's algorithm numbers the strongly connected components of a graph so that no edge leads to a greater number, and the edges of
-//! a place that isn't reached from itself lead to lesser ones. Nothing is promised of the numbers: who uses them checks that no edge
-//! leads to a greater one, which is all that the proof needs.
+//! Tarjan's algorithm numbers the strongly connected components of a graph so that no edge leads to
+//! a greater number, and the edges of a place that isn't reached from itself lead to lesser ones.
+//! Nothing is promised of the numbers: who uses them checks that no edge leads to a greater one,
+//! which is all that the proof needs.
 ghost use Rattle.std.specs.Prelude.{◌≡◌, slice_index_or};
 
 use crate::graph::edges_of;
@@ -16,7 +17,8 @@ struct Step {
     followed: usize,
 }
 
-/// How far the search has come. The numbers count from 1, and 0 stands for a place that has none yet.
+/// How far the search has come. The numbers count from 1, and 0 stands for a place that has none
+/// yet.
 #[derive(Drop)]
 struct Search {
     /// The number in the order in which places were met.

@@ -57,7 +57,8 @@ fn are_falling(labels: &[usize], graph: &[Listed<usize>]) -> bool
     true
 }
 
-/// Marks places that aren't reached from themselves: those whose edges all lead to lesser labels, where no edge leads to a greater one.
+/// Marks places that aren't reached from themselves: those whose edges all lead to lesser labels,
+/// where no edge leads to a greater one.
 fn rule_out(alloc: Global, graph: &[Listed<usize>]) -> Result<Vec<bool>, AllocError>
     ensures len { IfOk result (λ out. length out.items ≡ length graph.now) }
     ensures out { IfOk result (λ out. IsRuledOut graph.now out.items) }
@@ -112,8 +113,8 @@ fn better_place(
     Ok(kept)
 }
 
-/// The place of the least name of those that are reached from themselves. Names come in their order, and what isn't reached from
-/// itself is ruled out before, so that one place is tried.
+/// The place of the least name of those that are reached from themselves. Names come in their
+/// order, and what isn't reached from itself is ruled out before, so that one place is tried.
 fn least_back(
     alloc: Global,
     graph: &[Listed<usize>],
@@ -140,7 +141,8 @@ pub(crate) fn first_cycle(
     graph: &[Listed<usize>],
 ) -> Result<Option<Bytes>, AllocError>
     requires { graph.now ≡ graph_of book.now }
-    ensures { IfOk result (λ least. MatchOption least (HasNoCycle book.now) (λ name. IsLeastCycle book.now name)) }
+    ensures { IfOk result
+        (λ least. MatchOption least (HasNoCycle book.now) (λ name. IsLeastCycle book.now name)) }
 {
     let realms = book.tables().realms.as_slice();
     match least_back(alloc, graph, realms)? {

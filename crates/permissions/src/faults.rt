@@ -5,8 +5,8 @@ ghost use Rattle.permissions.specs.Faults.{fault_number, fault_name};
 use name_parts::Bytes;
 use std::alloc::{AllocError, AllocFailed};
 
-/// Why a configuration is refused. A path is keys joined by points, with places in lists in decimal from 0. One of the faults holds a
-/// token, so nothing prints them whole.
+/// Why a configuration is refused. A path is keys joined by points, with places in lists in decimal
+/// from 0. One of the faults holds a token, so nothing prints them whole.
 #[derive(Drop)]
 pub enum PolicyFault {
     /// The text is no TOML document.

@@ -23,7 +23,8 @@ pub(crate) struct GroupGrant {
     pub(crate) mask: u16,
 }
 
-/// What the bindings of a realm grant: the permissions of each user that they name, and of the groups, in the order of the bindings.
+/// What the bindings of a realm grant: the permissions of each user that they name, and of the
+/// groups, in the order of the bindings.
 #[derive(Drop)]
 pub(crate) struct Grants {
     pub(crate) users: BTreeMap<usize, u16>,
@@ -32,7 +33,10 @@ pub(crate) struct Grants {
 
 /// Grants to a user.
 fn grant_user(users: &mut BTreeMap<usize, u16>, mask: u16, user: usize) -> Result<(), AllocError>
-    ensures { OnOk result ((u : ℕ) (p : PermissionOf) → has_bit (unwrap_or (get nat_cmp users.new u) 0) p ≡ (has_bit (unwrap_or (get nat_cmp users.old u) 0) p || ((user == u) && has_bit mask p))) }
+    ensures { OnOk result
+        ((u : ℕ) (p : PermissionOf)
+        → has_bit (unwrap_or (get nat_cmp users.new u) 0) p
+        ≡ (has_bit (unwrap_or (get nat_cmp users.old u) 0) p || ((user == u) && has_bit mask p))) }
 {
     let before = users.get(&user).copied().unwrap_or(0);
     users.insert(user, before | mask)?;
@@ -46,7 +50,11 @@ fn push_user(
     name: Option<&[u8]>,
     grants: &mut Grants,
 ) -> Result<(), AllocError>
-    ensures { OnOk result ((u : ℕ) (p : PermissionOf) → granted book.now u p grants.new ≡ (granted book.now u p grants.old || (is_this_user book.now u (option_map (λ n. n.now) name.entry) && has_bit mask p))) }
+    ensures { OnOk result
+        ((u : ℕ) (p : PermissionOf)
+        → granted book.now u p grants.new
+        ≡ (granted book.now u p grants.old
+        || (is_this_user book.now u (option_map (λ n. n.now) name.entry) && has_bit mask p))) }
 {
     let Some(name) = name else {
         return Ok(());
@@ -64,7 +72,11 @@ fn push_group(
     name: Option<&[u8]>,
     grants: &mut Grants,
 ) -> Result<(), AllocError>
-    ensures { OnOk result ((u : ℕ) (p : PermissionOf) → granted book.now u p grants.new ≡ (granted book.now u p grants.old || (has_this_user book.now u (option_map (λ n. n.now) name.entry) && has_bit mask p))) }
+    ensures { OnOk result
+        ((u : ℕ) (p : PermissionOf)
+        → granted book.now u p grants.new
+        ≡ (granted book.now u p grants.old
+        || (has_this_user book.now u (option_map (λ n. n.now) name.entry) && has_bit mask p))) }
 {
     let Some(name) = name else {
         return Ok(());
@@ -85,7 +97,10 @@ fn push_principal(
     text: &[u8],
     grants: &mut Grants,
 ) -> Result<(), AllocError>
-    ensures { OnOk result ((u : ℕ) (p : PermissionOf) → granted book.now u p grants.new ≡ (granted book.now u p grants.old || (gives book.now u text.now && has_bit mask p))) }
+    ensures { OnOk result
+        ((u : ℕ) (p : PermissionOf)
+        → granted book.now u p grants.new
+        ≡ (granted book.now u p grants.old || (gives book.now u text.now && has_bit mask p))) }
 {
     push_user(book, mask, rest_behind(b"user:", text), grants)?;
     push_group(book, mask, rest_behind(b"group:", text), grants)
@@ -98,7 +113,11 @@ fn push_principals(
     texts: &[Bytes],
     grants: &mut Grants,
 ) -> Result<(), AllocError>
-    ensures { OnOk result ((u : ℕ) (p : PermissionOf) → granted book.now u p grants.new ≡ (granted book.now u p grants.old || (list_any (gives book.now u) texts.now && has_bit mask p))) }
+    ensures { OnOk result
+        ((u : ℕ) (p : PermissionOf)
+        → granted book.now u p grants.new
+        ≡ (granted book.now u p grants.old
+        || (list_any (gives book.now u) texts.now && has_bit mask p))) }
 {
     for text in texts {
         push_principal(book, mask, text.as_slice(), grants)?;
@@ -114,7 +133,10 @@ fn push_binding(
     grants: &mut Grants,
 ) -> Result<(), AllocError>
     requires { AreMasks book.now masks.now }
-    ensures { OnOk result ((u : ℕ) (p : PermissionOf) → granted book.now u p grants.new ≡ (granted book.now u p grants.old || binds_in book.now u p binding.now)) }
+    ensures { OnOk result
+        ((u : ℕ) (p : PermissionOf)
+        → granted book.now u p grants.new
+        ≡ (granted book.now u p grants.old || binds_in book.now u p binding.now)) }
 {
     let mask = mask_of_role(book, masks, binding.role.as_slice());
     push_principals(book, mask, binding.principals.as_slice(), grants)
@@ -138,7 +160,9 @@ fn grants_of(
     bindings: &[Binding],
 ) -> Result<Grants, AllocError>
     requires { AreMasks book.now masks.now }
-    ensures { IfOk result (λ grants. (u : ℕ) (p : PermissionOf) → granted book.now u p grants ≡ list_any (binds_in book.now u p) bindings.now) }
+    ensures { IfOk result
+        (λ grants. (u : ℕ) (p : PermissionOf)
+        → granted book.now u p grants ≡ list_any (binds_in book.now u p) bindings.now) }
 {
     let mut grants = no_grants(alloc);
     for binding in bindings {
@@ -155,7 +179,8 @@ pub(crate) fn all_grants(
     realms: &[RealmTable],
 ) -> Result<Vec<Grants>, AllocError>
     requires { AreMasks book.now masks.now }
-    ensures { IfOk result (λ grants. AreGrants book.now realms.now (length realms.now) grants.items) }
+    ensures { IfOk result
+        (λ grants. AreGrants book.now realms.now (length realms.now) grants.items) }
 {
     let mut grants = Vec::new(alloc);
     for realm in realms {

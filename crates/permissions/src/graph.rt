@@ -21,7 +21,8 @@ fn find_place(marks: &mut [bool], found: &mut Vec<usize>, place: usize) -> Resul
     requires marked { IsMarked marks.old found.old.items }
     ensures len { length marks.new ≡ length marks.old }
     ensures marked { OnOk result (IsMarked marks.new found.new.items) }
-    ensures found { OnOk result ((q : ℕ) → has q found.new.items ≡ (has q found.old.items || (place == q))) }
+    ensures found { OnOk result
+        ((q : ℕ) → has q found.new.items ≡ (has q found.old.items || (place == q))) }
     ensures kept { OnOk result (take (length found.old.items) found.new.items ≡ found.old.items) }
 {
     if marks[place] {
@@ -42,7 +43,8 @@ fn find_places(
     requires marked { IsMarked marks.old found.old.items }
     ensures len { length marks.new ≡ length marks.old }
     ensures marked { OnOk result (IsMarked marks.new found.new.items) }
-    ensures found { OnOk result ((q : ℕ) → has q found.new.items ≡ (has q found.old.items || has q places.now)) }
+    ensures found { OnOk result
+        ((q : ℕ) → has q found.new.items ≡ (has q found.old.items || has q places.now)) }
     ensures kept { OnOk result (take (length found.old.items) found.new.items ≡ found.old.items) }
 {
     for i in 0..places.len() {
@@ -80,7 +82,8 @@ pub(crate) fn reached_from(
     start: usize,
 ) -> Result<Vec<usize>, AllocError>
     requires { IsGraph graph.now }
-    ensures { IfOk result (λ found. (q : ℕ) → (has q found.items ≡ true) ↔ ReachesOn graph.now start q) }
+    ensures { IfOk result
+        (λ found. (q : ℕ) → (has q found.items ≡ true) ↔ ReachesOn graph.now start q) }
 {
     let mut marks = vec![in alloc; false; graph.len()]?;
     let mut found = Vec::new(alloc);

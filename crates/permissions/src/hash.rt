@@ -101,7 +101,8 @@ pub fn update_token(secret: &[u8], id: &InvocationId) -> [u8; 64]
     token_of(secret, id.as_slice())
 }
 
-/// The bits in which two texts differ anywhere. It looks at every byte, whatever the ones before it are.
+/// The bits in which two texts differ anywhere. It looks at every byte, whatever the ones before it
+/// are.
 fn differing_bits(left: &[u8], right: &[u8]) -> u8
     requires { length left.now ≡ length right.now }
     ensures { (result ≡ 0) ↔ (left.now ≡ right.now) }
@@ -113,8 +114,8 @@ fn differing_bits(left: &[u8], right: &[u8]) -> u8
     bits
 }
 
-/// Whether a text is the update token of the invocation under the secret. A text of a token's length takes the same time,
-/// wherever it differs from the token.
+/// Whether a text is the update token of the invocation under the secret. A text of a token's
+/// length takes the same time, wherever it differs from the token.
 pub fn token_is(secret: &[u8], id: &InvocationId, text: &[u8]) -> bool
     ensures { IsTrue result ↔ (text.now ≡ token_text secret.now id.now) }
 {

@@ -1,4 +1,5 @@
-//! Who may do what: the configuration of users, groups, roles and realms, and the tokens that prove a right.
+//! Who may do what: the configuration of users, groups, roles and realms, and the tokens that prove
+//! a right.
 #![tactic(auto)]
 
 mod caller;

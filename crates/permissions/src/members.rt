@@ -21,7 +21,9 @@ pub(crate) struct Members {
 
 /// Adds the user of a name, where there is one.
 fn add_member(book: &Book, name: &[u8], places: &mut BTreeSet<usize>) -> Result<(), AllocError>
-    ensures { OnOk result ((u : ℕ) → contains nat_cmp places.new u ≡ (contains nat_cmp places.old u || is_user book.now u name.now)) }
+    ensures { OnOk result
+        ((u : ℕ) → contains nat_cmp places.new u
+        ≡ (contains nat_cmp places.old u || is_user book.now u name.now)) }
 {
     match book.user(name) {
         Some(user) => {
@@ -38,7 +40,8 @@ fn places_of_users(
     book: &Book,
     names: &[Bytes],
 ) -> Result<BTreeSet<usize>, AllocError>
-    ensures { IfOk result (λ places. (u : ℕ) → contains nat_cmp places u ≡ list_any (is_user book.now u) names.now) }
+    ensures { IfOk result
+        (λ places. (u : ℕ) → contains nat_cmp places u ≡ list_any (is_user book.now u) names.now) }
 {
     let mut places = BTreeSet::new(alloc);
     for name in names {
@@ -53,7 +56,8 @@ pub(crate) fn all_members(
     book: &Book,
     groups: &[Group],
 ) -> Result<Vec<Members>, AllocError>
-    ensures { IfOk result (λ members. AreMembers book.now groups.now (length groups.now) members.items) }
+    ensures { IfOk result
+        (λ members. AreMembers book.now groups.now (length groups.now) members.items) }
 {
     let mut members = Vec::new(alloc);
     for group in groups {

@@ -1,4 +1,5 @@
-//! An order in which each place stands behind those that it leads to, where no place leads back to itself.
+//! An order in which each place stands behind those that it leads to, where no place leads back to
+//! itself.
 ghost use Rattle.std.specs.Prelude.{◌≡◌, ◌<◌, ◌+◌, ◌^◌, ◌++◌, ◌∷◌, [], false, length, slice_set, IfOk, OnOk, MatchOption};
 ghost use Rattle.std.specs.Bool.{MatchBool};
 ghost use Rattle.permissions.specs.Graph.{IsGraph};
@@ -43,7 +44,8 @@ impl Frame {
 fn enter(marks: &mut [Mark], path: &mut Vec<Frame>, place: usize) -> Result<(), AllocError>
     requires { place < length marks.old }
     ensures marks { marks.new ≡ slice_set marks.old place Mark.Open }
-    ensures path { OnOk result (path.new.items ≡ path.old.items ++ (record { place = place; followed = 0 }) ∷ []) }
+    ensures path { OnOk result
+        (path.new.items ≡ path.old.items ++ (record { place = place; followed = 0 }) ∷ []) }
 {
     marks[place] = Mark::Open;
     path.push(Frame { place, followed: 0 })?;
@@ -61,8 +63,8 @@ fn leave(marks: &mut [Mark], order: &mut Vec<usize>, place: usize) -> Result<(),
     Ok(())
 }
 
-/// Takes a step from the last place of the path: along its next edge, or back from it, where none is left. False where the edge leads
-/// to a place of the path.
+/// Takes a step from the last place of the path: along its next edge, or back from it, where none
+/// is left. False where the edge leads to a place of the path.
 fn step(
     graph: &[Listed<usize>],
     marks: &mut [Mark],
@@ -72,8 +74,12 @@ fn step(
 ) -> Result<bool, AllocError>
     requires graph { IsGraph graph.now }
     requires walked { IsWalked graph.now marks.old (path.old.items ++ last ∷ []) order.old.items }
-    ensures walked { IfOk result (λ on. MatchBool on (IsWalked graph.now marks.new path.new.items order.new.items) (LeadsBack graph.now)) }
-    ensures less { IfOk result (λ on. MatchBool on (steps_left graph.now marks.new path.new.items < steps_left graph.now marks.old (path.old.items ++ last ∷ [])) (LeadsBack graph.now)) }
+    ensures walked { IfOk result
+        (λ on. MatchBool on (IsWalked graph.now marks.new path.new.items order.new.items)
+        (LeadsBack graph.now)) }
+    ensures less { IfOk result
+        (λ on. MatchBool on (steps_left graph.now marks.new path.new.items < steps_left graph.now
+        marks.old (path.old.items ++ last ∷ [])) (LeadsBack graph.now)) }
     ensures seen { OnOk result (StaysSeen marks.old marks.new) }
 {
     let Some(to) = edges_of(graph, last.place).get(last.followed) else {
@@ -103,7 +109,9 @@ fn walk(
 ) -> Result<bool, AllocError>
     requires graph { IsGraph graph.now }
     requires walked { IsWalked graph.now marks.old path.old.items order.old.items }
-    ensures walked { IfOk result (λ on. MatchBool on (IsWalked graph.now marks.new [] order.new.items) (LeadsBack graph.now)) }
+    ensures walked { IfOk result
+        (λ on. MatchBool on (IsWalked graph.now marks.new [] order.new.items)
+        (LeadsBack graph.now)) }
     ensures path { IfOk result (λ on. MatchBool on (path.new.items ≡ []) (LeadsBack graph.now)) }
     ensures seen { OnOk result (StaysSeen marks.old marks.new) }
 {
@@ -127,9 +135,12 @@ fn walk_from(
     requires place { place < length graph.now }
     requires path { path.old.items ≡ [] }
     requires walked { IsWalked graph.now marks.old [] order.old.items }
-    ensures walked { IfOk result (λ on. MatchBool on (IsWalked graph.now marks.new [] order.new.items) (LeadsBack graph.now)) }
+    ensures walked { IfOk result
+        (λ on. MatchBool on (IsWalked graph.now marks.new [] order.new.items)
+        (LeadsBack graph.now)) }
     ensures path { IfOk result (λ on. MatchBool on (path.new.items ≡ []) (LeadsBack graph.now)) }
-    ensures met { IfOk result (λ on. MatchBool on (is_unseen (mark_at marks.new place) ≡ false) (LeadsBack graph.now)) }
+    ensures met { IfOk result
+        (λ on. MatchBool on (is_unseen (mark_at marks.new place) ≡ false) (LeadsBack graph.now)) }
     ensures seen { OnOk result (StaysSeen marks.old marks.new) }
 {
     if marks[place] != Mark::Unseen {
@@ -145,7 +156,9 @@ pub(crate) fn order_of(
     graph: &[Listed<usize>],
 ) -> Result<Option<Vec<usize>>, AllocError>
     requires { IsGraph graph.now }
-    ensures { IfOk result (λ found. MatchOption found (LeadsBack graph.now) (λ order. IsOrder graph.now order.items)) }
+    ensures { IfOk result
+        (λ found. MatchOption found (LeadsBack graph.now)
+        (λ order. IsOrder graph.now order.items)) }
 {
     let mut marks = vec![in alloc; Mark::Unseen; graph.len()]?;
     let mut path = Vec::new(alloc);

@@ -72,7 +72,8 @@ fn checked_book(alloc: Global, tables: PolicyTables) -> Result<Book, PolicyFault
 fn checked_tokens(alloc: Global, book: &Book) -> Result<NameIndex, PolicyFault>
     requires texts { text_fault book.now ≡ None }
     requires no_cycle { HasNoCycle book.now }
-    ensures ok { IfOk result (λ tokens. IsSound book.now × IsIndexOf tokens (map (λ u. u.token) book.now.users)) }
+    ensures ok { IfOk result
+        (λ tokens. IsSound book.now × IsIndexOf tokens (map (λ u. u.token) book.now.users)) }
     ensures err { IfErr result (λ f. f ≢ PolicyFault.Memory → IsTablesFault book.now f) }
 {
     check_tokens(alloc, book.tables())
@@ -97,10 +98,11 @@ fn policy_of(alloc: Global, tables: PolicyTables) -> Result<Policy, PolicyFault>
 impl Policy {
     /// Reads a configuration.
     ///
-    /// The first fault is answered: `TooMany` for more than 4 MiB, which is looked at before the text is read, `NotToml`,
-    /// `BadShape`, `TooMany` for more than 65,536 entries over the four tables and all bindings, `BadName`, `UnknownRole`,
-    /// `UnknownRealm`, `UnknownPrincipal`, `RealmCycle`, `TwoOwners`. Of several of one kind it is the one with the least path, or
-    /// the least name or token, in byte order.
+    /// The first fault is answered: `TooMany` for more than 4 MiB, which is looked at before the
+    /// text is read, `NotToml`, `BadShape`, `TooMany` for more than 65,536 entries over the four
+    /// tables and all bindings, `BadName`, `UnknownRole`, `UnknownRealm`, `UnknownPrincipal`,
+    /// `RealmCycle`, `TwoOwners`. Of several of one kind it is the one with the least path, or the
+    /// least name or token, in byte order.
     pub fn from_toml(alloc: Global, text: &[u8]) -> Result<Policy, PolicyFault>
         ensures ok { IfOk result (IsPolicyOf text.now) }
         ensures err { IfErr result (λ f. f ≢ PolicyFault.Memory → IsFirstFault text.now f) }
@@ -138,9 +140,9 @@ impl Policy {
         self.secret.as_slice()
     }
 
-    /// Whether the caller has the permission in the realm: some realm that is this one, or that it reaches by `extends`, or that is
-    /// its project's `@root`, or that this one reaches, binds a role which holds the permission to the caller, or to a group that the
-    /// caller is in.
+    /// Whether the caller has the permission in the realm: some realm that is this one, or that it
+    /// reaches by `extends`, or that is its project's `@root`, or that this one reaches, binds a
+    /// role which holds the permission to the caller, or to a group that the caller is in.
     pub fn allows(&self, caller: CallerId, permission: Permission, realm: &Realm) -> bool
         requires { caller < length self.now.users }
         ensures { IsTrue result ↔ Allows self.now caller permission realm.now }

@@ -26,7 +26,9 @@ fn checked_order(
 ) -> Result<Vec<usize>, PolicyFault>
     requires { graph.now ≡ graph_of book.now }
     ensures ok { IfOk result (λ order. HasNoCycle book.now × IsOrder graph.now order.items) }
-    ensures err { IfErr result (λ f. f ≢ PolicyFault.Memory → (name : List ℕ) × IsLeastCycle book.now name × (f ≡ PolicyFault.RealmCycle name)) }
+    ensures err { IfErr result
+        (λ f. f ≢ PolicyFault.Memory
+        → (name : List ℕ) × IsLeastCycle book.now name × (f ≡ PolicyFault.RealmCycle name)) }
 {
     match order_of(alloc, graph)? {
         Some(order) => Ok(order),
@@ -36,7 +38,8 @@ fn checked_order(
 
 /// What each realm's own bindings grant, by the realms' places.
 fn own_grants(alloc: Global, book: &Book) -> Result<Vec<Grants>, AllocError>
-    ensures { IfOk result (λ grants. AreGrants book.now book.now.realms (length book.now.realms) grants.items) }
+    ensures { IfOk result
+        (λ grants. AreGrants book.now book.now.realms (length book.now.realms) grants.items) }
 {
     let tables = book.tables();
     let masks = role_masks(alloc, tables.roles.as_slice())?;
@@ -45,7 +48,8 @@ fn own_grants(alloc: Global, book: &Book) -> Result<Vec<Grants>, AllocError>
 
 /// The members of the groups, by the groups' places.
 fn own_members(alloc: Global, book: &Book) -> Result<Vec<Members>, AllocError>
-    ensures { IfOk result (λ members. AreMembers book.now book.now.groups (length book.now.groups) members.items) }
+    ensures { IfOk result
+        (λ members. AreMembers book.now book.now.groups (length book.now.groups) members.items) }
 {
     let tables = book.tables();
     all_members(alloc, book, tables.groups.as_slice())

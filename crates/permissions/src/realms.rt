@@ -12,7 +12,9 @@ use std::alloc::{AllocError, Global};
 
 /// Appends the place of a realm, where it is there.
 fn push_place(book: &Book, name: &[u8], places: &mut Vec<usize>) -> Result<(), AllocError>
-    ensures { OnOk result (places.new.items ≡ places.old.items ++ with_entry (place_of name.now (realm_names book.now)) []) }
+    ensures { OnOk result
+        (places.new.items ≡ places.old.items
+        ++ with_entry (place_of name.now (realm_names book.now)) []) }
 {
     match book.realm(name) {
         Some(place) => {

@@ -1,7 +1,8 @@
 //! Who is bound in a realm, or in one that it reaches.
 //!
-//! A chain of tens of thousands of realms, each with bindings of its own, has rows of permissions that no memory holds. So each realm
-//! keeps its own grants alone, and an ask goes over the realms in an order that puts each behind those that it extends.
+//! A chain of tens of thousands of realms, each with bindings of its own, has rows of permissions
+//! that no memory holds. So each realm keeps its own grants alone, and an ask goes over the realms
+//! in an order that puts each behind those that it extends.
 ghost use Rattle.std.specs.Prelude.{◌≡◌, ◌<◌, ◌≤◌, ◌↔◌, ◌==◌, ◌||◌, ℕ, true, false, length, unwrap_or};
 ghost use Rattle.std.specs.List.{list_any};
 ghost use Rattle.std.specs.Ordering.{nat_cmp};
@@ -18,8 +19,8 @@ use policy_checks::{Book, Permission};
 use policy_tables::Listed;
 use std::marker::Model;
 
-/// The tables, and what they grant: by their places the realms that each extends, an order of all realms in which each stands behind
-/// those, the grants of each, and the members of the groups.
+/// The tables, and what they grant: by their places the realms that each extends, an order of all
+/// realms in which each stands behind those, the grants of each, and the members of the groups.
 #[derive(Drop)]
 pub(crate) struct Rights {
     pub(crate) book: Book,
@@ -37,7 +38,8 @@ impl Model for Rights {
 
     ghost view = { λ r. r.book };
 
-    ghost invariant = { λ r. AreRights r.book r.graph.items r.order.items r.grants.items r.members.items };
+    ghost invariant = { λ r.
+        AreRights r.book r.graph.items r.order.items r.grants.items r.members.items };
 }
 
 /// What is asked: whether a user has a permission.
@@ -64,7 +66,8 @@ fn no_marks<const N: usize>() -> [bool; N]
 /// Marks places.
 fn mark_all(marks: &mut [bool], places: &[usize])
     ensures len { length marks.new ≡ length marks.old }
-    ensures marks { (q : ℕ) → q < length marks.old → is_marked marks.new q ≡ (is_marked marks.old q || has q places.now) }
+    ensures marks { (q : ℕ) → q < length marks.old
+        → is_marked marks.new q ≡ (is_marked marks.old q || has q places.now) }
 {
     for place in places {
         if *place < marks.len() {
@@ -105,8 +108,8 @@ impl Rights {
         }
     }
 
-    /// Whether a place, or one that it reaches, gives what is asked: each marked place of the order is looked at, and marks those
-    /// that it leads to, which stand before it.
+    /// Whether a place, or one that it reaches, gives what is asked: each marked place of the order
+    /// is looked at, and marks those that it leads to, which stand before it.
     fn walk(&self, marks: &mut [bool], start: usize, ask: Ask) -> bool
         requires count { length self.now.realms ≤ length marks.old }
         requires marks { (q : ℕ) → is_marked marks.old q ≡ (start == q) }

@@ -15,7 +15,8 @@ use std::alloc::{AllocError, Global};
 
 /// The bits with that of the permission of a text.
 fn with_text(mask: u16, text: &[u8]) -> u16
-    ensures { (p : PermissionOf) → has_bit result p ≡ (has_bit mask p || is_permission p (permission_of text.now)) }
+    ensures { (p : PermissionOf)
+        → has_bit result p ≡ (has_bit mask p || is_permission p (permission_of text.now)) }
 {
     match Permission::from_text(text) {
         Some(permission) => mask | bit_of(permission),
@@ -25,7 +26,8 @@ fn with_text(mask: u16, text: &[u8]) -> u16
 
 /// The bits of the permissions of texts.
 fn mask_of(texts: &[Bytes]) -> u16
-    ensures { (p : PermissionOf) → has_bit result p ≡ list_any (λ x. is_permission p (permission_of x)) texts.now }
+    ensures { (p : PermissionOf)
+        → has_bit result p ≡ list_any (λ x. is_permission p (permission_of x)) texts.now }
 {
     let mut mask = 0;
     for text in texts {
@@ -34,7 +36,8 @@ fn mask_of(texts: &[Bytes]) -> u16
     mask
 }
 
-/// The bits of the permissions that each role holds, read once, since many bindings may name a role.
+/// The bits of the permissions that each role holds, read once, since many bindings may name a
+/// role.
 pub(crate) fn role_masks(alloc: Global, roles: &[Role]) -> Result<Vec<u16>, AllocError>
     ensures { IfOk result (λ masks. AreMasksBefore roles.now (length roles.now) masks.items) }
 {

@@ -19,7 +19,8 @@ use toml::Table;
 /// Refuses a text of more than 4 MiB.
 pub(crate) fn check_size(text: &[u8]) -> Result<(), PolicyFault>
     ensures ok { OnOk result (length text.now ≤ most_bytes) }
-    ensures err { IfErr result (λ f. (most_bytes < length text.now) × (f ≡ PolicyFault.TooMany (length text.now))) }
+    ensures err { IfErr result
+        (λ f. (most_bytes < length text.now) × (f ≡ PolicyFault.TooMany (length text.now))) }
 {
     if text.len() > 4_194_304 {
         return Err(PolicyFault::TooMany { count: text.len() });
@@ -30,7 +31,9 @@ pub(crate) fn check_size(text: &[u8]) -> Result<(), PolicyFault>
 /// Reads a text as TOML.
 pub(crate) fn read_toml(alloc: Global, text: &[u8]) -> Result<Table, PolicyFault>
     ensures ok { IfOk result (λ t. IsToml text.now (table_view t)) }
-    ensures err { IfErr result (λ f. f ≢ PolicyFault.Memory → (f ≡ PolicyFault.NotToml) × ((t : Members) → ¬ IsToml text.now t)) }
+    ensures err { IfErr result
+        (λ f. f ≢ PolicyFault.Memory
+        → (f ≡ PolicyFault.NotToml) × ((t : Members) → ¬ IsToml text.now t)) }
 {
     match toml::table_from_slice(alloc, text) {
         Ok(table) => Ok(table),
@@ -121,7 +124,8 @@ pub(crate) fn check_texts(alloc: Global, book: &Book) -> Result<(), PolicyFault>
 pub(crate) fn cycle_fault(alloc: Global, book: &Book, graph: &[Listed<usize>]) -> PolicyFault
     requires graph { graph.now ≡ graph_of book.now }
     requires back { LeadsBack graph.now }
-    ensures { result ≢ PolicyFault.Memory → (name : List ℕ) × IsLeastCycle book.now name × (result ≡ PolicyFault.RealmCycle name) }
+    ensures { result ≢ PolicyFault.Memory
+        → (name : List ℕ) × IsLeastCycle book.now name × (result ≡ PolicyFault.RealmCycle name) }
 {
     match first_cycle(alloc, book, graph) {
         Ok(Some(name)) => PolicyFault::RealmCycle { name },

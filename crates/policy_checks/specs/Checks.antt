@@ -27,7 +27,8 @@ abbrev pub realm_names : PolicyTables → List (List ℕ)
 realm_names t = map (λ r. r.name) t.realms
 
 -- the indexes have the places of the names in the tables
-pub record IsIndexed (users groups roles realms : List (List ℕ × ℕ)) (t : PolicyTables) : Type 0 where
+pub record IsIndexed (users groups roles realms : List (List ℕ × ℕ))
+    (t : PolicyTables) : Type 0 where
   pub users_are : IsIndexOf users (user_names t)
   pub groups_are : IsIndexOf groups (group_names t)
   pub roles_are : IsIndexOf roles (role_names t)
@@ -86,7 +87,8 @@ has_form Principal text = true
 
 -- what stands behind a front
 abbrev pub behind : List ℕ → List ℕ → Option (List ℕ)
-behind front text = if bytes_eq (take (length front) text) front then Some (drop (length front) text) else None
+behind front text =
+    if bytes_eq (take (length front) text) front then Some (drop (length front) text) else None
 
 -- `user:` and a user, or `group:` and a group
 abbrev pub is_one_of : Option (List ℕ) → List (List ℕ) → Bool → Bool
@@ -95,7 +97,8 @@ is_one_of (Some name) names otherwise = is_there name names
 
 abbrev pub is_principal : PolicyTables → List ℕ → Bool
 is_principal t text =
-    is_one_of (behind (codes "user:") text) (user_names t) (is_one_of (behind (codes "group:") text) (group_names t) false)
+    is_one_of (behind (codes "user:") text) (user_names t)
+    (is_one_of (behind (codes "group:") text) (group_names t) false)
 
 -- whether a text of a kind isn't what the check asks for
 abbrev pub is_faulty : PolicyTables → Check → TextKind → List ℕ → Bool

@@ -8,4 +8,5 @@ use Rattle.policy_checks.specs.Checks.{is_there}
 -- each token that a user before has too, where users before have these
 abbrev pub repeated : List (List ℕ) → List User → List Finding
 repeated seen [] = []
-repeated seen (u ∷ us) = (if is_there u.token seen then at u.token ∷ [] else []) ++ repeated (seen ++ u.token ∷ []) us
+repeated seen (u ∷ us) =
+    (if is_there u.token seen then at u.token ∷ [] else []) ++ repeated (seen ++ u.token ∷ []) us

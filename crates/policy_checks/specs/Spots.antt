@@ -25,7 +25,8 @@ spot kind path text = record { kind = kind; found = record { path = path; text =
 -- the texts of a list, from this place on
 abbrev pub text_spots : TextKind → List ℕ → ℕ → List (List ℕ) → List Spot
 text_spots kind path n [] = []
-text_spots kind path n (x ∷ xs) = spot kind (joined path (decimal n)) x ∷ text_spots kind path (n + 1) xs
+text_spots kind path n (x ∷ xs) =
+    spot kind (joined path (decimal n)) x ∷ text_spots kind path (n + 1) xs
 
 -- the texts of each of these, from this place on
 abbrev pub spots_of : {A : Type 0} → (List ℕ → ℕ → A → List Spot) → List ℕ → ℕ → List A → List Spot
@@ -33,18 +34,25 @@ spots_of spots path n [] = []
 spots_of spots path n (x ∷ xs) = spots path n x ++ spots_of spots path (n + 1) xs
 
 abbrev pub user_spots : List ℕ → ℕ → User → List Spot
-user_spots path n u = spot kind.UserName (joined path u.name) u.name ∷ spot kind.Token (joined (joined path u.name) (codes "token")) u.token ∷ []
+user_spots path n u =
+    spot kind.UserName (joined path u.name) u.name
+    ∷ spot kind.Token (joined (joined path u.name) (codes "token")) u.token ∷ []
 
 abbrev pub group_spots : List ℕ → ℕ → Group → List Spot
-group_spots path n g = spot kind.GroupName (joined path g.name) g.name ∷ text_spots kind.Member (joined (joined path g.name) (codes "members")) 0 g.members
+group_spots path n g =
+    spot kind.GroupName (joined path g.name) g.name
+    ∷ text_spots kind.Member (joined (joined path g.name) (codes "members")) 0 g.members
 
 abbrev pub role_spots : List ℕ → ℕ → Role → List Spot
-role_spots path n r = spot kind.RoleName (joined path r.name) r.name ∷ text_spots kind.Permission (joined (joined path r.name) (codes "permissions")) 0 r.permissions
+role_spots path n r =
+    spot kind.RoleName (joined path r.name) r.name
+    ∷ text_spots kind.Permission (joined (joined path r.name) (codes "permissions")) 0 r.permissions
 
 abbrev pub binding_spots : List ℕ → ℕ → Binding → List Spot
 binding_spots path n b =
     spot kind.BoundRole (joined (joined path (decimal n)) (codes "role")) b.role
-    ∷ text_spots kind.Principal (joined (joined path (decimal n)) (codes "principals")) 0 b.principals
+    ∷ text_spots kind.Principal
+    (joined (joined path (decimal n)) (codes "principals")) 0 b.principals
 
 abbrev pub realm_spots : List ℕ → ℕ → RealmTable → List Spot
 realm_spots path n r =
@@ -64,11 +72,14 @@ all_spots t =
 -- each text that isn't what the check asks for
 abbrev pub failing : PolicyTables → Check → List Spot → List Finding
 failing t check [] = []
-failing t check (s ∷ ss) = if is_faulty t check s.kind s.found.text then s.found ∷ failing t check ss else failing t check ss
+failing t check (s ∷ ss) =
+    if is_faulty t check s.kind s.found.text then s.found ∷ failing t check ss
+    else failing t check ss
 
 -- the least finding with that of this text too, if it isn't what the check asks for
 abbrev pub with_spot : PolicyTables → Check → Option Finding → Spot → Option Finding
-with_spot t check least s = if is_faulty t check s.kind s.found.text then lesser least s.found else least
+with_spot t check least s =
+    if is_faulty t check s.kind s.found.text then lesser least s.found else least
 
 abbrev pub with_spots : PolicyTables → Check → Option Finding → List Spot → Option Finding
 with_spots t check least spots = fold (with_spot t check) least spots

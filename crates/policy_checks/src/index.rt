@@ -47,7 +47,9 @@ impl NameIndex {
 
     /// Adds a name that isn't there.
     fn insert(&mut self, alloc: Global, name: &[u8], place: usize) -> Result<(), AllocError>
-        ensures { (names : List (List ℕ)) → IsIndexOf self.old names → place_of name.now names ≡ None → place ≡ length names → OnOk result (IsIndexOf self.new (names ++ name.now ∷ [])) }
+        ensures { (names : List (List ℕ)) → IsIndexOf self.old names
+            → place_of name.now names ≡ None → place ≡ length names
+            → OnOk result (IsIndexOf self.new (names ++ name.now ∷ [])) }
     {
         let key = Vec::from_slice(alloc, name)?;
         self.places.insert(key, place)?;
@@ -56,7 +58,8 @@ impl NameIndex {
 
     /// Adds the name that comes next in the list.
     pub(crate) fn add(&mut self, alloc: Global, name: &[u8], place: usize) -> Result<(), AllocError>
-        ensures { (names : List (List ℕ)) → IsIndexOf self.old names → place ≡ length names → OnOk result (IsIndexOf self.new (names ++ name.now ∷ [])) }
+        ensures { (names : List (List ℕ)) → IsIndexOf self.old names → place ≡ length names
+            → OnOk result (IsIndexOf self.new (names ++ name.now ∷ [])) }
     {
         match self.find(name) {
             Some(_) => Ok(()),

@@ -13,7 +13,8 @@ use std::alloc::AllocError;
 fn note_if(notes: &mut Notes, there: bool, token: &[u8]) -> Result<(), AllocError>
     requires { notes.old.path ≡ [] }
     ensures path { OnOk result (notes.new.path ≡ []) }
-    ensures least { OnOk result (notes.new.least ≡ least_with notes.old.least (if there then at token.now ∷ [] else [])) }
+    ensures least { OnOk result
+        (notes.new.least ≡ least_with notes.old.least (if there then at token.now ∷ [] else [])) }
 {
     if there {
         return notes.note_key(token);
@@ -30,8 +31,11 @@ fn add_token(
 ) -> Result<(), AllocError>
     requires { notes.old.path ≡ [] }
     ensures path { OnOk result (notes.new.path ≡ []) }
-    ensures index { (seen : List (List ℕ)) → IsIndexOf index.old seen → place ≡ length seen → OnOk result (IsIndexOf index.new (seen ++ token.now ∷ [])) }
-    ensures least { (seen : List (List ℕ)) → IsIndexOf index.old seen → OnOk result (notes.new.least ≡ least_with notes.old.least (if is_there token.now seen then at token.now ∷ [] else [])) }
+    ensures index { (seen : List (List ℕ)) → IsIndexOf index.old seen → place ≡ length seen
+        → OnOk result (IsIndexOf index.new (seen ++ token.now ∷ [])) }
+    ensures least { (seen : List (List ℕ)) → IsIndexOf index.old seen
+        → OnOk result (notes.new.least
+        ≡ least_with notes.old.least (if is_there token.now seen then at token.now ∷ [] else [])) }
 {
     let there = index.find(token).is_some();
     note_if(notes, there, token)?;
@@ -42,7 +46,8 @@ fn add_token(
 pub fn index_tokens(notes: &mut Notes, users: &[User]) -> Result<NameIndex, AllocError>
     requires { notes.old.path ≡ [] }
     ensures index { IfOk result (λ index. IsIndexOf index (map (λ u. u.token) users.now)) }
-    ensures least { OnOk result (notes.new.least ≡ least_with notes.old.least (repeated [] users.now)) }
+    ensures least { OnOk result
+        (notes.new.least ≡ least_with notes.old.least (repeated [] users.now)) }
 {
     let mut index = NameIndex::new(notes.alloc());
     for (place, user) in users.iter().enumerate() {

@@ -23,7 +23,9 @@ struct Checker<'b> {
 /// Checks the text that stands at the path.
 fn look(checker: &Checker, notes: &mut Notes, kind: TextKind, text: &[u8]) -> Result<(), AllocError>
     ensures path { OnOk result (notes.new.path ≡ notes.old.path) }
-    ensures least { OnOk result (notes.new.least ≡ with_spots checker.now.book.now checker.now.check notes.old.least (spot kind notes.old.path text.now ∷ [])) }
+    ensures least { OnOk result
+        (notes.new.least ≡ with_spots checker.now.book.now checker.now.check notes.old.least
+        (spot kind notes.old.path text.now ∷ [])) }
 {
     if fails(notes.alloc(), checker.book, checker.check, kind, text)? {
         return notes.note(text);
@@ -40,7 +42,9 @@ fn look_at_key(
     text: &[u8],
 ) -> Result<(), AllocError>
     ensures path { OnOk result (notes.new.path ≡ notes.old.path) }
-    ensures least { OnOk result (notes.new.least ≡ with_spots checker.now.book.now checker.now.check notes.old.least (spot kind (joined notes.old.path key.now) text.now ∷ [])) }
+    ensures least { OnOk result
+        (notes.new.least ≡ with_spots checker.now.book.now checker.now.check notes.old.least
+        (spot kind (joined notes.old.path key.now) text.now ∷ [])) }
 {
     let len = notes.enter_key(key)?;
     look(checker, notes, kind, text)?;
@@ -57,7 +61,9 @@ fn look_at_place(
     text: &[u8],
 ) -> Result<(), AllocError>
     ensures path { OnOk result (notes.new.path ≡ notes.old.path) }
-    ensures least { OnOk result (notes.new.least ≡ with_spots checker.now.book.now checker.now.check notes.old.least (spot kind (joined notes.old.path (decimal place)) text.now ∷ [])) }
+    ensures least { OnOk result
+        (notes.new.least ≡ with_spots checker.now.book.now checker.now.check notes.old.least
+        (spot kind (joined notes.old.path (decimal place)) text.now ∷ [])) }
 {
     if fails(notes.alloc(), checker.book, checker.check, kind, text)? {
         let len = notes.enter_place(place)?;
@@ -75,7 +81,9 @@ fn look_at_items(
     texts: &[Bytes],
 ) -> Result<(), AllocError>
     ensures path { OnOk result (notes.new.path ≡ notes.old.path) }
-    ensures least { OnOk result (notes.new.least ≡ with_spots checker.now.book.now checker.now.check notes.old.least (text_spots kind notes.old.path 0 texts.now)) }
+    ensures least { OnOk result
+        (notes.new.least ≡ with_spots checker.now.book.now checker.now.check notes.old.least
+        (text_spots kind notes.old.path 0 texts.now)) }
 {
     for (place, text) in texts.iter().enumerate() {
         look_at_place(checker, notes, place, kind, text.as_slice())?;
@@ -92,7 +100,9 @@ fn look_at_texts(
     texts: &[Bytes],
 ) -> Result<(), AllocError>
     ensures path { OnOk result (notes.new.path ≡ notes.old.path) }
-    ensures least { OnOk result (notes.new.least ≡ with_spots checker.now.book.now checker.now.check notes.old.least (text_spots kind (joined notes.old.path key.now) 0 texts.now)) }
+    ensures least { OnOk result
+        (notes.new.least ≡ with_spots checker.now.book.now checker.now.check notes.old.least
+        (text_spots kind (joined notes.old.path key.now) 0 texts.now)) }
 {
     let len = notes.enter_key(key)?;
     look_at_items(checker, notes, kind, texts)?;
@@ -108,7 +118,9 @@ trait Texts {
     /// Checks each of them.
     fn look(&self, checker: &Checker, notes: &mut Notes, place: usize) -> Result<(), AllocError>
         ensures path { OnOk result (notes.new.path ≡ notes.old.path) }
-        ensures least { OnOk result (notes.new.least ≡ with_spots checker.now.book.now checker.now.check notes.old.least (spots notes.old.path place self.now)) };
+        ensures least { OnOk result
+            (notes.new.least ≡ with_spots checker.now.book.now checker.now.check notes.old.least
+            (spots notes.old.path place self.now)) };
 }
 
 /// Checks the texts of each row of the list or table at the path.
@@ -118,7 +130,9 @@ fn look_at_rows<T: Texts>(
     rows: &[T],
 ) -> Result<(), AllocError>
     ensures path { OnOk result (notes.new.path ≡ notes.old.path) }
-    ensures least { OnOk result (notes.new.least ≡ with_spots checker.now.book.now checker.now.check notes.old.least (spots_of T.spots notes.old.path 0 rows.now)) }
+    ensures least { OnOk result
+        (notes.new.least ≡ with_spots checker.now.book.now checker.now.check notes.old.least
+        (spots_of T.spots notes.old.path 0 rows.now)) }
 {
     for (place, row) in rows.iter().enumerate() {
         row.look(checker, notes, place)?;
@@ -134,7 +148,9 @@ fn look_at_all<T: Texts>(
     rows: &[T],
 ) -> Result<(), AllocError>
     ensures path { OnOk result (notes.new.path ≡ notes.old.path) }
-    ensures least { OnOk result (notes.new.least ≡ with_spots checker.now.book.now checker.now.check notes.old.least (spots_of T.spots (joined notes.old.path key.now) 0 rows.now)) }
+    ensures least { OnOk result
+        (notes.new.least ≡ with_spots checker.now.book.now checker.now.check notes.old.least
+        (spots_of T.spots (joined notes.old.path key.now) 0 rows.now)) }
 {
     let len = notes.enter_key(key)?;
     look_at_rows(checker, notes, rows)?;
@@ -238,7 +254,9 @@ impl Texts for RealmTable {
 /// Checks each text of the tables.
 fn look_at_tables(checker: &Checker, notes: &mut Notes) -> Result<(), AllocError>
     requires { notes.old.path ≡ [] }
-    ensures { OnOk result (notes.new.least ≡ with_spots checker.now.book.now checker.now.check notes.old.least (all_spots checker.now.book.now)) }
+    ensures { OnOk result
+        (notes.new.least ≡ with_spots checker.now.book.now checker.now.check notes.old.least
+        (all_spots checker.now.book.now)) }
 {
     let tables = checker.book.tables();
     let secret = tables.secret.as_slice();
@@ -255,7 +273,8 @@ pub fn first_failing(
     book: &Book,
     check: Check,
 ) -> Result<Option<Finding>, AllocError>
-    ensures { IfOk result (λ least. least ≡ least_of (failing book.now check (all_spots book.now))) }
+    ensures { IfOk result
+        (λ least. least ≡ least_of (failing book.now check (all_spots book.now))) }
 {
     let mut notes = Notes::new(alloc);
     look_at_tables(&Checker { book, check }, &mut notes)?;

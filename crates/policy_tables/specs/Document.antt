@@ -17,7 +17,8 @@ use Rattle.policy_tables.specs.Findings.{joined, at}
 -- the keys that a table may have
 abbrev pub is_known : Shape → List ℕ → Bool
 is_known Document k =
-    bytes_eq k (codes "secret") || bytes_eq k (codes "user") || bytes_eq k (codes "group") || bytes_eq k (codes "role") || bytes_eq k (codes "realm")
+    bytes_eq k (codes "secret") || bytes_eq k (codes "user") || bytes_eq k (codes "group")
+    || bytes_eq k (codes "role") || bytes_eq k (codes "realm")
 is_known User k = bytes_eq k (codes "token")
 is_known Group k = bytes_eq k (codes "members")
 is_known Role k = bytes_eq k (codes "permissions")
@@ -28,7 +29,8 @@ is_known Binding k = bytes_eq k (codes "role") || bytes_eq k (codes "principals"
 abbrev pub unknown_keys : Shape → List ℕ → Members → List Finding
 unknown_keys shape path no_members = []
 unknown_keys shape path (member k d ms) =
-    if is_known shape k then unknown_keys shape path ms else at (joined path k) ∷ unknown_keys shape path ms
+    if is_known shape k then unknown_keys shape path ms
+    else at (joined path k) ∷ unknown_keys shape path ms
 
 -- the text, the list and the table at a key
 abbrev pub text_at : List ℕ → Members → Option (List ℕ)
@@ -57,7 +59,8 @@ item_texts (item d ds) = unwrap_or (as_str d) [] ∷ item_texts ds
 -- the places of a list, from this one on, that hold no text
 abbrev pub item_findings : List ℕ → ℕ → Items → List Finding
 item_findings path n no_items = []
-item_findings path n (item d ds) = missing (joined path (decimal n)) (as_str d) ++ item_findings path (n + 1) ds
+item_findings path n (item d ds) =
+    missing (joined path (decimal n)) (as_str d) ++ item_findings path (n + 1) ds
 
 -- the texts of a list, of none where there is no list
 abbrev pub texts_in : Option Items → List (List ℕ)
@@ -85,10 +88,12 @@ optional_list_findings path d None = wrong_kind path d
 optional_list_findings path d (Some ds) = item_findings path 0 ds
 
 abbrev pub optional_texts_findings : List ℕ → List ℕ → Members → List Finding
-optional_texts_findings path k t = optional_list_findings (joined path k) (get_member k t) (list_at k t)
+optional_texts_findings path k t =
+    optional_list_findings (joined path k) (get_member k t) (list_at k t)
 
 -- what is wrong with a table at a path, or that there is none
-abbrev pub table_findings : (List ℕ → Members → List Finding) → List ℕ → Option Members → List Finding
+abbrev pub table_findings : (List ℕ → Members → List Finding) → List ℕ → Option Members
+    → List Finding
 table_findings findings path None = at path ∷ []
 table_findings findings path (Some t) = findings path t
 
@@ -100,18 +105,21 @@ with_entry (Some e) es = e ∷ es
 -- the entries of a table of tables, each by its key and its table
 abbrev pub entries_of : {A : Type 0} → (List ℕ → Members → A) → Members → List A
 entries_of entry no_members = []
-entries_of entry (member k d ms) = with_entry (option_map (entry k) (as_table d)) (entries_of entry ms)
+entries_of entry (member k d ms) =
+    with_entry (option_map (entry k) (as_table d)) (entries_of entry ms)
 
 abbrev pub entries_findings : (List ℕ → Members → List Finding) → List ℕ → Members → List Finding
 entries_findings findings path no_members = []
-entries_findings findings path (member k d ms) = table_findings findings (joined path k) (as_table d) ++ entries_findings findings path ms
+entries_findings findings path (member k d ms) =
+    table_findings findings (joined path k) (as_table d) ++ entries_findings findings path ms
 
 -- the entries at a key of the document, of none where there is no table
 abbrev pub section_in : {A : Type 0} → (List ℕ → Members → A) → Option Members → List A
 section_in entry None = []
 section_in entry (Some ms) = entries_of entry ms
 
-abbrev pub section_in_findings : (List ℕ → Members → List Finding) → List ℕ → Option Data → Option Members → List Finding
+abbrev pub section_in_findings : (List ℕ → Members → List Finding) → List ℕ → Option Data
+    → Option Members → List Finding
 section_in_findings findings path d None = wrong_kind path d
 section_in_findings findings path d (Some ms) = entries_findings findings path ms
 
@@ -147,10 +155,13 @@ role_findings path t = unknown_keys Role path t ++ texts_findings path (codes "p
 
 -- a binding has a role and principals
 abbrev pub binding_of : List ℕ → Members → BindingEntry
-binding_of k t = record { role = text_of (codes "role") t; principals = texts_of (codes "principals") t }
+binding_of k t =
+    record { role = text_of (codes "role") t; principals = texts_of (codes "principals") t }
 
 abbrev pub binding_findings : List ℕ → Members → List Finding
-binding_findings path t = unknown_keys Binding path t ++ (text_findings path (codes "role") t ++ texts_findings path (codes "principals") t)
+binding_findings path t =
+    unknown_keys Binding path t
+    ++ (text_findings path (codes "role") t ++ texts_findings path (codes "principals") t)
 
 -- the bindings in a list of tables
 abbrev pub item_bindings : Items → List BindingEntry
@@ -160,7 +171,8 @@ item_bindings (item d ds) = with_entry (option_map (binding_of []) (as_table d))
 abbrev pub item_bindings_findings : List ℕ → ℕ → Items → List Finding
 item_bindings_findings path n no_items = []
 item_bindings_findings path n (item d ds) =
-    table_findings binding_findings (joined path (decimal n)) (as_table d) ++ item_bindings_findings path (n + 1) ds
+    table_findings binding_findings (joined path (decimal n)) (as_table d)
+    ++ item_bindings_findings path (n + 1) ds
 
 abbrev pub bindings_in : Option Items → List BindingEntry
 bindings_in None = []
@@ -178,11 +190,19 @@ bindings_findings path k t = bindings_in_findings (joined path k) (get_member k 
 
 -- a realm may extend realms, and may have bindings
 abbrev pub realm_of : List ℕ → Members → RealmTable
-realm_of k t = record { name = k; extends = texts_of (codes "extends") t; bindings = bindings_of (codes "bindings") t }
+realm_of k t =
+    record {
+      name = k;
+      extends = texts_of (codes "extends") t;
+      bindings = bindings_of
+          (codes "bindings") t;
+    }
 
 abbrev pub realm_findings : List ℕ → Members → List Finding
 realm_findings path t =
-    unknown_keys Realm path t ++ (optional_texts_findings path (codes "extends") t ++ bindings_findings path (codes "bindings") t)
+    unknown_keys Realm path t
+    ++ (optional_texts_findings path (codes "extends") t
+    ++ bindings_findings path (codes "bindings") t)
 
 -- the tables of a document
 abbrev pub tables_of : Members → PolicyTables

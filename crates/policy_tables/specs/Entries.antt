@@ -7,4 +7,6 @@ abbrev pub capped : ℕ → ℕ
 capped n = min n (2 ^ 64 - 1)
 
 abbrev pub entries : PolicyTables → ℕ
-entries t = capped (length t.users + length t.groups + length t.roles + length t.realms + sum_by (λ r. length r.bindings) t.realms)
+entries t =
+    capped (length t.users + length t.groups + length t.roles + length t.realms
+    + sum_by (λ r. length r.bindings) t.realms)

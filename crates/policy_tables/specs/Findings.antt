@@ -4,7 +4,8 @@ use Rattle.std.specs.Ordering.{nat_cmp, is_lt}
 use Rattle.std.specs.Cmp.Lexicographic.{slice_cmp}
 use Rattle.policy_tables.specs.declared.findings.Finding.{Finding}
 
--- a path, a point, and a key or the decimal place in a list; the whole document stands at the empty path
+-- a path, a point, and a key or the decimal place in a list; the whole document stands at the empty
+-- path
 abbrev pub joined : List ℕ → List ℕ → List ℕ
 joined [] key = key
 joined (b ∷ bs) key = (b ∷ bs) ++ 46 ∷ key

@@ -31,7 +31,9 @@ trait Entry: Drop {
     fn read(notes: &mut Notes, name: &[u8], table: &Table) -> Result<Self, AllocError>
         ensures entry { IfOk result (λ e. e ≡ entry name.now (table_view table.now)) }
         ensures path { OnOk result (notes.new.path ≡ notes.old.path) }
-        ensures least { OnOk result (notes.new.least ≡ least_with notes.old.least (findings notes.old.path (table_view table.now))) };
+        ensures least { OnOk result
+            (notes.new.least ≡ least_with notes.old.least
+            (findings notes.old.path (table_view table.now))) };
 }
 
 impl Entry for User {
@@ -127,9 +129,13 @@ fn push_entry<E: Entry>(
     value: &Value,
     entries: &mut Vec<E>,
 ) -> Result<(), AllocError>
-    ensures entries { OnOk result (entries.new.items ≡ entries.old.items ++ with_entry (option_map (E.entry name.now) (as_table (view value.now))) []) }
+    ensures entries { OnOk result
+        (entries.new.items ≡ entries.old.items
+        ++ with_entry (option_map (E.entry name.now) (as_table (view value.now))) []) }
     ensures path { OnOk result (notes.new.path ≡ notes.old.path) }
-    ensures least { OnOk result (notes.new.least ≡ least_with notes.old.least (table_findings E.findings notes.old.path (as_table (view value.now)))) }
+    ensures least { OnOk result
+        (notes.new.least ≡ least_with notes.old.least
+        (table_findings E.findings notes.old.path (as_table (view value.now)))) }
 {
     match value.as_table() {
         Some(table) => {
@@ -143,9 +149,12 @@ fn push_entry<E: Entry>(
 /// Reads the bindings in a list that stands at a path.
 #[tactic(auto, using(crate::proofs::PathLemmas::front_of_joined))]
 fn read_binding_items(notes: &mut Notes, array: &Array) -> Result<Vec<Binding>, AllocError>
-    ensures bindings { IfOk result (λ bindings. bindings.items ≡ item_bindings (array_view array.now)) }
+    ensures bindings { IfOk result
+        (λ bindings. bindings.items ≡ item_bindings (array_view array.now)) }
     ensures path { OnOk result (notes.new.path ≡ notes.old.path) }
-    ensures least { OnOk result (notes.new.least ≡ least_with notes.old.least (item_bindings_findings notes.old.path 0 (array_view array.now))) }
+    ensures least { OnOk result
+        (notes.new.least ≡ least_with notes.old.least
+        (item_bindings_findings notes.old.path 0 (array_view array.now))) }
 {
     let mut bindings = Vec::new(notes.alloc());
     for (place, value) in array.iter().enumerate() {
@@ -159,9 +168,12 @@ fn read_binding_items(notes: &mut Notes, array: &Array) -> Result<Vec<Binding>, 
 /// Reads the bindings at a key that may be absent. Notes where something else stands.
 #[tactic(auto, using(crate::proofs::PathLemmas::front_of_joined))]
 fn read_bindings(notes: &mut Notes, table: &Table, key: &str) -> Result<Listed<Binding>, AllocError>
-    ensures bindings { IfOk result (λ bindings. bindings ≡ bindings_of key.now (table_view table.now)) }
+    ensures bindings { IfOk result
+        (λ bindings. bindings ≡ bindings_of key.now (table_view table.now)) }
     ensures path { OnOk result (notes.new.path ≡ notes.old.path) }
-    ensures least { OnOk result (notes.new.least ≡ least_with notes.old.least (bindings_findings notes.old.path key.now (table_view table.now))) }
+    ensures least { OnOk result
+        (notes.new.least ≡ least_with notes.old.least
+        (bindings_findings notes.old.path key.now (table_view table.now))) }
 {
     match find_list(table, key) {
         Some(array) => {
@@ -185,9 +197,13 @@ fn read_keyed<E: Entry>(
     value: &Value,
     entries: &mut Vec<E>,
 ) -> Result<(), AllocError>
-    ensures entries { OnOk result (entries.new.items ≡ entries.old.items ++ with_entry (option_map (E.entry key.now) (as_table (view value.now))) []) }
+    ensures entries { OnOk result
+        (entries.new.items ≡ entries.old.items
+        ++ with_entry (option_map (E.entry key.now) (as_table (view value.now))) []) }
     ensures path { OnOk result (notes.new.path ≡ notes.old.path) }
-    ensures least { OnOk result (notes.new.least ≡ least_with notes.old.least (table_findings E.findings (joined notes.old.path key.now) (as_table (view value.now)))) }
+    ensures least { OnOk result
+        (notes.new.least ≡ least_with notes.old.least
+        (table_findings E.findings (joined notes.old.path key.now) (as_table (view value.now)))) }
 {
     let len = notes.enter_key(key)?;
     push_entry(notes, key, value, entries)?;
@@ -197,9 +213,12 @@ fn read_keyed<E: Entry>(
 
 /// Reads the entries of a table of tables that stands at the path.
 fn read_entries<E: Entry>(notes: &mut Notes, table: &Table) -> Result<Vec<E>, AllocError>
-    ensures entries { IfOk result (λ entries. entries.items ≡ entries_of E.entry (table_view table.now)) }
+    ensures entries { IfOk result
+        (λ entries. entries.items ≡ entries_of E.entry (table_view table.now)) }
     ensures path { OnOk result (notes.new.path ≡ notes.old.path) }
-    ensures least { OnOk result (notes.new.least ≡ least_with notes.old.least (entries_findings E.findings notes.old.path (table_view table.now))) }
+    ensures least { OnOk result
+        (notes.new.least ≡ least_with notes.old.least
+        (entries_findings E.findings notes.old.path (table_view table.now))) }
 {
     let mut entries = Vec::new(notes.alloc());
     for (key, value) in table {
@@ -216,9 +235,12 @@ fn read_section<E: Entry>(
     key: &str,
 ) -> Result<Listed<E>, AllocError>
     requires { notes.old.path ≡ [] }
-    ensures entries { IfOk result (λ entries. entries ≡ section_of E.entry key.now (table_view document.now)) }
+    ensures entries { IfOk result
+        (λ entries. entries ≡ section_of E.entry key.now (table_view document.now)) }
     ensures path { OnOk result (notes.new.path ≡ []) }
-    ensures least { OnOk result (notes.new.least ≡ least_with notes.old.least (section_findings E.findings key.now (table_view document.now))) }
+    ensures least { OnOk result
+        (notes.new.least ≡ least_with notes.old.least
+        (section_findings E.findings key.now (table_view document.now))) }
 {
     match find_table(document, key) {
         Some(table) => {
@@ -239,7 +261,8 @@ pub fn read_tables(notes: &mut Notes, document: &Table) -> Result<PolicyTables, 
     requires { notes.old.path ≡ [] }
     ensures tables { IfOk result (λ tables. tables ≡ tables_of (table_view document.now)) }
     ensures path { OnOk result (notes.new.path ≡ []) }
-    ensures least { OnOk result (notes.new.least ≡ least_with notes.old.least (shape_findings (table_view document.now))) }
+    ensures least { OnOk result
+        (notes.new.least ≡ least_with notes.old.least (shape_findings (table_view document.now))) }
 {
     note_unknown(notes, Shape::Document, document)?;
     let secret = read_text(notes, document, "secret")?;

@@ -4,7 +4,8 @@ ghost use Rattle.std.specs.Prelude.{◌≡◌, IfOk};
 use name_parts::Bytes;
 use std::alloc::{AllocError, Global};
 
-/// Something wrong: the path where it stands, and the text that is wrong there. The text may be a token, so nothing prints it.
+/// Something wrong: the path where it stands, and the text that is wrong there. The text may be a
+/// token, so nothing prints it.
 #[derive(Drop)]
 pub struct Finding {
     pub path: Bytes,

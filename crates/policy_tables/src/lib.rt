@@ -1,4 +1,5 @@
-//! The tables of a configuration, read from a TOML document, or the least path at which it isn't of their shape.
+//! The tables of a configuration, read from a TOML document, or the least path at which it isn't of
+//! their shape.
 #![tactic(auto)]
 
 mod entries;

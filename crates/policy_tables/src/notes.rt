@@ -1,7 +1,8 @@
 //! The path that is looked at, and the finding with the least path.
 //!
-//! A path may have millions of bytes, and a million places under it may be wrong. So a path grows and shrinks in place, it is copied
-//! only where it is the least so far, and it is compared from where it first differs from the least one.
+//! A path may have millions of bytes, and a million places under it may be wrong. So a path grows
+//! and shrinks in place, it is copied only where it is the least so far, and it is compared from
+//! where it first differs from the least one.
 ghost use Rattle.std.specs.Prelude.{◌≡◌, ◌∷◌, ◌≤◌, [], IfOk, OnOk, length, take};
 ghost use Rattle.std.specs.Ordering.{nat_cmp, is_lt};
 ghost use Rattle.std.specs.Cmp.Lexicographic.{slice_cmp};
@@ -56,7 +57,8 @@ fn is_less(bytes: &[u8], others: &[u8]) -> bool
     bytes.cmp(others) == Ordering::Less
 }
 
-/// Whether a path comes before another in byte order, where so many bytes at their fronts are the same.
+/// Whether a path comes before another in byte order, where so many bytes at their fronts are the
+/// same.
 fn comes_first(path: &[u8], other: &[u8], shared: usize) -> bool
     requires left { shared ≤ length path.now }
     requires right { shared ≤ length other.now }
@@ -145,7 +147,9 @@ impl Notes {
     /// Notes a text at the path.
     pub fn note(&mut self, text: &[u8]) -> Result<(), AllocError>
         ensures path { self.new.path ≡ self.old.path }
-        ensures least { OnOk result (self.new.least ≡ lesser self.old.least (record { path = self.old.path; text = text.now })) }
+        ensures least { OnOk result
+            (self.new.least ≡ lesser self.old.least
+            (record { path = self.old.path; text = text.now })) }
     {
         if self.goes_first() {
             let path = copied(self.alloc, self.path.as_slice())?;
@@ -160,7 +164,8 @@ impl Notes {
     #[tactic(auto, using(crate::proofs::PathLemmas::front_of_joined))]
     pub fn note_key(&mut self, key: &[u8]) -> Result<(), AllocError>
         ensures path { OnOk result (self.new.path ≡ self.old.path) }
-        ensures least { OnOk result (self.new.least ≡ least_with self.old.least (at (joined self.old.path key.now) ∷ [])) }
+        ensures least { OnOk result
+            (self.new.least ≡ least_with self.old.least (at (joined self.old.path key.now) ∷ [])) }
     {
         let len = self.enter_key(key)?;
         self.note(b"")?;
@@ -172,7 +177,9 @@ impl Notes {
     #[tactic(auto, using(crate::proofs::PathLemmas::front_of_joined))]
     pub fn note_place(&mut self, place: usize) -> Result<(), AllocError>
         ensures path { OnOk result (self.new.path ≡ self.old.path) }
-        ensures least { OnOk result (self.new.least ≡ least_with self.old.least (at (joined self.old.path (decimal place)) ∷ [])) }
+        ensures least { OnOk result
+            (self.new.least ≡ least_with self.old.least
+            (at (joined self.old.path (decimal place)) ∷ [])) }
     {
         let len = self.enter_place(place)?;
         self.note(b"")?;

@@ -66,7 +66,9 @@ fn has_key(table: &Table, key: &str) -> bool
 pub(crate) fn read_text(notes: &mut Notes, table: &Table, key: &str) -> Result<Bytes, AllocError>
     ensures text { IfOk result (λ text. text ≡ text_of key.now (table_view table.now)) }
     ensures path { OnOk result (notes.new.path ≡ notes.old.path) }
-    ensures least { OnOk result (notes.new.least ≡ least_with notes.old.least (text_findings notes.old.path key.now (table_view table.now))) }
+    ensures least { OnOk result
+        (notes.new.least ≡ least_with notes.old.least
+        (text_findings notes.old.path key.now (table_view table.now))) }
 {
     match find_text(table, key) {
         Some(text) => copied(notes.alloc(), text.as_bytes()),
@@ -81,7 +83,9 @@ pub(crate) fn read_text(notes: &mut Notes, table: &Table, key: &str) -> Result<B
 fn read_item(notes: &mut Notes, place: usize, value: &Value) -> Result<Bytes, AllocError>
     ensures text { IfOk result (λ text. text ≡ unwrap_or (as_str (view value.now)) []) }
     ensures path { OnOk result (notes.new.path ≡ notes.old.path) }
-    ensures least { OnOk result (notes.new.least ≡ least_with notes.old.least (missing (joined notes.old.path (decimal place)) (as_str (view value.now)))) }
+    ensures least { OnOk result
+        (notes.new.least ≡ least_with notes.old.least
+        (missing (joined notes.old.path (decimal place)) (as_str (view value.now)))) }
 {
     match value.as_str() {
         Some(text) => copied(notes.alloc(), text.as_bytes()),
@@ -96,7 +100,9 @@ fn read_item(notes: &mut Notes, place: usize, value: &Value) -> Result<Bytes, Al
 fn read_items(notes: &mut Notes, array: &Array) -> Result<Vec<Bytes>, AllocError>
     ensures texts { IfOk result (λ texts. texts.items ≡ item_texts (array_view array.now)) }
     ensures path { OnOk result (notes.new.path ≡ notes.old.path) }
-    ensures least { OnOk result (notes.new.least ≡ least_with notes.old.least (item_findings notes.old.path 0 (array_view array.now))) }
+    ensures least { OnOk result
+        (notes.new.least ≡ least_with notes.old.least
+        (item_findings notes.old.path 0 (array_view array.now))) }
 {
     let mut texts = Vec::new(notes.alloc());
     for (place, value) in array.iter().enumerate() {
@@ -114,7 +120,9 @@ pub(crate) fn read_texts(
 ) -> Result<Listed<Bytes>, AllocError>
     ensures texts { IfOk result (λ texts. texts ≡ texts_of key.now (table_view table.now)) }
     ensures path { OnOk result (notes.new.path ≡ notes.old.path) }
-    ensures least { OnOk result (notes.new.least ≡ least_with notes.old.least (texts_findings notes.old.path key.now (table_view table.now))) }
+    ensures least { OnOk result
+        (notes.new.least ≡ least_with notes.old.least
+        (texts_findings notes.old.path key.now (table_view table.now))) }
 {
     match find_list(table, key) {
         Some(array) => {
@@ -133,7 +141,9 @@ pub(crate) fn read_texts(
 /// Notes what stands at a key, if anything does.
 pub(crate) fn note_if_there(notes: &mut Notes, table: &Table, key: &str) -> Result<(), AllocError>
     ensures path { OnOk result (notes.new.path ≡ notes.old.path) }
-    ensures least { OnOk result (notes.new.least ≡ least_with notes.old.least (wrong_kind (joined notes.old.path key.now) (get_member key.now (table_view table.now)))) }
+    ensures least { OnOk result
+        (notes.new.least ≡ least_with notes.old.least
+        (wrong_kind (joined notes.old.path key.now) (get_member key.now (table_view table.now)))) }
 {
     if has_key(table, key) {
         return notes.note_key(key.as_bytes());
@@ -150,7 +160,9 @@ pub(crate) fn read_texts_if_there(
 ) -> Result<Listed<Bytes>, AllocError>
     ensures texts { IfOk result (λ texts. texts ≡ texts_of key.now (table_view table.now)) }
     ensures path { OnOk result (notes.new.path ≡ notes.old.path) }
-    ensures least { OnOk result (notes.new.least ≡ least_with notes.old.least (optional_texts_findings notes.old.path key.now (table_view table.now))) }
+    ensures least { OnOk result
+        (notes.new.least ≡ least_with notes.old.least
+        (optional_texts_findings notes.old.path key.now (table_view table.now))) }
 {
     match find_list(table, key) {
         Some(array) => {
@@ -187,7 +199,9 @@ fn may_have(shape: Shape, key: &str) -> bool
 /// Notes each key that a table of this kind may not have.
 pub(crate) fn note_unknown(notes: &mut Notes, shape: Shape, table: &Table) -> Result<(), AllocError>
     ensures path { OnOk result (notes.new.path ≡ notes.old.path) }
-    ensures least { OnOk result (notes.new.least ≡ least_with notes.old.least (unknown_keys shape notes.old.path (table_view table.now))) }
+    ensures least { OnOk result
+        (notes.new.least ≡ least_with notes.old.least
+        (unknown_keys shape notes.old.path (table_view table.now))) }
 {
     for (key, _) in table {
         if !may_have(shape, key.as_str()) {

@@ -41,7 +41,8 @@ pub struct RealmTable {
     pub bindings: Listed<Binding>,
 }
 
-/// The tables of a configuration, each in byte order of the names in it, and the secret in hex digits.
+/// The tables of a configuration, each in byte order of the names in it, and the secret in hex
+/// digits.
 #[derive(Drop)]
 pub struct PolicyTables {
     pub secret: Bytes,
