@@ -11,8 +11,8 @@ use Rattle.tap_reader.specs.Entries.{line_of}
 use Rattle.tap_reader.specs.CompletingViews.{empty_state}
 use Rattle.tap_reader.specs.LineForms.{Said, Plan, Point, Bail, Open, Missing, Test, described, digits, ends_plan, ends_word, is_number_len, number_from, numbered_in, plan_in, point_in, said_by, said_in, spaces, unspaced}
 use Rattle.tap_reader.specs.Counted.{Absent, Endless, Found, Line, Whole, counted, found_in, given, passed_over, with_found}
-use Rattle.tap_reader.specs.Completing.{State, closed, closed_above, filled, last_number, last_step, missing_line, missing_lines, number_after, own, put_behind, shut, top_level, with_line}
-use Rattle.tap_reader.specs.Streams.{in_tree, missing_numbers, number_behind, numbered, numbered_said}
+use Rattle.tap_reader.specs.Completing.{State, closed, closed_above, filled, last_number, last_step, missing_line, number_after, own, shut, top_level, with_line}
+use Rattle.tap_reader.specs.Streams.{in_tree, missing_numbers, numbered, numbered_said}
 use Rattle.tap_reader.specs.Bounds.{AllBelow, IsBelow}
 
 AllBelow-append : (b : ℕ) (xs ys : List Line) → AllBelow b xs → AllBelow b ys → AllBelow b (xs ++ ys)

@@ -1,9 +1,9 @@
 -- The cases of the lines that were written of a tree are those of the tree.
-use Rattle.std.proofs.Common.{◌≡◌, ℕ, zero, suc, ◌+◌, ◌-◌, ◌<◌, ◌≤◌, true, List, [], ◌∷◌, ◌++◌, length, map, codes, refl, sym, ap, ◌∙◌, append_assoc, append-nil, arith}
+use Rattle.std.proofs.Common.{◌≡◌, ℕ, zero, suc, ◌≤◌, true, List, [], ◌∷◌, ◌++◌, length, map, codes, refl, sym, ap, ◌∙◌, append_assoc, append-nil, arith}
 use Rattle.std.proofs.lemmas.List.{length-append}
 use Rattle.names_realms.specs.declared.states.Case.{Case}
 use Rattle.tap_reader.specs.Counted.{Line}
-use Rattle.tap_reader.specs.Streams.{Stream, Ends, Unfinished, Goes, IsAt, last_behind, missing_numbers, numbered, numbered_said, own_from}
+use Rattle.tap_reader.specs.Streams.{Stream, Ends, Unfinished, Goes, IsAt, last_behind, missing_numbers, numbered, own_from}
 use Rattle.tap_reader.specs.Cases.{case_said, listed, missing_case, missing_cases, name_for_subtest, report_cases}
 use Rattle.tap_reader.specs.Completing.{missing_line, missing_lines}
 use Rattle.tap_reader.specs.Naming.{named, parents, resized}

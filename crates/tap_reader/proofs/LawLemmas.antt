@@ -1,12 +1,12 @@
 -- Lines have one tree, and a report has one outcome.
-use Rattle.std.proofs.Common.{◌≡◌, ◌≢◌, ℕ, zero, suc, ◌+◌, ◌-◌, ◌<◌, ◌≤◌, List, [], ◌∷◌, ◌++◌, length, refl, sym, ap, ◌∙◌, subst, arith}
-use Rattle.std.specs.Prelude.{Option, Some, None, Result, Ok, Err}
+use Rattle.std.proofs.Common.{◌≡◌, ◌≢◌, ℕ, zero, suc, ◌-◌, ◌<◌, List, [], ◌∷◌, ◌++◌, refl, sym, ap, ◌∙◌, arith}
+use Rattle.std.specs.Prelude.{Option, Some, None, Result, Err}
 use Rattle.names_realms.specs.declared.states.Case.{Case}
 use Rattle.tap_reader.specs.declared.faults.TapFault.{TapFault}
 use Rattle.tap_reader.specs.declared.faults.TapFault.TheVariants.{NoVersion, NotText}
 use Rattle.tap_reader.specs.Counted.{Line}
-use Rattle.tap_reader.specs.Streams.{Stream, Ends, Unfinished, Goes, IsAt, IsTree, lines_of, report_fault}
-use Rattle.tap_reader.specs.Reports.{Reads, ReadsLines, ReadsText, counted_in, judged, text_fault}
+use Rattle.tap_reader.specs.Streams.{Stream, Ends, Unfinished, Goes, IsAt, lines_of, report_fault}
+use Rattle.tap_reader.specs.Reports.{ReadsLines, ReadsText, counted_in, judged, text_fault}
 use Rattle.tap_reader.specs.Laws.{OneOutcome, OneTree, SomeOutcome}
 use Rattle.tap_reader.proofs.StreamLemmas.{Deeper, Deeper-append}
 use Rattle.tap_reader.proofs.OutcomeLemmas.{is_tree, tree_in}

@@ -1,8 +1,8 @@
 -- The first line of a text, and the lines of the rest.
-use Rattle.std.proofs.Common.{◌≡◌, ℕ, zero, suc, ◌+◌, ◌-◌, ◌<◌, ◌≤◌, Bool, true, false, cond, not, List, [], ◌∷◌, ◌++◌, length, take, drop, refl, sym, ap, ◌∙◌, arith}
-use Rattle.std.specs.Prelude.{◌==◌, ◌&&◌, nat_eq}
+use Rattle.std.proofs.Common.{◌≡◌, ℕ, suc, ◌+◌, ◌<◌, Bool, true, false, cond, not, List, [], ◌∷◌, ◌++◌, length, take, drop, refl, ap, ◌∙◌, arith}
+use Rattle.std.specs.Prelude.{◌==◌, ◌&&◌}
 use Rattle.std.specs.List.{prefix_len, position_or_len}
-use Rattle.tap_reader.specs.Lines.{lines, onto_first, at_line_end}
+use Rattle.tap_reader.specs.Lines.{lines, onto_first}
 use Rattle.tap_reader.specs.LineWords.{without_return}
 
 -- how many bytes stand before the first LF, or all

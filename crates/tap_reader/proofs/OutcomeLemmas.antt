@@ -1,16 +1,15 @@
 -- What the lines of a report that count give, by what was written of them.
-use Rattle.std.proofs.Common.{◌≡◌, ◌≢◌, ℕ, zero, suc, ◌+◌, ◌<◌, ◌≤◌, Bool, true, false, cond, not, List, [], ◌∷◌, ◌++◌, length, map, refl, sym, ap, ◌∙◌, append_assoc, append-nil, arith}
-use Rattle.std.specs.Prelude.{◌==◌, ◌||◌, nat_lt, filter, fold, Option, Some, None, option_to_list, is_some, Result, Ok, Err}
+use Rattle.std.proofs.Common.{◌≡◌, ℕ, ◌≤◌, Bool, true, false, cond, not, List, [], ◌∷◌, ◌++◌, map, refl, sym, ap, ◌∙◌, arith}
+use Rattle.std.specs.Prelude.{◌==◌, ◌||◌, nat_lt, filter, fold, Option, Some, None, option_to_list, is_some, Ok, Err}
 use Rattle.std.specs.List.{list_any}
 use Rattle.std.specs.Option.{option_or}
-use Rattle.std.proofs.lemmas.Bool.Decides.{nat_tests}
 use Rattle.names_realms.specs.declared.states.Case.{Case}
 use Rattle.tap_reader.specs.declared.faults.TapFault.{TapFault}
 use Rattle.tap_reader.specs.declared.faults.TapFault.TheVariants.{NoPlan}
 use Rattle.tap_reader.specs.Counted.{Line}
-use Rattle.tap_reader.specs.Streams.{Stream, IsAt, IsTree, earlier, first_alone, first_fault, in_tree, is_bail, lines_of, missing_numbers, own_from, plan_fault, plan_of, plan_said, report_fault, stream_faults}
+use Rattle.tap_reader.specs.Streams.{Stream, IsAt, IsTree, earlier, first_alone, first_fault, in_tree, is_bail, missing_numbers, own_from, plan_fault, plan_of, plan_said, report_fault, stream_faults}
 use Rattle.tap_reader.specs.Cases.{report_cases}
-use Rattle.tap_reader.specs.Completing.{State, at_level, completed, filled, missing_line, own, own_step, with_line}
+use Rattle.tap_reader.specs.Completing.{State, at_level, completed, filled, missing_line, with_line}
 use Rattle.tap_reader.specs.CompletingViews.{empty_state}
 use Rattle.tap_reader.specs.Naming.{named}
 use Rattle.tap_reader.specs.Reports.{ReadsLines, judged}

@@ -1,7 +1,7 @@
 -- The lines of a level, and the ends of lists where they stand.
-use Rattle.std.proofs.Common.{◌≡◌, ℕ, zero, suc, ◌+◌, ◌-◌, ◌<◌, ◌≤◌, Bool, true, false, cond, List, [], ◌∷◌, ◌++◌, length, map, take, drop, filter, refl, sym, ap, ◌∙◌, not, get_or, add-zero, append_assoc, append-nil, arith}
+use Rattle.std.proofs.Common.{◌≡◌, ℕ, suc, ◌+◌, ◌-◌, ◌<◌, ◌≤◌, Bool, true, false, List, [], ◌∷◌, ◌++◌, length, map, take, drop, filter, refl, sym, ap, ◌∙◌, not, get_or, add-zero, append_assoc, append-nil, arith}
 use Rattle.std.specs.Prelude.{fold, nat_lt, ◌==◌}
-use Rattle.std.specs.Prelude.{Option, Some, None}
+use Rattle.std.specs.Prelude.{Some}
 use Rattle.std.specs.List.{range_with_len, list_any}
 use Rattle.tap_reader.specs.Streams.{plan_of, says_number, unnamed}
 use Rattle.tap_reader.specs.Completing.{State, closed, missing_line, missing_lines, shut}

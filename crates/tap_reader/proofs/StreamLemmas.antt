@@ -1,13 +1,13 @@
 -- What the code writes of a tree's lines is what the tree says.
-use Rattle.std.proofs.Common.{◌≡◌, ℕ, zero, suc, ◌+◌, ◌-◌, ◌<◌, ◌≤◌, ◌⊎◌, inl, inr, Bool, true, false, cond, List, [], ◌∷◌, ◌++◌, length, map, refl, sym, ap, ◌∙◌, append_assoc, append-nil, add-one, arith}
-use Rattle.std.specs.Prelude.{Option, Some, None, option_to_list, fold, nat_lt, ◌==◌}
+use Rattle.std.proofs.Common.{◌≡◌, ℕ, zero, suc, ◌+◌, ◌-◌, ◌<◌, ◌≤◌, ◌⊎◌, inl, inr, Bool, true, false, List, [], ◌∷◌, ◌++◌, map, refl, sym, ap, ◌∙◌, append_assoc, append-nil, arith}
+use Rattle.std.specs.Prelude.{Option, None, option_to_list, fold, nat_lt, ◌==◌}
 use Rattle.std.proofs.lemmas.Bool.Decides.{nat_tests}
 use Rattle.std.proofs.lemmas.Bool.{cases_lt}
 use Rattle.tap_reader.specs.declared.faults.TapFault.{TapFault}
 use Rattle.tap_reader.specs.LineForms.{Said, Plan, Point, Bail, Open, Missing}
 use Rattle.tap_reader.specs.Counted.{Line}
 use Rattle.tap_reader.specs.Streams.{Stream, Ends, Unfinished, Goes, IsAt, earlier, fault_of, faults_below, last_behind, lines_of, missing_numbers, numbered, numbered_said, own_from, stream_faults}
-use Rattle.tap_reader.specs.Completing.{State, closed, closed_above, completed, filled, last_number, last_step, missing_line, missing_lines, number_after, own, own_step, put_behind, shut, top_level, with_line}
+use Rattle.tap_reader.specs.Completing.{State, closed, closed_above, completed, filled, last_number, last_step, missing_line, number_after, own, own_step, put_behind, shut, top_level, with_line}
 
 pub fold_append : {A B : Type 0} (f : B → A → B) (a : B) (xs ys : List A) → fold f a (xs ++ ys) ≡ fold f (fold f a xs) ys
 fold_append f a [] ys = refl

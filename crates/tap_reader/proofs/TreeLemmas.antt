@@ -1,5 +1,5 @@
 -- Every list of lines has one tree.
-use Rattle.std.proofs.Common.{◌≡◌, ◌≢◌, ℕ, zero, suc, ◌+◌, ◌-◌, ◌<◌, ◌≤◌, List, [], ◌∷◌, ◌++◌, length, refl, sym, ap, ◌∙◌, append_assoc, append-nil, arith}
+use Rattle.std.proofs.Common.{◌≡◌, ◌≢◌, ℕ, zero, suc, ◌+◌, List, [], ◌∷◌, ◌++◌, refl, ap, ◌∙◌, arith}
 use Rattle.tap_reader.specs.Counted.{Line}
 use Rattle.tap_reader.specs.Streams.{Stream, Ends, Unfinished, Goes, IsAt, lines_of}
 use Rattle.tap_reader.specs.Growing.{put, tree_of}

@@ -10,7 +10,7 @@ use Rattle.tap_reader.specs.declared.entries.Directive.{Directive}
 use Rattle.tap_reader.specs.declared.entries.Directive.TheVariants as directive
 use Rattle.tap_reader.specs.LineForms.{Said, Plan, Point, Bail, Open, Missing, Test, spaces}
 use Rattle.tap_reader.specs.Counted.{Line}
-use Rattle.tap_reader.specs.Streams.{Stream, Ends, Unfinished, Goes, last_behind, missing_numbers, numbered, numbered_said, own_from}
+use Rattle.tap_reader.specs.Streams.{Stream, Ends, Unfinished, Goes, last_behind, missing_numbers, numbered_said, own_from}
 
 -- a description as it is meant: `\#` stands for `#`, and `\\` for `\`
 abbrev pub unescaped : List ℕ → List ℕ

@@ -1,8 +1,8 @@
 -- The code's own words for how it completes the streams of a report: line by line, with what it has
 -- written so far.
-use Rattle.std.specs.Prelude.{ℕ, zero, suc, ◌+◌, ◌-◌, ◌==◌, if◌then◌else◌, nat_lt, Bool, List, [], ◌∷◌, ◌++◌, map, filter, fold, Option, Some, None, unwrap_or, option_to_list}
+use Rattle.std.specs.Prelude.{ℕ, zero, suc, ◌+◌, ◌-◌, ◌==◌, if◌then◌else◌, nat_lt, Bool, List, [], ◌∷◌, ◌++◌, map, filter, fold, Option, unwrap_or, option_to_list}
 use Rattle.tap_reader.specs.declared.faults.TapFault.{TapFault}
-use Rattle.tap_reader.specs.LineForms.{Said, Plan, Point, Bail, Open, Missing, Test}
+use Rattle.tap_reader.specs.LineForms.{Said, Plan, Point, Bail, Open, Missing}
 use Rattle.tap_reader.specs.Counted.{Line}
 use Rattle.tap_reader.specs.Streams.{earlier, fault_of, missing_numbers, numbered}
 

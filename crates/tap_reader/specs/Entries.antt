@@ -1,5 +1,5 @@
 -- The lines that the code keeps, seen as lines of a report.
-use Rattle.std.specs.Prelude.{ℕ, List, take, Option, option_map}
+use Rattle.std.specs.Prelude.{take}
 use Rattle.tap_reader.specs.declared.entries.Says.{Says}
 use Rattle.tap_reader.specs.declared.entries.Says.TheVariants as says
 use Rattle.tap_reader.specs.declared.entries.Entry.{Entry}

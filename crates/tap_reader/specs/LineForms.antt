@@ -1,5 +1,5 @@
 -- What one line of a report says, by the table of TAP 14.
-use Rattle.std.specs.Prelude.{ℕ, ◌+◌, ◌-◌, ◌*◌, ◌/◌, ◌%◌, ◌==◌, ◌&&◌, if◌then◌else◌, nat_lt, nat_eq, Bool, true, false, List, [], ◌∷◌, length, take, drop, map, codes, Option, Some, None, option_map, is_some}
+use Rattle.std.specs.Prelude.{ℕ, ◌+◌, ◌-◌, ◌*◌, ◌/◌, ◌%◌, ◌==◌, ◌&&◌, if◌then◌else◌, nat_lt, nat_eq, Bool, true, false, List, [], ◌∷◌, length, take, drop, codes, Option, Some, None, option_map, is_some}
 use Rattle.std.specs.List.{prefix_len, suffix_len, starts_with}
 use Rattle.std.specs.Char.{is_ascii_digit}
 use Rattle.std.specs.Str.{bytes_eq, str_eq_ignore_ascii_case}

@@ -7,4 +7,4 @@ use Rattle.tap_reader.specs.Streams.{Stream, Ends, Unfinished, Goes}
 abbrev pub stream_of : Tree → Stream
 stream_of tree.Ends = Ends
 stream_of (tree.Unfinished' p sub) = Unfinished (stream_of sub)
-stream_of (tree.Goes' p sub l q rest) = Goes (stream_of sub) (line_of l) (stream_of rest)
+stream_of (tree.Goes' p sub l q rest) = Goes (stream_of sub) (line_of l.now) (stream_of rest)

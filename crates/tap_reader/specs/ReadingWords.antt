@@ -4,7 +4,7 @@ use Rattle.tap_reader.specs.declared.reading.Diagnostic.{Diagnostic}
 use Rattle.tap_reader.specs.declared.reading.Diagnostic.TheVariants as diagnostic
 use Rattle.tap_reader.specs.Lines.{lines}
 use Rattle.tap_reader.specs.LineForms.{said_by}
-use Rattle.tap_reader.specs.Counted.{Absent, Endless, Found, Line, Whole, counted, found_in, passed_over}
+use Rattle.tap_reader.specs.Counted.{Absent, Endless, Line, Whole, counted, found_in, passed_over}
 
 -- this is the diagnostic of a point of the level, behind which the text stands
 abbrev pub IsDiagnostic : ℕ → List ℕ → Diagnostic → Type 0

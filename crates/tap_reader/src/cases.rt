@@ -1,5 +1,5 @@
 //! The cases of a report's lines, each under the names of its parents.
-ghost use Rattle.std.specs.Prelude.{◌≡◌, ◌++◌, ◌∷◌, [], map, codes, IfOk, OnOk, option_to_list};
+ghost use Rattle.std.specs.Prelude.{◌≡◌, ◌++◌, ◌∷◌, [], map, codes, IfOk, OnOk, option_to_list, is_some, ◌||◌};
 ghost use Rattle.std.specs.List.{flat_map};
 ghost use Rattle.tap_reader.specs.Entries.{line_of, said_of, test_of};
 ghost use Rattle.tap_reader.specs.Cases.{case_said, name_for_subtest, name_in, number_name, missing_case, point_case, point_name, status_of, unescaped};
@@ -90,6 +90,13 @@ fn status_of_point(point: &TestPoint) -> Status
     }
 }
 
+/// Whether a point ended as it was to: one of a directive always does.
+fn is_expected(point: &TestPoint) -> bool
+    ensures { result ≡ (is_some (test_of point.now).directive || point.now.passed) }
+{
+    point.directive.is_some() || point.passed
+}
+
 /// The case of a point.
 #[tactic(auto, unfolding(crate::specs::Cases::point_case, crate::specs::Cases::name_in))]
 fn case_of_point(
@@ -111,14 +118,13 @@ fn case_of_point(
     Ok(Case {
         name: Bytes::new(name),
         status,
-        expected: point.directive.is_some() || point.passed,
+        expected: is_expected(point),
         duration: None,
         message: Bytes::new(message),
     })
 }
 
 /// The case of a number that no point has.
-#[tactic(auto, unfolding(crate::specs::Cases::missing_case, crate::specs::Cases::name_in))]
 pub(crate) fn case_of_missing(alloc: Global, path: &[Says], number: u64) -> Result<Case, AllocError>
     ensures { IfOk result (λ c. c ≡ missing_case (names_of path.now) number) }
 {
@@ -134,11 +140,7 @@ pub(crate) fn case_of_missing(alloc: Global, path: &[Says], number: u64) -> Resu
 }
 
 /// The case of a line, if it has one.
-pub(crate) fn case_of(
-    alloc: Global,
-    path: &[Says],
-    entry: &Entry,
-) -> Result<Option<Case>, AllocError>
+fn case_of(alloc: Global, path: &[Says], entry: &Entry) -> Result<Option<Case>, AllocError>
     ensures { IfOk result (λ c. option_to_list c
         ≡ case_said (names_of path.now) (line_of entry.now).level (line_of entry.now).said) }
 {
@@ -147,6 +149,22 @@ pub(crate) fn case_of(
         Says::Lacking(number) => Ok(Some(case_of_missing(alloc, path, *number)?)),
         _ => Ok(None),
     }
+}
+
+/// Appends the case of a line, if it has one.
+pub(crate) fn append_case(
+    alloc: Global,
+    cases: &mut Vec<Case>,
+    path: &[Says],
+    entry: &Entry,
+) -> Result<(), AllocError>
+    ensures { OnOk result (cases.new.items ≡ cases.old.items
+        ++ case_said (names_of path.now) (line_of entry.now).level (line_of entry.now).said) }
+{
+    if let Some(case) = case_of(alloc, path, entry)? {
+        cases.push(case)?;
+    }
+    Ok(())
 }
 
 /// Cuts the parents to so many, or fills them up with ones that have no point.
@@ -173,9 +191,7 @@ fn take_entry<'a>(
         ++ name_for_subtest (line_of entry.now).said ∷ []) }
 {
     fit_path(path, entry.level)?;
-    if let Some(case) = case_of(alloc, path, entry)? {
-        cases.push(case)?;
-    }
+    append_case(alloc, cases, path, entry)?;
     path.push(entry.says)?;
     Ok(())
 }

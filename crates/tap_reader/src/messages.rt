@@ -76,7 +76,6 @@ fn read_front(
 }
 
 /// The message of a diagnostic of so many lines.
-#[tactic(auto, unfolding(crate::specs::Cases::message_of, crate::specs::Cases::cut))]
 pub(crate) fn read_message(
     alloc: Global,
     level: usize,

@@ -12,7 +12,7 @@ ghost use Rattle.tap_reader.specs.Cases.{listed, missing_cases, name_for_subtest
 ghost use Rattle.tap_reader.specs.Reports.{Reads, ReadsLines};
 
 use crate::TapFault;
-use crate::cases::{case_of, case_of_missing};
+use crate::cases::{append_case, case_of_missing};
 use crate::completing::{earlier_of, fault_in_stream, is_in_tree};
 use crate::entries::{Entry, Says, TestPoint};
 use crate::reading::read_lines;
@@ -28,7 +28,7 @@ pub(crate) enum Tree<'a> {
     /// A deeper stream follows, and no line of this one.
     Unfinished(Box<Tree<'a>>),
     /// A line follows, before it the stream one level deeper, and behind it the rest.
-    Goes(Box<Tree<'a>>, Entry<'a>, Box<Tree<'a>>),
+    Goes(Box<Tree<'a>>, &'a Entry<'a>, Box<Tree<'a>>),
 }
 
 /// The tree with a line more in front, so many levels below its own.
@@ -36,10 +36,11 @@ pub(crate) enum Tree<'a> {
 fn put_line<'a>(
     alloc: Global,
     below: usize,
-    line: Entry<'a>,
+    line: &'a Entry<'a>,
     tree: Tree<'a>,
 ) -> Result<Tree<'a>, AllocError>
-    ensures { IfOk result (λ t. stream_of t ≡ put below (line_of line.entry) (stream_of tree.entry)) }
+    ensures { IfOk result (λ t. stream_of t
+        ≡ put below (line_of line.now) (stream_of tree.entry)) }
 {
     if below == 0 {
         let sub = Box::new(alloc, Tree::Ends)?;
@@ -64,7 +65,7 @@ fn put_line<'a>(
 
 /// The tree of a report's lines.
 #[tactic(auto, unfolding(crate::specs::Growing::tree_of))]
-fn grow_tree<'a>(alloc: Global, lines: &[Entry<'a>]) -> Result<Tree<'a>, AllocError>
+fn grow_tree<'a>(alloc: Global, lines: &'a [Entry<'a>]) -> Result<Tree<'a>, AllocError>
     ensures { IfOk result (λ t. stream_of t ≡ tree_of (filter in_tree (map line_of lines.now))) }
 {
     match lines {
@@ -72,7 +73,7 @@ fn grow_tree<'a>(alloc: Global, lines: &[Entry<'a>]) -> Result<Tree<'a>, AllocEr
         [line, behind @ ..] => {
             let tree = grow_tree(alloc, behind)?;
             if is_in_tree(line) {
-                Ok(put_line(alloc, line.level, *line, tree)?)
+                Ok(put_line(alloc, line.level, line, tree)?)
             } else {
                 Ok(tree)
             }
@@ -311,9 +312,7 @@ fn append_cases<'a>(
             let below = path_with(alloc, path, numbered.says)?;
             append_cases(alloc, cases, &below, 0, sub)?;
             append_missing(alloc, cases, &below, sub)?;
-            if let Some(case) = case_of(alloc, path, &numbered)? {
-                cases.push(case)?;
-            }
+            append_case(alloc, cases, path, &numbered)?;
             append_cases(alloc, cases, path, number_behind(last, line), rest)
         }
     }

@@ -88,7 +88,8 @@ fn take_line<'a>(
                 level,
                 says,
             })?;
-            Ok((number + 1, &behind[behind.len()..]))
+            let rest = &behind[behind.len()..];
+            Ok((number + 1, rest))
         }
         Says::Planned(_) => {
             entries.push(Entry {

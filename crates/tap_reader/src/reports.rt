@@ -7,6 +7,7 @@ ghost use Rattle.tap_reader.specs.Bounds.{AllBelow};
 ghost use Rattle.tap_reader.specs.Entries.{line_of};
 ghost use Rattle.tap_reader.specs.Streams.{first_alone, is_bail, line_fault, plan_of};
 ghost use Rattle.tap_reader.specs.Completing.{at_level};
+ghost use Rattle.tap_reader.specs.Naming.{named};
 ghost use Rattle.tap_reader.specs.Reports.{Reads, ReadsLines, after_version, begins_version, counted_in, is_blank, is_version, text_fault};
 
 use crate::TapFault;
@@ -163,12 +164,12 @@ fn has_end(entries: &[Entry], completed: &[Entry]) -> bool
     plan_at(completed, 0).is_some() || has_bail(entries)
 }
 
-/// What the lines of a report that count give.
-fn read_counted(alloc: Global, entries: &[Entry]) -> Result<Vec<Case>, TapFault>
+/// The lines of a report's tree, completed, of a report that has cases.
+fn complete_report<'a>(alloc: Global, entries: &[Entry<'a>]) -> Result<Vec<Entry<'a>>, TapFault>
     requires below { AllBelow (2 ^ 40) (map line_of entries.now) }
     requires room { length entries.now < 2 ^ 63 }
-    ensures ok { IfOk result
-        (λ cases. ReadsLines (Some (map line_of entries.now)) (Ok cases.items)) }
+    ensures ok { IfOk result (λ written. ReadsLines (Some (map line_of entries.now))
+        (Ok (named (map line_of written.items)))) }
     ensures err { IfErr result (λ f. f ≢ TapFault.Memory
         → ReadsLines (Some (map line_of entries.now)) (Err f)) }
 {
@@ -180,7 +181,18 @@ fn read_counted(alloc: Global, entries: &[Entry]) -> Result<Vec<Case>, TapFault>
     if !has_end(entries, &streams.entries) {
         return Err(TapFault::NoPlan);
     }
-    Ok(name_cases(alloc, &streams.entries)?)
+    Ok(streams.entries)
+}
+
+/// The completed lines of a report that has cases. Those that were read are let go before the cases
+/// are named, which takes as much room again.
+fn read_written<'a>(alloc: Global, bytes: &'a [u8]) -> Result<Vec<Entry<'a>>, TapFault>
+    ensures ok { IfOk result (λ written. Reads bytes.now (Ok (named (map line_of written.items)))) }
+    ensures err { IfErr result (λ f. f ≢ TapFault.Memory → Reads bytes.now (Err f)) }
+{
+    let (first, text) = open_report(bytes)?;
+    let entries = read_lines(alloc, first, text)?;
+    complete_report(alloc, &entries)
 }
 
 /// Reads a report in TAP 14: its cases in the order of its points, those of a subtest before its
@@ -190,7 +202,6 @@ pub fn read_report(alloc: Global, bytes: &[u8]) -> Result<Vec<Case>, TapFault>
     ensures ok { IfOk result (λ cases. Reads bytes.now (Ok cases.items)) }
     ensures err { IfErr result (λ f. f ≢ TapFault.Memory → Reads bytes.now (Err f)) }
 {
-    let (first, text) = open_report(bytes)?;
-    let entries = read_lines(alloc, first, text)?;
-    read_counted(alloc, &entries)
+    let written = read_written(alloc, bytes)?;
+    Ok(name_cases(alloc, &written)?)
 }

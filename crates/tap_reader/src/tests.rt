@@ -9,9 +9,11 @@ use std::test::Fail;
 const REPORTS: [(&str, &str); 47] = [
     // A subtest before its point, an escaped `#`, directives, a diagnostic, a missing number.
     (
-        "TAP version 14\n# Subtest: group\n    ok 1 - inner \\# one\n    not ok 2 - inner two # TODO later\n    1..2\nok 1 - group\n\
+        "TAP version 14\n# Subtest: group\n    ok 1 - inner \\# one\n\
+         \x20   not ok 2 - inner two # TODO later\n    1..2\nok 1 - group\n\
          not ok 2 - bad\n  ---\n  message: boom\n  ...\nok 4 - gone # skip no net\n1..4\n",
-        "pass group > inner # one\nfail group > inner two\npass group\nfail! bad: message: boom\nskip gone\nskip! point 3\n",
+        "pass group > inner # one\nfail group > inner two\npass group\n\
+         fail! bad: message: boom\nskip gone\nskip! point 3\n",
     ),
     // What the test runner of Node prints.
     (
@@ -79,7 +81,8 @@ const REPORTS: [(&str, &str); 47] = [
     ),
     (
         "TAP version 14\nok 7 - a\nok - b\nok 7\n1..9\n",
-        "pass a\npass b\npass point 7\nskip! point 1\nskip! point 2\nskip! point 3\nskip! point 4\nskip! point 5\nskip! point 6\nskip! point 9\n",
+        "pass a\npass b\npass point 7\nskip! point 1\nskip! point 2\nskip! point 3\n\
+         skip! point 4\nskip! point 5\nskip! point 6\nskip! point 9\n",
     ),
     ("TAP version 14\nok 1x\nok1\n1..1\n", "pass 1x\n"),
     // Directives and descriptions.
@@ -118,7 +121,8 @@ const REPORTS: [(&str, &str); 47] = [
         "pass point 1\n",
     ),
     (
-        "TAP version 14\n    not ok\n      ---\n  ok 5\n      x\n      ...\n    1..1\nnot ok\n1..1\n",
+        "TAP version 14\n    not ok\n      ---\n  ok 5\n      x\n      ...\n    1..1\n\
+         not ok\n1..1\n",
         "fail! point 1 > point 1:   ok 5\nx\nfail! point 1\n",
     ),
     // Levels.
@@ -131,15 +135,18 @@ const REPORTS: [(&str, &str); 47] = [
         "pass a > unfinished > point 1\npass a\n",
     ),
     (
-        "TAP version 14\n                                                                    ok 1\n",
+        "TAP version 14\n\
+         \x20                                                                   ok 1\n",
         "TooDeep 2",
     ),
     (
-        "TAP version 14\nok 2\n                                                                    ok 1\n1..1\n",
+        "TAP version 14\nok 2\n\
+         \x20                                                                   ok 1\n1..1\n",
         "PlanExceeded 2",
     ),
     (
-        "TAP version 14\n                                                                Bail out!\n",
+        "TAP version 14\n\
+         \x20                                                               Bail out!\n",
         "",
     ),
     (

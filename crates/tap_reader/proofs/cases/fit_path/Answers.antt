@@ -1,4 +1,4 @@
-use Rattle.std.proofs.Common.{◌≡◌, ◌-◌, ◌++◌, ℕ, length, take, replicate, ap, ◌∙◌, arith, vec_len}
+use Rattle.std.proofs.Common.{◌≡◌, ◌-◌, ◌++◌, length, take, replicate, ap, ◌∙◌, arith, vec_len}
 use Rattle.tap_reader.specs.declared.entries.Says.TheVariants as says
 use Rattle.tap_reader.specs.NamingViews.{names_of}
 use Rattle.tap_reader.proofs.NamingLemmas.{names-resized}

@@ -1,4 +1,4 @@
-use Rattle.std.proofs.Common.{◌≤◌, ◌-◌, arith}
+use Rattle.std.proofs.Common.{arith}
 use Rattle.tap_reader.specs.NamingViews.{names_of}
 use Rattle.tap_reader.proofs.NamingLemmas.{naming_step}
 use Rattle.tap_reader.proofs.cases.name_cases.Goals as goal

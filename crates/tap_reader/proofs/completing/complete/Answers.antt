@@ -1,9 +1,6 @@
-use Rattle.std.proofs.Common.{◌≡◌, ◌+◌, ◌-◌, ◌^◌, ◌<◌, cond, map, take, filter, sym, ap, ◌∙◌, subst, arith}
-use Rattle.std.specs.Prelude.{fold}
-use Rattle.tap_reader.specs.Entries.{line_of}
-use Rattle.tap_reader.specs.Streams.{in_tree}
-use Rattle.tap_reader.specs.Completing.{State, with_line}
-use Rattle.tap_reader.specs.CompletingViews.{empty_state, state_of}
+use Rattle.std.proofs.Common.{◌-◌, ◌^◌, subst, arith}
+use Rattle.tap_reader.specs.Completing.{State}
+use Rattle.tap_reader.specs.CompletingViews.{state_of}
 use Rattle.tap_reader.specs.Bounds.{AllBelow}
 use Rattle.tap_reader.proofs.BoundLemmas.{run_small, run_step}
 use Rattle.tap_reader.proofs.completing.complete.Goals as goal

@@ -1,7 +1,7 @@
-use Rattle.std.proofs.Common.{◌≡◌, ℕ, [], refl, sym, ap, ◌∙◌, drop, map, arith}
+use Rattle.std.proofs.Common.{◌≡◌, [], sym, ap, ◌∙◌, drop, map, arith}
 use Rattle.tap_reader.specs.Entries.{line_of}
-use Rattle.tap_reader.specs.Completing.{at_level, own}
-use Rattle.tap_reader.proofs.RunLemmas.{NoneHigher, own_run, run_from}
+use Rattle.tap_reader.specs.Completing.{at_level}
+use Rattle.tap_reader.proofs.RunLemmas.{own_run, run_from}
 use Rattle.tap_reader.proofs.completing.run_start.Goals as goal
 
 pub returns-else-entries-start-clause-own : goal.returns-else-entries-start-clause-own

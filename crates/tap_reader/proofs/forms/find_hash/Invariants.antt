@@ -1,4 +1,4 @@
-use Rattle.std.proofs.Common.{◌≡◌, ◌+◌, ◌≤◌, length, drop}
+use Rattle.std.proofs.Common.{◌≡◌, ◌+◌, drop}
 use Rattle.tap_reader.specs.LineForms.{hash_place}
 use Rattle.tap_reader.proofs.forms.find_hash.Given as goal
 

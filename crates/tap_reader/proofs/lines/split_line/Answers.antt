@@ -1,8 +1,7 @@
-use Rattle.std.proofs.Common.{◌≡◌, ℕ, suc, ◌+◌, ◌-◌, ◌<◌, List, [], ◌∷◌, length, take, drop, refl, sym, ap, ◌∙◌, arith, add-one}
+use Rattle.std.proofs.Common.{◌≡◌, suc, ◌+◌, ◌-◌, ◌<◌, [], ◌∷◌, length, take, drop, sym, ap, ◌∙◌, arith, add-one}
 use Rattle.std.proofs.lemmas.Bool.Decides.{nat_tests}
 use Rattle.std.proofs.lemmas.List.{take_rest, drop_all}
 use Rattle.tap_reader.specs.Lines.{lines}
-use Rattle.tap_reader.specs.LineWords.{without_return}
 use Rattle.tap_reader.proofs.LineLemmas.{line_len, line_len_is, first_line, last_lines}
 use Rattle.tap_reader.proofs.lines.split_line.Goals as goal
 

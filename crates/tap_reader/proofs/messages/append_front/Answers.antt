@@ -1,4 +1,4 @@
-use Rattle.std.proofs.Common.{◌≡◌, ◌++◌, ◌-◌, List, ℕ, length, take, drop, refl, sym, ap, ◌∙◌, arith}
+use Rattle.std.proofs.Common.{◌≡◌, ◌++◌, ◌-◌, length, take, ap, ◌∙◌, arith}
 use Rattle.tap_reader.proofs.MessageLemmas.{front_fits, front_cut}
 use Rattle.tap_reader.proofs.messages.append_front.Goals as goal
 

@@ -1,4 +1,4 @@
-use Rattle.std.proofs.Common.{◌≡◌, ◌++◌, ◌∷◌, [], ◌-◌, List, ℕ, length, take, drop, refl, sym, ap, ◌∙◌, arith, cond, false}
+use Rattle.std.proofs.Common.{◌≡◌, ◌++◌, ◌∷◌, [], take, refl, sym, ap, ◌∙◌}
 use Rattle.tap_reader.specs.MessageWords.{parted}
 use Rattle.tap_reader.proofs.MessageLemmas.{take_both}
 use Rattle.tap_reader.proofs.messages.append_line.Goals as goal

@@ -1,8 +1,7 @@
-use Rattle.std.proofs.Common.{◌≡◌, ◌<◌, ◌≤◌, ◌+◌, ◌-◌, ◌*◌, ◌++◌, ◌∷◌, List, [], ℕ, length, take, drop, refl, sym, ap, ◌∙◌, arith}
+use Rattle.std.proofs.Common.{◌≡◌, ◌≤◌, ◌++◌, ◌∷◌, [], length, take, drop, sym, ap, ◌∙◌, arith}
 use Rattle.std.specs.Prelude.{◌==◌}
 use Rattle.std.proofs.lemmas.List.{take_all, length-drop}
 use Rattle.tap_reader.specs.Lines.{lines}
-use Rattle.tap_reader.specs.Cases.{unindented}
 use Rattle.tap_reader.specs.MessageWords.{front_of, parted}
 use Rattle.tap_reader.proofs.MessageLemmas.{front_push}
 use Rattle.tap_reader.proofs.ReadingLemmas.{drop_tail}

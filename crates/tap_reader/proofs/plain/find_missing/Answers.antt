@@ -1,4 +1,4 @@
-use Rattle.std.proofs.Common.{◌≡◌, ◌++◌, ◌-◌, ◌+◌, ℕ, Bool, map, not, filter, sym, ap, ◌∙◌}
+use Rattle.std.proofs.Common.{◌++◌, ◌-◌, ◌+◌, ℕ, Bool, map, not, filter, sym, ap, ◌∙◌}
 use Rattle.std.specs.List.{list_any, range_with_len}
 use Rattle.tap_reader.specs.Entries.{line_of}
 use Rattle.tap_reader.specs.Streams.{says_number}

@@ -8,7 +8,7 @@ use Rattle.tap_reader.specs.Bounds.{AllBelow, BelowFit, NumbersFit}
 use Rattle.tap_reader.specs.Streams.{Stream, first_fault, is_bail, own_from, plan_of}
 use Rattle.tap_reader.specs.Cases.{report_cases}
 use Rattle.tap_reader.proofs.FitLemmas.{tree_fits}
-use Rattle.tap_reader.proofs.OutcomeLemmas.{has_end_of, reads_cases, reads_fault, reads_no_plan, tree_in}
+use Rattle.tap_reader.proofs.OutcomeLemmas.{reads_cases, reads_fault, reads_no_plan, tree_in}
 use Rattle.tap_reader.proofs.plain.judge_lines.Goals as goal
 
 fit : (es : List Entry) (t : Stream) → t ≡ tree_in (map line_of es) → length es < 2 ^ 63 → AllBelow (2 ^ 40) (map line_of es) → NumbersFit 0 t × BelowFit t

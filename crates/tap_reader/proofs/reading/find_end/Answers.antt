@@ -1,10 +1,28 @@
-use Rattle.std.proofs.Common.{◌≡◌, ◌+◌, true, false, List, [], ◌∷◌, ◌++◌, length, take, drop, refl, sym, ap, ◌∙◌, arith, ℕ, codes, append-nil}
-use Rattle.std.specs.Prelude.{Option, Some, None, option_map}
+use Rattle.std.proofs.Common.{◌≡◌, true, false, [], ◌∷◌, ◌++◌, length, take, drop, refl, sym, ap, ◌∙◌, arith, codes, append-nil}
+use Rattle.std.specs.Prelude.{Some, option_map}
 use Rattle.tap_reader.specs.Lines.{lines}
 use Rattle.tap_reader.specs.LineForms.{is_mark}
 use Rattle.tap_reader.specs.Counted.{until_end}
 use Rattle.tap_reader.proofs.ReadingLemmas.{drop_tail, take_push, map_in_front}
 use Rattle.tap_reader.proofs.reading.find_end.Goals as goal
+
+pub returns-then-is_mark_of-clause-body : goal.returns-then-is_mark_of-clause-body
+returns-then-is_mark_of-clause-body c =
+    let all = lines c.args.text.now in
+    let level = c.args.level in
+    let n = c.loop-line.count in
+    let x = c.in-Some.line.now in
+    let yes : is_mark (codes "...") level x ≡ true = sym c.is_mark_of.ensures ∙ c.if-is_mark_of.true in
+    let here : until_end level (lines c.loop-line.rest.now) ≡ Some [] = ap (until_end level) c.in-Some.ensures.lines ∙ rw yes refl in
+    c.loop-line.invariant.body ∙ ap (option_map (λ b. take n all ++ b)) here ∙ ap Some (append-nil (take n all))
+
+pub returns-then-is_mark_of-clause-count : goal.returns-then-is_mark_of-clause-count
+returns-then-is_mark_of-clause-count c =
+    omega (arith, ap length c.in-Some.ensures.lines, c.loop-line.invariant.count)
+
+pub returns-then-is_mark_of-clause-within : goal.returns-then-is_mark_of-clause-within
+returns-then-is_mark_of-clause-within c =
+    omega (arith, c.in-Some.ensures.shorter, c.loop-line.invariant.within)
 
 pub returns-then-is_mark_of-clause-rest : goal.returns-then-is_mark_of-clause-rest
 returns-then-is_mark_of-clause-rest c =

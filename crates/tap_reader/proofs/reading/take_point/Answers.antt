@@ -1,7 +1,7 @@
-use Rattle.std.proofs.Common.{◌≡◌, ◌+◌, ℕ, List, [], length, take, drop, refl, sym, ap, ◌∙◌, arith}
+use Rattle.std.proofs.Common.{◌≡◌, ◌+◌, length, take, sym, ap, ◌∙◌, arith}
 use Rattle.std.proofs.lemmas.List.{length-take-le}
 use Rattle.tap_reader.specs.Lines.{lines}
-use Rattle.tap_reader.specs.Counted.{counted, found_in, lines_found, Whole, Endless}
+use Rattle.tap_reader.specs.Counted.{counted, found_in, lines_found}
 use Rattle.tap_reader.proofs.ReadingLemmas.{counted_pass, counted_all, lines_behind}
 use Rattle.tap_reader.proofs.reading.take_point.Goals as goal
 

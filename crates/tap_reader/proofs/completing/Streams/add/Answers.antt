@@ -1,5 +1,4 @@
-use Rattle.std.proofs.Common.{◌≡◌, ◌+◌, ◌-◌, ◌^◌, ◌<◌, sym, ap, ◌∙◌, subst, arith}
-use Rattle.tap_reader.specs.Entries.{line_of}
+use Rattle.std.proofs.Common.{◌-◌, ◌^◌, ◌<◌, sym, subst, arith}
 use Rattle.tap_reader.specs.Completing.{State, closed_above, last_number}
 use Rattle.tap_reader.specs.CompletingViews.{state_of}
 use Rattle.tap_reader.proofs.BoundLemmas.{closed_above-below, last_number-below}

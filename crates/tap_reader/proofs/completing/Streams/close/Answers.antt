@@ -1,11 +1,11 @@
-use Rattle.std.proofs.Common.{◌≡◌, ◌-◌, ◌+◌, ◌<◌, ◌++◌, ℕ, true, false, List, length, get_or, sym, ap, ◌∙◌, arith, map, drop, take}
-use Rattle.std.specs.Prelude.{fold, option_to_list, Some, None}
+use Rattle.std.proofs.Common.{◌≡◌, ◌-◌, ◌+◌, ◌<◌, ◌++◌, ℕ, false, List, length, get_or, sym, ap, ◌∙◌, map, drop, take}
+use Rattle.std.specs.Prelude.{fold, option_to_list, Some}
 use Rattle.std.specs.List.{list_any}
 use Rattle.std.proofs.lemmas.List.{take_rest}
 use Rattle.tap_reader.specs.declared.entries.Entry.{Entry}
 use Rattle.tap_reader.specs.Streams.{earlier, fault_of, plan_of, says_number}
 use Rattle.tap_reader.specs.Entries.{line_of}
-use Rattle.tap_reader.specs.Completing.{at_level, closed, filled, missing_line, missing_lines, own}
+use Rattle.tap_reader.specs.Completing.{at_level, filled, missing_line, missing_lines, own}
 use Rattle.tap_reader.specs.CompletingViews.{state_of}
 use Rattle.tap_reader.specs.MarkWords.{unmarked}
 use Rattle.tap_reader.proofs.StreamLemmas.{closed_as, st}

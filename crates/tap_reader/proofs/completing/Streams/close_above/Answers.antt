@@ -1,5 +1,5 @@
-use Rattle.std.proofs.Common.{◌≡◌, ◌-◌, sym, ap, ◌∙◌, arith}
-use Rattle.tap_reader.specs.Completing.{closed, shut}
+use Rattle.std.proofs.Common.{◌-◌, sym, ap, ◌∙◌}
+use Rattle.tap_reader.specs.Completing.{shut}
 use Rattle.tap_reader.specs.CompletingViews.{state_of}
 use Rattle.tap_reader.proofs.RunLemmas.{shut-step}
 use Rattle.tap_reader.proofs.completing.Streams.close_above.Goals as goal
