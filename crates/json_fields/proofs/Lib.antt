@@ -4,3 +4,4 @@ pub mod WriteLaws
 pub mod TextLaws
 pub mod MeaningLaws
 pub mod PlainLaws
+pub mod NameTextLaws

@@ -1,5 +1,5 @@
 -- Texts: the grammars of moments and spans against what their readers tell, and values of pairs.
-use Rattle.std.proofs.Common.{◌≡◌, ℕ, ℤ, ◌≤◌, ◌==◌, Bool, true, false, nat_le, List, [], ◌∷◌, length, Option, Some, None, Result, Ok, Err, IfOk, option_map, if◌then◌else◌, refl, ap, subst, ◌∙◌, arith}
+use Rattle.std.proofs.Common.{◌≡◌, ℕ, ℤ, ◌≤◌, ◌==◌, Bool, true, false, nat_le, List, [], ◌∷◌, length, Option, Some, None, Result, Ok, Err, option_map, if◌then◌else◌, refl, ap, subst, ◌∙◌, arith}
 use Rattle.std.proofs.lemmas.Bool.{leb-true}
 use Rattle.std.proofs.lemmas.Int.{ints}
 use Rattle.name_parts.specs.declared.faults.NameFault.{NameFault}
@@ -109,6 +109,10 @@ pub moment_empty : moment_fault [] ≡ Some Empty
 unfolding moment_fault
 moment_empty = refl
 
+pub span_empty : span_fault [] ≡ Some Empty
+unfolding span_fault
+span_empty = refl
+
 pub span_fault-None : (text : List ℕ) (n : ℕ) → IsSpanText text n → n ≤ most_span → span_fault text ≡ None
 unfolding span_fault
 span_fault-None text n said most = span_none text n (span_of text) refl said most
@@ -139,8 +143,3 @@ span_wrong text f (Err g) e some = let same : g ≡ f = cc in span_fault_of_text
 pub span_fault-is : (text : List ℕ) (f : NameFault) → span_fault text ≡ Some f → IsSpanFault text f
 unfolding span_fault
 span_fault-is text f some = span_wrong text f (span_of text) refl some
-
--- two facts about the value of a result give a third
-pub both : {A E : Type 0} (P Q R : A → Type 0) (r : Result A E) → IfOk r P → IfOk r Q → ((a : A) → P a → Q a → R a) → IfOk r R
-both P Q R (Ok a) p q f = f a p q
-both P Q R (Err e) p q f = tt

@@ -8,11 +8,11 @@ use Rattle.serde_json.specs.Data.{Data, null, boolean, number, string, array, ob
 use Rattle.serde_json.specs.View.{items_of}
 use Rattle.json_fields.specs.Names.{NameForm}
 use Rattle.json_fields.specs.Fields.{set, filled, member, required, optional, or_empty, set_at, filled_at, text_at, fault_from, list_of, Pairs, HoldsMaybe}
-use Rattle.json_fields.specs.Kinds.{a_list, empty_text, never_empty, IsEach, HoldsList}
+use Rattle.json_fields.specs.Kinds.{a_list, empty_list, empty_text, never_empty, no_items_in, IsEach, HoldsList}
 use Rattle.json_fields.specs.Texts.{a_text, IsText}
 use Rattle.json_fields.specs.Tags.{key_fault, key_name, value_name, put_filled, a_tag, IsTag, tag_data}
 use Rattle.serde_json.proofs.Views.{get_member-put, get_member-put_other}
-use Rattle.json_fields.specs.Writing.{IsWritten, IsSpelled, AllWritten, put_optional, put_list}
+use Rattle.json_fields.specs.Writing.{IsWritten, IsSpelled, AllWritten, list_data, is_bare, put_optional, put_list}
 use Rattle.json_fields.specs.declared.faults.FieldFault.{FieldFault}
 
 pub always : {A E : Type 0} (P : Type 0) (r : Result A E) → P → OnOk r P
@@ -140,6 +140,14 @@ module _ {A : Type 0} (fault : Data → Option FieldFault) (means : Data → A �
 
   pub list_meant : (xs : List A) → AllWritten fault means empty blank json xs → IsEach means (array (items_of (map json xs))) xs
   list_meant xs all = rw (list_of_items (map json xs)) (pairs_written xs all)
+
+  bare : (xs : List A) → no_items_in (items_of (map json xs)) ≡ is_bare xs
+  bare [] = refl
+  bare (x ∷ xs) = let some : is_bare (x ∷ xs) ≡ false = grind arith in rw some refl
+
+  pub listed_written : (xs : List A) → AllWritten fault means empty blank json xs
+      → IsWritten (a_list fault) (IsEach means) empty_list is_bare xs (list_data json xs)
+  listed_written xs all = record { is_set = refl; no_fault = list_no_fault xs all; meant = list_meant xs all; emptiness = bare xs }
 
 -- a member that is there, or isn't
 module _ (n : NameForm) (d : Data) where

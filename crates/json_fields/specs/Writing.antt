@@ -1,5 +1,5 @@
 -- What is written so that it is read again.
-use Rattle.std.specs.Prelude.{◌≡◌, ◌≢◌, ℕ, Bool, List, [], ◌∷◌, map, Option, Some, None, ⊤}
+use Rattle.std.specs.Prelude.{◌≡◌, ◌≢◌, ◌==◌, ℕ, Bool, List, [], ◌∷◌, length, map, Option, Some, None, ⊤}
 use Rattle.serde_json.specs.Data.{Data, array, Members, put}
 use Rattle.serde_json.specs.View.{items_of}
 use Rattle.name_parts.specs.declared.faults.NameFault.{NameFault}
@@ -20,6 +20,13 @@ abbrev pub AllWritten : {A : Type 0} → (Data → Option FieldFault) → (Data 
 AllWritten fault means empty blank json [] = ⊤
 AllWritten fault means empty blank json (x ∷ xs) = IsWritten fault means empty blank x (json x) × AllWritten fault means empty blank json xs
 
+-- what is written of a list, and the list without elements
+abbrev pub list_data : {A : Type 0} → (A → Data) → List A → Data
+list_data json xs = array (items_of (map json xs))
+
+abbrev pub is_bare : {A : Type 0} → List A → Bool
+is_bare xs = length xs == 0
+
 -- A text that spells the value: it isn't empty, its grammar finds no fault, and it is this value's.
 pub record IsSpelled {A : Type 0} (fault : List ℕ → Option NameFault) (spells : List ℕ → A → Type 0) (text : List ℕ) (a : A) : Type 0 where
   pub filled : text ≢ []
@@ -37,4 +44,4 @@ put_optional n json (Some a) ms = put n.camel (json a) ms
 
 abbrev pub put_list : {A : Type 0} → NameForm → (A → Data) → List A → Members → Members
 put_list n json [] ms = ms
-put_list n json (x ∷ xs) ms = put n.camel (array (items_of (map json (x ∷ xs)))) ms
+put_list n json (x ∷ xs) ms = put n.camel (list_data json (x ∷ xs)) ms

@@ -12,6 +12,7 @@ use crate::faults::{FaultKind, ReadFault};
 use crate::fields::Form;
 use crate::whys::Why;
 use crate::writing::Written;
+use name_parts::owned_text;
 use names_realms::{
     ArtifactId, ArtifactName, InvocationId, Moment, NameFault, Parent, Realm, ResultId, ResultName,
     Span, TestId,
@@ -307,6 +308,18 @@ impl Form for ResultName {
     }
 }
 
+impl SpelledOut for ResultName {
+    ghost use Rattle.names_realms.specs.ResultNames.{result_name};
+
+    ghost spelling = { result_name };
+
+    fn to_spelling(&self, alloc: Global) -> Result<String, AllocError> {
+        let mut bytes = Vec::new(alloc);
+        self.write_to(alloc, &mut bytes)?;
+        owned_text(alloc, bytes.as_slice())
+    }
+}
+
 impl Spelled for ArtifactName {
     ghost use Rattle.names_realms.specs.ArtifactNames.{artifact_name_fault, IsArtifactName};
 
@@ -337,6 +350,18 @@ impl Form for ArtifactName {
     }
 }
 
+impl SpelledOut for ArtifactName {
+    ghost use Rattle.names_realms.specs.ArtifactNames.{artifact_name};
+
+    ghost spelling = { artifact_name };
+
+    fn to_spelling(&self, alloc: Global) -> Result<String, AllocError> {
+        let mut bytes = Vec::new(alloc);
+        self.write_to(alloc, &mut bytes)?;
+        owned_text(alloc, bytes.as_slice())
+    }
+}
+
 impl Spelled for Parent {
     ghost use Rattle.names_realms.specs.Parents.{parent_fault, IsParentName};
 
@@ -364,6 +389,18 @@ impl Form for Parent {
 
     fn read(alloc: Global, value: &Value) -> Result<Parent, ReadFault> {
         read_text(alloc, value)
+    }
+}
+
+impl SpelledOut for Parent {
+    ghost use Rattle.names_realms.specs.Parents.{parent_name};
+
+    ghost spelling = { parent_name };
+
+    fn to_spelling(&self, alloc: Global) -> Result<String, AllocError> {
+        let mut bytes = Vec::new(alloc);
+        self.write_to(alloc, &mut bytes)?;
+        owned_text(alloc, bytes.as_slice())
     }
 }
 
@@ -411,10 +448,16 @@ impl Spelled for Span {
 
     ghost text_fault = { span_fault };
 
-    ghost spells = { λ text s. IsSpanText text s.micros };
+    ghost spells = { IsSpanText };
 
     fn parse_text(alloc: Global, text: &[u8]) -> Result<Span, NameFault> {
-        Span::parse(alloc, text)
+        match Span::parse(alloc, text) {
+            Ok(span) => {
+                let _in_range = span.micros();
+                Ok(span)
+            }
+            Err(fault) => Err(fault),
+        }
     }
 }
 
@@ -424,7 +467,7 @@ impl Form for Span {
 
     ghost fault = { a_text span_fault };
 
-    ghost means = { IsText (λ text s. IsSpanText text s.micros) };
+    ghost means = { IsText IsSpanText };
 
     ghost empty = { empty_text };
 
@@ -434,6 +477,16 @@ impl Form for Span {
 
     fn read(alloc: Global, value: &Value) -> Result<Span, ReadFault> {
         read_text(alloc, value)
+    }
+}
+
+impl SpelledOut for Span {
+    ghost use Rattle.moments_spans.specs.Spans.{span_text};
+
+    ghost spelling = { span_text };
+
+    fn to_spelling(&self, alloc: Global) -> Result<String, AllocError> {
+        self.to_text(alloc)
     }
 }
 
@@ -569,6 +622,54 @@ impl Written for Moment {
     ghost use Rattle.moments_spans.specs.Moments.{moment_text};
 
     ghost json = { λ m. string (moment_text m) };
+
+    ghost blank = { λ _. false };
+
+    fn write(&self, alloc: Global) -> Result<Value, AllocError> {
+        write_text(alloc, self)
+    }
+}
+
+impl Written for Span {
+    ghost use Rattle.moments_spans.specs.Spans.{span_text};
+
+    ghost json = { λ s. string (span_text s) };
+
+    ghost blank = { λ _. false };
+
+    fn write(&self, alloc: Global) -> Result<Value, AllocError> {
+        write_text(alloc, self)
+    }
+}
+
+impl Written for ResultName {
+    ghost use Rattle.names_realms.specs.ResultNames.{result_name};
+
+    ghost json = { λ x. string (result_name x) };
+
+    ghost blank = { λ _. false };
+
+    fn write(&self, alloc: Global) -> Result<Value, AllocError> {
+        write_text(alloc, self)
+    }
+}
+
+impl Written for ArtifactName {
+    ghost use Rattle.names_realms.specs.ArtifactNames.{artifact_name};
+
+    ghost json = { λ x. string (artifact_name x) };
+
+    ghost blank = { λ _. false };
+
+    fn write(&self, alloc: Global) -> Result<Value, AllocError> {
+        write_text(alloc, self)
+    }
+}
+
+impl Written for Parent {
+    ghost use Rattle.names_realms.specs.Parents.{parent_name};
+
+    ghost json = { λ x. string (parent_name x) };
 
     ghost blank = { λ _. false };
 

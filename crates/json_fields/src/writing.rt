@@ -1,8 +1,8 @@
 //! Writing a field, so that it is read again.
 ghost use Rattle.std.specs.Prelude.{◌≡◌, Bool, [], ◌∷◌, ◌++◌, OnOk, IfOk, IfSome, map};
-ghost use Rattle.serde_json.specs.Data.{Data, array, put as with_member};
-ghost use Rattle.serde_json.specs.View.{view, members_view, items_of};
-ghost use Rattle.json_fields.specs.Writing.{IsWritten, AllWritten, put_required, put_optional, put_list};
+ghost use Rattle.serde_json.specs.Data.{Data, put as with_member};
+ghost use Rattle.serde_json.specs.View.{view, members_view};
+ghost use Rattle.json_fields.specs.Writing.{IsWritten, AllWritten, list_data, put_required, put_optional, put_list};
 
 use crate::fields::Form;
 use crate::names::Name;
@@ -84,7 +84,7 @@ fn add_written<T: Written>(alloc: Global, list: &mut Vec<Value>, x: &T) -> Resul
 
 /// The JSON list of the values.
 fn write_all<T: Written>(alloc: Global, xs: &[T]) -> Result<Value, AllocError>
-    ensures value { IfOk result (λ v. view v ≡ array (items_of (map T.json xs.now))) }
+    ensures value { IfOk result (λ v. view v ≡ list_data T.json xs.now) }
     ensures again { OnOk result (AllWritten T.fault T.means T.empty T.blank T.json xs.now) }
 {
     let mut list = Vec::with_capacity(alloc, xs.len())?;
@@ -92,6 +92,18 @@ fn write_all<T: Written>(alloc: Global, xs: &[T]) -> Result<Value, AllocError>
         add_written(alloc, &mut list, x)?;
     }
     Ok(Value::Array(list))
+}
+
+impl<T: Written> Written for Listed<T> {
+    ghost use Rattle.json_fields.specs.Writing.{list_data, is_bare};
+
+    ghost json = { list_data T.json };
+
+    ghost blank = { is_bare };
+
+    fn write(&self, alloc: Global) -> Result<Value, AllocError> {
+        write_all(alloc, self.as_slice())
+    }
 }
 
 /// Writes a list that may be unset: nothing where it is empty.
