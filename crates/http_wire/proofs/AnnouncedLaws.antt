@@ -1,9 +1,9 @@
 -- From what httparse reads in a head to what the head says.
-use Rattle.std.proofs.Common.{◌≡◌, ℕ, ◌<◌, ◌≤◌, List, [], ◌∷◌, length, take, map, codes, Option, Some, None, Bool, sym, ap, ◌∙◌, subst, arith, append-nil}
+use Rattle.std.proofs.Common.{◌≡◌, ℕ, ◌<◌, ◌≤◌, List, [], length, take, map, codes, Option, Some, None, Bool, sym, ap, ◌∙◌, subst, arith, append-nil}
 use Rattle.std.specs.Prelude.{◌||◌, ◌==◌, not}
 use Rattle.std.specs.List.{list_any}
 use Rattle.std.specs.Option.{option_map}
-use Rattle.std.specs.Str.{IsUtf8, bytes_eq}
+use Rattle.std.specs.Str.{bytes_eq}
 use Rattle.std.proofs.lemmas.Bool.{lt-ltb, le-ltb}
 use Rattle.httparse.specs.declared.spans.HeaderSpan.{HeaderSpan}
 use Rattle.httparse.specs.declared.spans.RequestSpans.{RequestSpans}
@@ -11,14 +11,12 @@ use Rattle.httparse.specs.Grammar.{RequestHead, print_request, ReadsRequest}
 use Rattle.httparse.specs.Spans.{IsRequestAt, header_bytes, span_bytes}
 use Rattle.http_wire.specs.Form.{values_of, fields_of, has_close, length_of, is_post}
 use Rattle.http_wire.specs.Faults.{Sign, first_there, length_signs, field_signs, head_signs, header_limit}
-use Rattle.http_wire.specs.Found.{AreFound}
 use Rattle.http_wire.specs.Says.{IsTheText, IsAlone, IsBearer}
 use Rattle.http_wire.specs.Stream.{IsRead}
-use Rattle.http_wire.specs.declared.fields.Fields.{Fields}
 use Rattle.http_wire.specs.declared.message.WireFault.{WireFault}
-use Rattle.http_wire.specs.declared.message.WireFault.TheVariants.{TooManyHeaders, BadHead}
+use Rattle.http_wire.specs.declared.message.WireFault.TheVariants.{TooManyHeaders}
 use Rattle.http_wire.specs.declared.request.Request.{Request}
-use Rattle.http_wire.specs.Announced.{IsSaid, IsRequest, IsFaulty}
+use Rattle.http_wire.specs.Announced.{IsRequest, IsFaulty}
 use Rattle.http_wire.specs.Scan.{head_end}
 use Rattle.http_wire.proofs.RequestLaws.{request_ends}
 
@@ -36,15 +34,6 @@ too_many head lines many = record {
   is_read = λ few. absurd (omega (arith, few, many));
   first = rw (lt-ltb header_limit lines many);
 }
-
-pub bad_head : (head : List ℕ) (lines end : ℕ) → lines ≤ header_limit → ((h : RequestHead) → ¬ (ReadsRequest head h [])) → end ≡ length head
-    → IsFaulty head lines (BadHead end)
-bad_head head lines end few none is =
-    subst (λ n. IsFaulty head lines (BadHead n)) (sym is) (record {
-      read = None;
-      is_read = λ low h is_head printed. none h (is_head, printed ∙ sym (append-nil (print_request h)));
-      first = rw (le-ltb header_limit lines few);
-    })
 
 -- the fields that were found, and those of the head
 abbrev pub found_in : List ℕ → List HeaderSpan → RequestSpans → List (List ℕ × List ℕ)

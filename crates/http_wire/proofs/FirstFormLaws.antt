@@ -1,10 +1,10 @@
 -- The form that was read at first has no fault, and doesn't close.
-use Rattle.std.proofs.Common.{◌≡◌, ℕ, ◌≤◌, Bool, true, false, List, [], ◌∷◌, ◌++◌, length, codes, Some, None, refl, sym, ap, ◌∙◌, arith}
+use Rattle.std.proofs.Common.{◌≡◌, ℕ, ◌≤◌, true, false, List, [], ◌∷◌, ◌++◌, length, codes, Some, None, refl, sym, ap, ◌∙◌, arith}
 use Rattle.std.specs.Prelude.{◌||◌, ◌==◌, not}
 use Rattle.std.specs.List.{list_any}
 use Rattle.std.specs.Str.{bytes_eq}
 use Rattle.std.specs.Str.Parse.{digits_value}
-use Rattle.std.proofs.lemmas.Bool.{le-ltb, lt-ltb}
+use Rattle.std.proofs.lemmas.Bool.{le-ltb}
 use Rattle.httparse.specs.Grammar.{RequestHead, print_request}
 use Rattle.http_wire.specs.Form.{values_in, is_length, length_of, body_limit, is_post, has_close, closes_after}
 use Rattle.http_wire.specs.Faults.{first_there, head_signs, length_signs, header_limit}

@@ -1,5 +1,5 @@
 -- A stream is read in one way.
-use Rattle.std.proofs.Common.{append-nil, ◌≡◌, ◌≢◌, ◌⊎◌, inl, inr, ℕ, suc, ◌+◌, ◌<◌, ◌≤◌, Bool, true, false, List, [], ◌∷◌, ◌++◌, length, take, drop, Option, Some, None, refl, sym, ap, ◌∙◌, subst, arith, append_assoc, length-append}
+use Rattle.std.proofs.Common.{append-nil, ◌≡◌, ◌≢◌, ◌⊎◌, inl, inr, ℕ, ◌+◌, ◌<◌, ◌≤◌, Bool, true, false, List, [], ◌∷◌, ◌++◌, length, take, drop, Option, Some, None, refl, sym, ap, ◌∙◌, subst, arith, append_assoc, length-append}
 use Rattle.std.specs.Prelude.{nat_le, nat_lt, if◌then◌else◌}
 use Rattle.std.specs.Bool.{MatchBool}
 use Rattle.std.proofs.lemmas.List.{nil_from_length, take-append-le, take-append-drop, take_at}
@@ -10,7 +10,7 @@ use Rattle.http_wire.specs.Head.{IsHeadText, head_limit}
 use Rattle.http_wire.specs.Form.{body_length}
 use Rattle.http_wire.specs.Faults.{sign, first_there, head_signs, Front, length_behind, signs_of}
 use Rattle.http_wire.specs.Scan.{head_end, scan}
-use Rattle.http_wire.specs.Stream.{Announces, IsMessage, IsRead, Begins, HasNoFront, IsFront, HasFault, HasEnd, IsUndecided, closes, FramedFrom, Spells, StayOpen}
+use Rattle.http_wire.specs.Stream.{Announces, IsMessage, IsRead, Begins, HasNoFront, IsFront, HasFault, HasEnd, closes, FramedFrom, Spells, StayOpen}
 use Rattle.http_wire.specs.declared.message.Message.{Message}
 use Rattle.http_wire.specs.declared.message.End.{End}
 use Rattle.http_wire.specs.declared.message.End.TheVariants.{Finished, Closed, Fault}

@@ -1,7 +1,7 @@
 -- The code's own words, which private contracts alone cite: what the bytes of a head announce.
 use Rattle.std.specs.Prelude.{◌≡◌, ℕ, List, length, codes, Option, Some, None}
 use Rattle.std.specs.Option.{option_map}
-use Rattle.httparse.specs.Grammar.{RequestHead, IsRequestHead, print_request}
+use Rattle.httparse.specs.Grammar.{RequestHead}
 use Rattle.http_wire.specs.Form.{values_in, body_length, is_post, closes_after}
 use Rattle.http_wire.specs.Faults.{first_there, head_signs}
 use Rattle.http_wire.specs.Says.{IsTheText, IsAlone, IsBearer}
@@ -12,8 +12,10 @@ use Rattle.http_wire.specs.declared.request.Request.{Request}
 -- what a head says beside the length of the body
 pub record IsSaid (h : RequestHead) (r : Request) : Type 0 where
   pub target : r.target.now ≡ h.target
-  pub bearer : IsTheText (IsBearer (values_in (codes "authorization") h)) (option_map (λ t. t.now) r.bearer)
-  pub update_token : IsTheText (IsAlone (values_in (codes "update-token") h)) (option_map (λ t. t.now) r.update_token)
+  pub bearer : IsTheText (IsBearer (values_in (codes "authorization") h))
+      (option_map (λ t. t.now) r.bearer)
+  pub update_token : IsTheText (IsAlone (values_in (codes "update-token") h))
+      (option_map (λ t. t.now) r.update_token)
   pub post : r.is_post ≡ is_post h
   pub close : r.close ≡ closes_after h
 

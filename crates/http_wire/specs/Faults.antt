@@ -1,10 +1,16 @@
--- The faults of a stream, in the order in which they are judged. The first that is there is answered.
-use Rattle.std.specs.Prelude.{ℕ, ◌&&◌, Bool, true, false, not, List, [], ◌∷◌, ◌++◌, length, codes, nat_lt, nat_le, Option, Some, None, if◌then◌else◌}
+-- The faults of a stream, in the order in which they are judged. The first that is there is
+-- answered.
+use Rattle.std.specs.Prelude.{ℕ, ◌&&◌, Bool, true, false, not, List, [], ◌∷◌, ◌++◌, length, codes}
+use Rattle.std.specs.Prelude.{nat_lt, nat_le, Option, Some, None, if◌then◌else◌}
 use Rattle.httparse.specs.Grammar.{RequestHead}
-use Rattle.http_wire.specs.Form.{values_of, fields_of, is_length, length_of, body_length, body_limit, is_post}
+use Rattle.http_wire.specs.Form.{values_of, fields_of, is_length, length_of, body_length}
+use Rattle.http_wire.specs.Form.{body_limit, is_post}
 use Rattle.http_wire.specs.Head.{head_limit}
 use Rattle.http_wire.specs.declared.message.WireFault.{WireFault}
-use Rattle.http_wire.specs.declared.message.WireFault.TheVariants.{HeadTooLong, TooManyHeaders, BadHead, NoLength, TwoLengths, TransferCoded, BodyTooLong, CutShort}
+use Rattle.http_wire.specs.declared.message.WireFault.TheVariants.{HeadTooLong, TooManyHeaders}
+use Rattle.http_wire.specs.declared.message.WireFault.TheVariants.{BadHead, NoLength, TwoLengths}
+use Rattle.http_wire.specs.declared.message.WireFault.TheVariants.{TransferCoded, BodyTooLong}
+use Rattle.http_wire.specs.declared.message.WireFault.TheVariants.{CutShort}
 
 -- a fault, and whether it is there
 pub record Sign : Type 0 where
@@ -42,7 +48,9 @@ length_signs post end lengths codings =
 -- the faults of a head that is read, of so many bytes
 abbrev pub field_signs : ℕ → RequestHead → List Sign
 field_signs end h =
-    length_signs (is_post h) end (values_of (codes "content-length") (fields_of h)) (values_of (codes "transfer-encoding") (fields_of h))
+    length_signs (is_post h) end
+    (values_of (codes "content-length") (fields_of h))
+    (values_of (codes "transfer-encoding") (fields_of h))
 
 -- the most header lines that a head has
 abbrev pub header_limit : ℕ
@@ -50,11 +58,13 @@ header_limit = 64
 
 -- the faults of a head of so many bytes and header lines, in which this is read, or nothing
 abbrev pub head_signs : ℕ → ℕ → Option RequestHead → List Sign
-head_signs end lines None = sign TooManyHeaders (nat_lt header_limit lines) ∷ sign (BadHead end) true ∷ []
-head_signs end lines (Some h) = sign TooManyHeaders (nat_lt header_limit lines) ∷ field_signs end h
+head_signs end lines None =
+    sign TooManyHeaders (nat_lt header_limit lines) ∷ sign (BadHead end) true ∷ []
+head_signs end lines (Some h) =
+    sign TooManyHeaders (nat_lt header_limit lines) ∷ field_signs end h
 
--- What stands in front of a stream: the text of a head, how many header lines it has, what is read in it, and what
--- follows it.
+-- What stands in front of a stream: the text of a head, how many header lines it has, what is read
+-- in it, and what follows it.
 pub record Front : Type 0 where
   pub text : List ℕ
   pub lines : ℕ

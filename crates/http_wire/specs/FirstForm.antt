@@ -6,7 +6,8 @@ use Rattle.http_wire.specs.Head.{head_limit}
 use Rattle.http_wire.specs.Form.{values_in, is_length, body_limit}
 use Rattle.http_wire.specs.Faults.{header_limit}
 
--- a POST of HTTP/1.1, whose one Content-Length is this length, and which has neither Transfer-Encoding nor Connection
+-- a POST of HTTP/1.1, whose one Content-Length is this length, and which has neither
+-- Transfer-Encoding nor Connection
 pub record IsFirstForm (h : RequestHead) (len : ℕ) : Type 0 where
   pub head : IsRequestHead h
   pub short : length (print_request h) ≤ head_limit

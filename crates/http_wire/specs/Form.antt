@@ -1,5 +1,7 @@
--- What a head announces: how long a body follows it, and whether the connection ends after the reply.
-use Rattle.std.specs.Prelude.{ℕ, ◌==◌, ◌&&◌, ◌||◌, Bool, true, false, not, List, [], ◌∷◌, length, map, codes, nat_lt, nat_le, if◌then◌else◌}
+-- What a head announces: how long a body follows it, and whether the connection ends after the
+-- reply.
+use Rattle.std.specs.Prelude.{ℕ, ◌==◌, ◌&&◌, ◌||◌, Bool, not, List, [], ◌∷◌, length}
+use Rattle.std.specs.Prelude.{map, codes, nat_lt, nat_le, if◌then◌else◌}
 use Rattle.std.specs.List.{flat_map, list_any, slice_split}
 use Rattle.std.specs.Str.{bytes_eq, str_eq_ignore_ascii_case, all_ascii_digits}
 use Rattle.std.specs.Str.Parse.{digits_value}
@@ -56,7 +58,8 @@ is_close element = str_eq_ignore_ascii_case (trim_ows element) (codes "close")
 abbrev pub has_close : List ℕ → Bool
 has_close value = list_any is_close (slice_split (λ b. b == 44) value)
 
--- The connection ends after the reply: to a method that isn't POST, to HTTP/1.0, or where a Connection header says so
--- (RFC 9112, section 9.6).
+-- The connection ends after the reply: to a method that isn't POST, to HTTP/1.0, or where a
+-- Connection header says so (RFC 9112, section 9.6).
 abbrev pub closes_after : RequestHead → Bool
-closes_after h = not (is_post h) || h.minor == 0 || list_any has_close (values_in (codes "connection") h)
+closes_after h =
+    not (is_post h) || h.minor == 0 || list_any has_close (values_in (codes "connection") h)

@@ -15,7 +15,8 @@ IsFound Again values = 2 ≤ length values
 -- what fields have under each name that is read
 pub record AreFound (found : Fields) (fields : List (List ℕ × List ℕ)) : Type 0 where
   pub content_length : IsFound found.content_length (values_of (codes "content-length") fields)
-  pub transfer_encoding : IsFound found.transfer_encoding (values_of (codes "transfer-encoding") fields)
+  pub transfer_encoding : IsFound found.transfer_encoding
+      (values_of (codes "transfer-encoding") fields)
   pub closes : found.closes ≡ list_any has_close (values_of (codes "connection") fields)
   pub authorization : IsFound found.authorization (values_of (codes "authorization") fields)
   pub update_token : IsFound found.update_token (values_of (codes "update-token") fields)

@@ -1,5 +1,6 @@
--- The lines of a head (RFC 9112, section 2.2): lines end with LF, a CR before it belongs to the line's end, and the
--- head ends with the first empty line behind its first line. Empty lines before the first one are passed over.
+-- The lines of a head (RFC 9112, section 2.2): lines end with LF, a CR before it belongs to the
+-- line's end, and the head ends with the first empty line behind its first line. Empty lines before
+-- the first one are passed over.
 use Rattle.std.specs.Prelude.{◌≡◌, ◌≢◌, ℕ, ◌⊎◌, List, [], ◌∷◌, ◌++◌, length}
 use Rattle.std.specs.List.{flat_map, AllByRecursion}
 
@@ -26,7 +27,8 @@ pub record IsHeadText (bytes : List ℕ) (count : ℕ) : Type 0 where
   pub first : List ℕ
   pub headers : List (List ℕ)
   pub last : List ℕ
-  pub lines : bytes ≡ lines_bytes before ++ (line_bytes first ++ (lines_bytes headers ++ line_bytes last))
+  pub lines : bytes
+      ≡ lines_bytes before ++ (line_bytes first ++ (lines_bytes headers ++ line_bytes last))
   pub before_empty : AllByRecursion IsEmptyText before
   pub first_filled : IsFilledText first
   pub headers_filled : AllByRecursion IsFilledText headers

@@ -1,5 +1,6 @@
 -- What a wire holds between two calls, and what a call answers.
-use Rattle.std.specs.Prelude.{◌≡◌, ℕ, ◌+◌, ◌≤◌, List, [], ◌++◌, length, Option, Some, None, Result, Ok, Err, is_ok}
+use Rattle.std.specs.Prelude.{◌≡◌, ℕ, ◌+◌, ◌≤◌, List, [], ◌++◌, length, Option, Some, None, Result}
+use Rattle.std.specs.Prelude.{Ok, Err, is_ok}
 use Rattle.outside.specs.Bytes.{Gave, IsEnd}
 use Rattle.outside.specs.Ends.{Incoming}
 use Rattle.fault_counts.specs.Causes.{Rose}
@@ -15,11 +16,12 @@ use Rattle.http_wire.specs.declared.message.WireFault.TheVariants.{CutShort, Rea
 abbrev pub message_limit : ℕ
 message_limit = head_limit + body_limit
 
--- The answer to a stream of bytes that were held before the call or read in it, with what the link has left then and
--- what is held then.
+-- The answer to a stream of bytes that were held before the call or read in it, with what the link
+-- has left then and what is held then.
 abbrev pub IsAnswer : List ℕ → Result (Option Message) WireFault → Option (List ℕ) → List ℕ → Type 0
 -- the message stands in front, and what follows it is held
-IsAnswer stream (Ok (Some m)) left held = (bytes : List ℕ) × IsMessage bytes m × (stream ≡ bytes ++ held)
+IsAnswer stream (Ok (Some m)) left held =
+    (bytes : List ℕ) × IsMessage bytes m × (stream ≡ bytes ++ held)
 -- nothing is left
 IsAnswer stream (Ok None) left held = (stream ≡ []) × (held ≡ []) × IsEnd left
 -- the input ended where a message isn't whole
@@ -36,9 +38,11 @@ CountsRead before (Ok value) now = now ≡ before
 CountsRead before (Err ReadFault) now = (before ≤ now) × Rose before now
 CountsRead before (Err fault) now = now ≡ before
 
--- A call on an open wire: what it read, and what it answered to that behind what was held. A fault closes the wire, and
--- nothing else does. Nothing is read where what is held decides, and never more than a message.
-pub record Reading (before : WireState) (had : Incoming) (result : Result (Option Message) WireFault) (left : Incoming) (now : WireState) : Type 0 where
+-- A call on an open wire: what it read, and what it answered to that behind what was held. A fault
+-- closes the wire, and nothing else does. Nothing is read where what is held decides, and never
+-- more than a message.
+pub record Reading (before : WireState) (had : Incoming)
+    (result : Result (Option Message) WireFault) (left : Incoming) (now : WireState) : Type 0 where
   pub got : List ℕ
   pub gave : Gave had.left got left.left
   pub answer : IsAnswer (before.held ++ got) result left.left now.held

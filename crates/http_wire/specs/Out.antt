@@ -2,7 +2,10 @@
 use Rattle.std.specs.Prelude.{ℕ, List, ◌++◌, true, codes, decimal}
 use Rattle.call_forms.specs.ReplyBytes.{plain_reply}
 use Rattle.http_wire.specs.declared.message.WireFault.{WireFault}
-use Rattle.http_wire.specs.declared.message.WireFault.TheVariants.{HeadTooLong, TooManyHeaders, BadHead, NoLength, TwoLengths, TransferCoded, BodyTooLong, CutShort, ReadFault, Memory}
+use Rattle.http_wire.specs.declared.message.WireFault.TheVariants.{HeadTooLong, TooManyHeaders}
+use Rattle.http_wire.specs.declared.message.WireFault.TheVariants.{BadHead, NoLength, TwoLengths}
+use Rattle.http_wire.specs.declared.message.WireFault.TheVariants.{TransferCoded, BodyTooLong}
+use Rattle.http_wire.specs.declared.message.WireFault.TheVariants.{CutShort, ReadFault, Memory}
 
 -- a fault's number
 abbrev pub fault_number : WireFault → ℕ
@@ -33,7 +36,8 @@ fault_name Memory = codes "Memory"
 -- why no more is read
 abbrev pub farewell_text : WireFault → List ℕ
 farewell_text fault =
-    codes "wire " ++ (decimal (fault_number fault) ++ (codes " " ++ (fault_name fault ++ codes "\n")))
+    codes "wire "
+    ++ (decimal (fault_number fault) ++ (codes " " ++ (fault_name fault ++ codes "\n")))
 
 -- the reply that says so
 abbrev pub farewell_bytes : WireFault → List ℕ

@@ -1,5 +1,7 @@
--- The code's own words, which private contracts alone cite: what the steps of reading a message leave and answer.
-use Rattle.std.specs.Prelude.{◌≡◌, ℕ, ◌+◌, ◌-◌, ◌<◌, ◌≤◌, List, [], ◌++◌, length, take, drop, Option, Some, None, Result, Ok, Err, IfOk, IfErr}
+-- The code's own words, which private contracts alone cite: what the steps of reading a message
+-- leave and answer.
+use Rattle.std.specs.Prelude.{◌≡◌, ℕ, ◌+◌, ◌-◌, ◌<◌, ◌≤◌, List, [], ◌++◌, length, take, drop}
+use Rattle.std.specs.Prelude.{Option, Some, None, Result, Ok, Err, IfOk, IfErr}
 use Rattle.std.specs.Result.{result_unwrap_or}
 use Rattle.std.specs.Global.{Vec}
 use Rattle.outside.specs.Bytes.{Gave, IsEnd}
@@ -10,7 +12,8 @@ use Rattle.http_wire.specs.Stream.{HasFault, IsUndecided}
 use Rattle.http_wire.specs.Held.{CountsRead}
 use Rattle.http_wire.specs.declared.head_scan.HeadEnd.{HeadEnd}
 use Rattle.http_wire.specs.declared.message.WireFault.{WireFault}
-use Rattle.http_wire.specs.declared.message.WireFault.TheVariants.{HeadTooLong, CutShort, ReadFault, Memory}
+use Rattle.http_wire.specs.declared.message.WireFault.TheVariants.{HeadTooLong, CutShort, ReadFault}
+use Rattle.http_wire.specs.declared.message.WireFault.TheVariants.{Memory}
 
 -- what one read gave into a room from a place on
 abbrev pub given_at : ℕ → Result ℕ WireFault → List ℕ → List ℕ
@@ -18,7 +21,8 @@ given_at at (Ok count) room = take count (drop at room)
 given_at at (Err e) room = []
 
 -- one read into a room from a place on
-pub record ReadsAt (had : Incoming) (at : ℕ) (room : List ℕ) (result : Result ℕ WireFault) (now : List ℕ) (left : Incoming) : Type 0 where
+pub record ReadsAt (had : Incoming) (at : ℕ) (room : List ℕ) (result : Result ℕ WireFault)
+    (now : List ℕ) (left : Incoming) : Type 0 where
   pub bound : IfOk result (λ n. at + n ≤ length now)
   pub kept : take at now ≡ take at room
   pub gave : Gave had.left (given_at at result now) left.left
@@ -33,7 +37,8 @@ pub record IsRead (held : List ℕ) (had : Incoming) (now : List ℕ) (left : In
   pub behind : now ≡ held ++ got
 
 -- one read, of as many bytes as it answers
-pub record Fills (held : List ℕ) (had : Incoming) (result : Result ℕ WireFault) (now : List ℕ) (left : Incoming) : Type 0 where
+pub record Fills (held : List ℕ) (had : Incoming) (result : Result ℕ WireFault)
+    (now : List ℕ) (left : Incoming) : Type 0 where
   pub read : IsRead held had now left
   pub many : length read.got ≡ result_unwrap_or result 0
   pub at_end : IfOk result (λ n. n ≡ 0 → IsEnd left.left)
@@ -50,23 +55,29 @@ IsHeadAnswer bytes left (Err ReadFault) = IsUndecided bytes
 IsHeadAnswer bytes left (Err fault) = ⊥
 
 -- reads until the head in front has ended, and none where what is held decides
-pub record FindsHead (held : List ℕ) (had : Incoming) (result : Result (Option HeadEnd) WireFault) (now : List ℕ) (left : Incoming) : Type 0 where
+pub record FindsHead (held : List ℕ) (had : Incoming) (result : Result (Option HeadEnd) WireFault)
+    (now : List ℕ) (left : Incoming) : Type 0 where
   pub read : IsRead held had now left
   pub answer : IsHeadAnswer now left.left result
   pub short : length now ≤ head_limit
   pub faults : CountsRead had.faults result left.faults
   pub must_read : ¬ (IsUndecided held) → (now ≡ held) × (left ≡ had)
 
--- What taking a body of so many bytes from behind a head of so many answers, where the stream is all that is there.
-abbrev pub IsBodyAnswer : List ℕ → ℕ → ℕ → List ℕ → Option (List ℕ) → Result (Vec ℕ) WireFault → Type 0
-IsBodyAnswer stream head len now left (Ok body) = (length body.items ≡ len) × (stream ≡ take head stream ++ (body.items ++ now))
-IsBodyAnswer stream head len now left (Err (CutShort have)) = (have ≡ length stream) × (length stream < head + len) × IsEnd left
+-- What taking a body of so many bytes from behind a head of so many answers, where the stream is
+-- all that is there.
+abbrev pub IsBodyAnswer : List ℕ → ℕ → ℕ → List ℕ → Option (List ℕ)
+    → Result (Vec ℕ) WireFault → Type 0
+IsBodyAnswer stream head len now left (Ok body) =
+    (length body.items ≡ len) × (stream ≡ take head stream ++ (body.items ++ now))
+IsBodyAnswer stream head len now left (Err (CutShort have)) =
+    (have ≡ length stream) × (length stream < head + len) × IsEnd left
 IsBodyAnswer stream head len now left (Err ReadFault) = length stream < head + len
 IsBodyAnswer stream head len now left (Err Memory) = Unit {0}
 IsBodyAnswer stream head len now left (Err fault) = ⊥
 
 -- reads what a body lacks, and nothing where it is held
-pub record TakesBody (held : List ℕ) (had : Incoming) (head len : ℕ) (result : Result (Vec ℕ) WireFault) (now : List ℕ) (left : Incoming) : Type 0 where
+pub record TakesBody (held : List ℕ) (had : Incoming) (head len : ℕ)
+    (result : Result (Vec ℕ) WireFault) (now : List ℕ) (left : Incoming) : Type 0 where
   pub got : List ℕ
   pub gave : Gave had.left got left.left
   pub answer : IsBodyAnswer (held ++ got) head len now left.left result
@@ -75,14 +86,17 @@ pub record TakesBody (held : List ℕ) (had : Incoming) (head len : ℕ) (result
   pub must_read : head + len ≤ length held → left ≡ had
 
 -- What filling a body answers that lacked all but so many bytes behind a head of so many.
-abbrev pub IsFillAnswer : List ℕ → List ℕ → ℕ → ℕ → List ℕ → Option (List ℕ) → {T : Type 0} → Result T WireFault → Type 0
+abbrev pub IsFillAnswer : List ℕ → List ℕ → ℕ → ℕ → List ℕ → Option (List ℕ)
+    → {T : Type 0} → Result T WireFault → Type 0
 IsFillAnswer body got stored head now left (Ok done) = now ≡ take stored body ++ got
-IsFillAnswer body got stored head now left (Err (CutShort have)) = (have ≡ head + (stored + length got)) × (stored + length got < length body) × IsEnd left
+IsFillAnswer body got stored head now left (Err (CutShort have)) =
+    (have ≡ head + (stored + length got)) × (stored + length got < length body) × IsEnd left
 IsFillAnswer body got stored head now left (Err ReadFault) = stored + length got < length body
 IsFillAnswer body got stored head now left (Err fault) = ⊥
 
 -- reads what a body lacks
-pub record FillsBody {T : Type 0} (body : List ℕ) (had : Incoming) (stored head : ℕ) (result : Result T WireFault) (now : List ℕ) (left : Incoming) : Type 0 where
+pub record FillsBody {T : Type 0} (body : List ℕ) (had : Incoming) (stored head : ℕ)
+    (result : Result T WireFault) (now : List ℕ) (left : Incoming) : Type 0 where
   pub got : List ℕ
   pub gave : Gave had.left got left.left
   pub answer : IsFillAnswer body got stored head now left.left result

@@ -1,5 +1,7 @@
--- What a message says: the call that its target names, two of its headers, its body, and whether it closes.
-use Rattle.std.specs.Prelude.{◌≡◌, ℕ, ◌⊎◌, Bool, true, false, List, [], ◌∷◌, ◌++◌, codes, IsTrue, Option, Some, None}
+-- What a message says: the call that its target names, two of its headers, its body, and whether it
+-- closes.
+use Rattle.std.specs.Prelude.{◌≡◌, ℕ, ◌⊎◌, Bool, true, false, List, [], ◌∷◌, ◌++◌, codes, IsTrue}
+use Rattle.std.specs.Prelude.{Option, Some, None}
 use Rattle.std.specs.Str.{str_eq_ignore_ascii_case}
 use Rattle.httparse.specs.Grammar.{RequestHead}
 use Rattle.http_routes.specs.Calls.{IsCall}
@@ -15,7 +17,8 @@ IsTheText Holds None = (text : List ℕ) → ¬ (Holds text)
 abbrev pub IsAlone : List (List ℕ) → List ℕ → Type 0
 IsAlone values value = values ≡ value ∷ []
 
--- The value is the scheme `Bearer`, in any case of its letters, one space, and the token (RFC 6750, section 2.1).
+-- The value is the scheme `Bearer`, in any case of its letters, one space, and the token (RFC 6750,
+-- section 2.1).
 pub record IsBearerValue (value token : List ℕ) : Type 0 where
   pub scheme : List ℕ
   pub parts : value ≡ scheme ++ 32 ∷ token
@@ -27,8 +30,8 @@ pub record IsBearer (values : List (List ℕ)) (token : List ℕ) : Type 0 where
   pub alone : IsAlone values value
   pub has_token : IsBearerValue value token
 
--- The service and the method of a target: those that it names. A target that names no call is itself the method, of no
--- service, and so is each target of a method that isn't POST.
+-- The service and the method of a target: those that it names. A target that names no call is
+-- itself the method, of no service, and so is each target of a method that isn't POST.
 abbrev pub IsNamed : Bool → List ℕ → List ℕ → List ℕ → Type 0
 IsNamed true target service method =
     IsCall target service method

@@ -1,8 +1,10 @@
--- The code's own words, which private contracts alone cite: the search for a head's end, byte by byte. That it finds the
--- ends of heads is proved in proofs/.
-use Rattle.std.specs.Prelude.{◌≡◌, ℕ, ◌+◌, ◌≤◌, ◌==◌, if◌then◌else◌, List, [], ◌∷◌, ◌++◌, length, Option, Some, None}
+-- The code's own words, which private contracts alone cite: the search for a head's end, byte by
+-- byte. That it finds the ends of heads is proved in proofs/.
+use Rattle.std.specs.Prelude.{◌≡◌, ℕ, ◌+◌, ◌≤◌, ◌==◌, if◌then◌else◌, List, [], ◌∷◌, ◌++◌, length}
+use Rattle.std.specs.Prelude.{Option, Some, None}
 use Rattle.http_wire.specs.declared.head_scan.Place.{Place}
-use Rattle.http_wire.specs.declared.head_scan.Place.TheVariants.{Before, BeforeCr, FirstLine, LineStart, LineCr, HeaderLine}
+use Rattle.http_wire.specs.declared.head_scan.Place.TheVariants.{Before, BeforeCr, FirstLine}
+use Rattle.http_wire.specs.declared.head_scan.Place.TheVariants.{LineStart, LineCr, HeaderLine}
 use Rattle.http_wire.specs.declared.head_scan.Step.{Step}
 use Rattle.http_wire.specs.declared.head_scan.Step.TheVariants.{To, EndsLine, EndsHead}
 use Rattle.http_wire.specs.declared.head_scan.Progress.{Progress}

@@ -1,5 +1,6 @@
 -- A stream as messages one after the other, and what follows them.
-use Rattle.std.specs.Prelude.{◌≡◌, ℕ, ◌+◌, ◌==◌, ◌≤◌, ◌||◌, ◌⊎◌, Bool, false, List, [], ◌∷◌, ◌++◌, length, Option, Some, None}
+use Rattle.std.specs.Prelude.{◌≡◌, ℕ, ◌+◌, ◌==◌, ◌≤◌, ◌||◌, ◌⊎◌, Bool, false, List, [], ◌∷◌, ◌++◌}
+use Rattle.std.specs.Prelude.{length, Option, Some, None}
 use Rattle.std.specs.Bool.{MatchBool}
 use Rattle.httparse.specs.Grammar.{RequestHead, IsRequestHead, print_request}
 use Rattle.http_wire.specs.Head.{IsHeadText, head_limit}
@@ -31,11 +32,12 @@ pub record IsMessage (bytes : List ℕ) (m : Message) : Type 0 where
 
 -- ---- faults
 
--- The text of a head of so many header lines is this head of the grammar, of HTTP/1.0 or HTTP/1.1. It is none where it has
--- more lines than a head may have.
+-- The text of a head of so many header lines is this head of the grammar, of HTTP/1.0 or HTTP/1.1.
+-- It is none where it has more lines than a head may have.
 abbrev pub IsRead : List ℕ → ℕ → Option RequestHead → Type 0
 IsRead text lines (Some h) = (lines ≤ header_limit) × IsRequestHead h × (text ≡ print_request h)
-IsRead text lines None = lines ≤ header_limit → (h : RequestHead) → IsRequestHead h → ¬ (text ≡ print_request h)
+IsRead text lines None =
+    lines ≤ header_limit → (h : RequestHead) → IsRequestHead h → ¬ (text ≡ print_request h)
 
 -- a head's text within the limit, and what follows it
 pub record Begins (bytes : List ℕ) (f : Front) : Type 0 where
@@ -46,14 +48,17 @@ pub record Begins (bytes : List ℕ) (f : Front) : Type 0 where
 
 -- no front of the bytes is a head's text within the limit
 abbrev pub HasNoFront : List ℕ → Type 0
-HasNoFront bytes = (text rest : List ℕ) (lines : ℕ) → bytes ≡ text ++ rest → length text ≤ head_limit → ¬ (IsHeadText text lines)
+HasNoFront bytes =
+    (text rest : List ℕ) (lines : ℕ) → bytes ≡ text ++ rest → length text ≤ head_limit
+    → ¬ (IsHeadText text lines)
 
 -- what stands in front of the bytes
 abbrev pub IsFront : List ℕ → Option Front → Type 0
 IsFront bytes (Some f) = Begins bytes f
 IsFront bytes None = HasNoFront bytes
 
--- The fault that a stream has by itself: the first of those that are there. A failed read and want of memory are none.
+-- The fault that a stream has by itself: the first of those that are there. A failed read and want
+-- of memory are none.
 pub record HasFault (bytes : List ℕ) (fault : WireFault) : Type 0 where
   pub front : Option Front
   pub is_front : IsFront bytes front
@@ -75,7 +80,8 @@ IsUndecided bytes = (bytes ≡ []) ⊎ HasFault bytes (CutShort (length bytes))
 abbrev pub reply_limit : ℕ
 reply_limit = 1048576
 
--- The connection ends after a reply that says so, and after the last one, where there were so many before it.
+-- The connection ends after a reply that says so, and after the last one, where there were so many
+-- before it.
 abbrev pub closes_at : ℕ → Bool → Bool
 closes_at before close = close || (before + 1 == reply_limit)
 
@@ -83,8 +89,8 @@ closes_at before close = close || (before + 1 == reply_limit)
 abbrev pub closes : ℕ → Message → Bool
 closes before m = closes_at before m.close
 
--- The bytes are these messages one after the other, before which there were so many, and then this end. A message that
--- closes is the last one, whatever follows it.
+-- The bytes are these messages one after the other, before which there were so many, and then this
+-- end. A message that closes is the last one, whatever follows it.
 abbrev pub FramedFrom : ℕ → List ℕ → List Message → End → Type 0
 FramedFrom before bytes [] end = HasEnd bytes end
 FramedFrom before bytes (m ∷ ms) end =
@@ -97,7 +103,9 @@ Framed bytes ms end = FramedFrom 0 bytes ms end
 -- the bytes are these messages one after the other, and nothing else
 abbrev pub Spells : List Message → List ℕ → Type 0
 Spells [] bytes = bytes ≡ []
-Spells (m ∷ ms) bytes = (front : List ℕ) × (rest : List ℕ) × IsMessage front m × (bytes ≡ front ++ rest) × Spells ms rest
+Spells (m ∷ ms) bytes =
+    (front : List ℕ) × (rest : List ℕ) × IsMessage front m × (bytes ≡ front ++ rest)
+    × Spells ms rest
 
 -- none of these messages closes, before which there were so many
 abbrev pub StayOpen : ℕ → List Message → Type 0

@@ -7,7 +7,8 @@ ghost use Rattle.http_wire.specs.Found.{IsFound};
 
 use crate::fields::{Found, alone, is_same_but_case};
 
-/// The token of the one Authorization header. `None` where none stands, two do, or it has another scheme.
+/// The token of the one Authorization header. `None` where none stands, two do, or it has another
+/// scheme.
 pub fn bearer_token<'b>(authorization: Found<'b>) -> Option<&'b [u8]>
     ensures { (values : List (List ℕ)) → IsFound authorization.entry values
         → IsTheText (IsBearer values) (option_map (λ t. t.now) result) }

@@ -10,7 +10,8 @@ use std::alloc::{AllocError, Global};
 
 /// Takes the body of so many bytes from behind a head of so many.
 ///
-/// What the buffer has of it is copied once, and the rest is read right into the body, and no byte behind it.
+/// What the buffer has of it is copied once, and the rest is read right into the body, and no byte
+/// behind it.
 pub fn take_body<L: Link>(
     alloc: Global,
     buffer: &mut Buffer,

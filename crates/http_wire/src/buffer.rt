@@ -27,7 +27,8 @@ impl Model for Buffer {
 
     ghost view = { λ b. slice_range b.room.items b.from b.to };
 
-    ghost invariant = { λ b. (b.from ≤ b.to) × (b.to ≤ length b.room.items) × (length b.room.items ≡ 16384) };
+    ghost invariant = { λ b. (b.from ≤ b.to) × (b.to ≤ length b.room.items)
+        × (length b.room.items ≡ 16384) };
 }
 
 impl Buffer {
@@ -75,7 +76,8 @@ impl Buffer {
     }
 }
 
-/// Moves the bytes that wait to the front where no room is left behind them, and answers where they are.
+/// Moves the bytes that wait to the front where no room is left behind them, and answers where they
+/// are.
 fn with_room_behind(room: &mut [u8], from: usize, to: usize) -> (usize, usize)
     requires ordered { from ≤ to }
     requires within { to ≤ length room.old }

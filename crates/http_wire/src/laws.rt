@@ -38,8 +38,8 @@ pub fn there_is_a_reading(stream: &[u8]) -> End
     }
 }
 
-/// Messages that stand in front of a stream, none of which closes, stand in front of its messages, and the other ones are
-/// those of the rest.
+/// Messages that stand in front of a stream, none of which closes, stand in front of its messages,
+/// and the other ones are those of the rest.
 pub fn front_of_reading()
     ensures front { (text rest : List ℕ) (ms ns : List Message) (e : End) → Spells ms text
         → StayOpen 0 ms → Framed (text ++ rest) ns e

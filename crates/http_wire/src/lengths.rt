@@ -1,5 +1,6 @@
 //! The length of body that a head's fields announce, or their first fault.
-ghost use Rattle.std.specs.Prelude.{◌≡◌, ◌≤◌, ◌<◌, ◌+◌, ◌*◌, ◌^◌, ℕ, ◌&&◌, true, false, not, length, List, codes, nat_lt, IsTrue, MatchResult, None, Some};
+ghost use Rattle.std.specs.Prelude.{◌≡◌, ◌≤◌, ◌<◌, ◌+◌, ◌*◌, ◌^◌, ℕ, ◌&&◌, true, false, not};
+ghost use Rattle.std.specs.Prelude.{length, List, codes, nat_lt, IsTrue, MatchResult, None, Some};
 ghost use Rattle.std.specs.Str.{all_ascii_digits};
 ghost use Rattle.std.specs.Str.Parse.{digits_value};
 ghost use Rattle.http_wire.specs.Form.{values_of, is_length, length_of};
@@ -48,7 +49,8 @@ fn number(digits: &[u8]) -> u64
 
 /// Whether one value stands alone and is no length.
 fn is_bad(lengths: Found) -> bool
-    ensures { (values : List (List ℕ)) → IsFound lengths.entry values → result ≡ is_bad_length values }
+    ensures { (values : List (List ℕ)) → IsFound lengths.entry values
+        → result ≡ is_bad_length values }
 {
     match lengths {
         Found::Absent => false,
@@ -58,7 +60,8 @@ fn is_bad(lengths: Found) -> bool
 }
 
 fn is_there(found: Found) -> bool
-    ensures { (values : List (List ℕ)) → IsFound found.entry values → result ≡ is_some_value values }
+    ensures { (values : List (List ℕ)) → IsFound found.entry values
+        → result ≡ is_some_value values }
 {
     match found {
         Found::Absent => false,
@@ -68,7 +71,8 @@ fn is_there(found: Found) -> bool
 }
 
 fn is_again(found: Found) -> bool
-    ensures { (values : List (List ℕ)) → IsFound found.entry values → result ≡ nat_lt 1 (length values) }
+    ensures { (values : List (List ℕ)) → IsFound found.entry values
+        → result ≡ nat_lt 1 (length values) }
 {
     match found {
         Found::Absent => false,

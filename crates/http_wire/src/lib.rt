@@ -1,7 +1,7 @@
 //! HTTP/1.1 on a connection: requests in, replies out.
 //!
-//! `Wire` reads one message after the other from a link, in whatever pieces the bytes come: a head of HTTP/1.0 or
-//! HTTP/1.1, and the body that its Content-Length announces.
+//! `Wire` reads one message after the other from a link, in whatever pieces the bytes come: a head
+//! of HTTP/1.0 or HTTP/1.1, and the body that its Content-Length announces.
 #![tactic(auto)]
 
 mod bearer;

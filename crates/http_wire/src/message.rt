@@ -20,7 +20,8 @@ pub struct Message {
 /// The most replies of one connection. The last of them closes it.
 const REPLY_LIMIT: usize = 1_048_576;
 
-/// Whether the connection ends after a reply to a message with this close flag, before which there were so many.
+/// Whether the connection ends after a reply to a message with this close flag, before which there
+/// were so many.
 pub fn closes(before: usize, close: bool) -> bool
     requires { before < reply_limit }
     ensures { result ≡ closes_at before close }
@@ -48,8 +49,8 @@ pub enum WireFault {
     HeadTooLong,
     /// The head has more than 64 header lines.
     TooManyHeaders,
-    /// No head of HTTP/1.0 or HTTP/1.1 ends where its text does, behind so many bytes; or its one Content-Length isn't
-    /// 1 to 10 digits.
+    /// No head of HTTP/1.0 or HTTP/1.1 ends where its text does, behind so many bytes; or its one
+    /// Content-Length isn't 1 to 10 digits.
     BadHead { end: usize },
     /// A POST has no Content-Length.
     NoLength,

@@ -10,7 +10,8 @@ use crate::reply_head::{Reply, put, reply_head};
 use call_forms::{Answer, Standin};
 use outside::{Link, WriteEnd, write_whole};
 
-/// Writes a reply: its head in one write, and its body in a second one, where the link takes them whole.
+/// Writes a reply: its head in one write, and its body in a second one, where the link takes them
+/// whole.
 pub fn write_response<L: Link>(link: &mut L, answer: &Answer, close: bool) -> Result<(), WriteEnd>
     ensures written { WritesWhole (L.ends link.old).outgoing (answer_bytes answer.now close) result
         (L.ends link.new).outgoing }

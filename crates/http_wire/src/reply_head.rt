@@ -1,7 +1,9 @@
 //! The head of a reply, put together on the stack.
-ghost use Rattle.std.specs.Prelude.{◌≡◌, ◌+◌, ◌≤◌, [], ◌++◌, length, codes, decimal, unwrap_or, Option};
+ghost use Rattle.std.specs.Prelude.{◌≡◌, ◌+◌, ◌≤◌, [], ◌++◌, length, codes, decimal, unwrap_or};
+ghost use Rattle.std.specs.Prelude.{Option};
 ghost use Rattle.http.specs.StatusCode.{reason_phrase};
-ghost use Rattle.call_forms.specs.ReplyBytes.{line, line_end, content_type, token_line, close_line, head_text};
+ghost use Rattle.call_forms.specs.ReplyBytes.{line, line_end, content_type, token_line, close_line};
+ghost use Rattle.call_forms.specs.ReplyBytes.{head_text};
 
 use arrayvec::ArrayVec;
 use http::StatusCode;

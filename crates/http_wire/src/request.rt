@@ -1,5 +1,6 @@
 //! What a head says, or its first fault.
-ghost use Rattle.std.specs.Prelude.{◌≡◌, ◌≤◌, ◌||◌, ◌==◌, not, length, [], Some, IfSome, MatchOption, MatchResult, codes};
+ghost use Rattle.std.specs.Prelude.{◌≡◌, ◌≤◌, ◌||◌, ◌==◌, not, length, [], Some, IfSome};
+ghost use Rattle.std.specs.Prelude.{MatchOption, MatchResult, codes};
 ghost use Rattle.std.specs.Str.{bytes_eq};
 ghost use Rattle.httparse.specs.Grammar.{RequestHead, ReadsRequest};
 ghost use Rattle.httparse.specs.Spans.{IsRequestAt, IsRequestWithin, span_bytes};
@@ -16,7 +17,8 @@ use httparse::spans::{EMPTY_HEADER_SPAN, HeaderSpan, RequestSpans, parse_request
 /// The most header lines that a head has.
 const HEADER_LIMIT: usize = 64;
 
-/// The head that is the whole of these bytes, or `None` where `httparse` reads no head that ends there.
+/// The head that is the whole of these bytes, or `None` where `httparse` reads no head that ends
+/// there.
 fn read_head(head: &[u8], headers: &mut [HeaderSpan]) -> Option<RequestSpans>
     requires { IfSome (head_end head.now) (λ e. e.1 ≤ length headers.old) }
     ensures reads { MatchOption result ((h : RequestHead) → ¬ (ReadsRequest head.now h []))
@@ -39,7 +41,8 @@ fn is_post(head: &[u8], spans: &RequestSpans) -> bool
     spans.method.of(head) == b"POST".as_slice()
 }
 
-/// Whether the connection ends after the reply: to a method that isn't POST, to HTTP/1.0, or where a header says so.
+/// Whether the connection ends after the reply: to a method that isn't POST, to HTTP/1.0, or where
+/// a header says so.
 fn closes_after(is_post: bool, version: u8, says_close: bool) -> bool
     ensures { result ≡ (not is_post || version == 0 || says_close) }
 {

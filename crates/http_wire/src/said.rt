@@ -48,8 +48,8 @@ pub fn with_body(message: Message, body: Vec<u8>) -> Message
     message
 }
 
-/// The call that a POST's target names. A target that names none is itself the method, of no service, and so is each
-/// target of another method.
+/// The call that a POST's target names. A target that names none is itself the method, of no
+/// service, and so is each target of another method.
 fn named<'t>(routes: &Routes, target: &'t str, is_post: bool) -> Call<'t>
     ensures { IsNamed is_post target.now result.service.now result.method.now }
 {

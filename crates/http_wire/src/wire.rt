@@ -54,9 +54,10 @@ impl Wire {
 
     /// The next message, or `None` where the input ended behind the last one.
     ///
-    /// It reads where what it holds decides nothing yet, and never more than a message has; it holds a head at most.
-    /// A fault of the stream is the first that is there, as `WireFault` says them; `ReadFault` comes where a read
-    /// failed, and `Memory` where memory was wanting. Each of them closes the wire.
+    /// It reads where what it holds decides nothing yet, and never more than a message has; it
+    /// holds a head at most. A fault of the stream is the first that is there, as `WireFault` says
+    /// them; `ReadFault` comes where a read failed, and `Memory` where memory was wanting. Each of
+    /// them closes the wire.
     pub fn next<L: Link>(
         &mut self,
         alloc: Global,

@@ -1,9 +1,9 @@
-use Rattle.std.proofs.Common.{◌≡◌, ◌+◌, ◌∙◌, ap, drop, take, subst, sym, arith, length, length-append}
+use Rattle.std.proofs.Common.{◌≡◌, ◌+◌, ◌∙◌, ap, drop, take, subst, sym}
 use Rattle.std.proofs.lemmas.List.{drop-take}
 use Rattle.http_wire.specs.Says.{IsMessageOf}
 use Rattle.http_wire.specs.Stream.{Framed}
 use Rattle.http_wire.specs.declared.message.End.TheVariants.{Closed}
-use Rattle.http_wire.proofs.PlainLaws.{SoFar, so_far_none, so_far_more, so_far_all, so_far_closed}
+use Rattle.http_wire.proofs.PlainLaws.{SoFar, so_far_more, so_far_all, so_far_closed}
 use Rattle.http_wire.proofs.plain.read_stream.Goals as goal
 
 pub messages-preserved : goal.messages-preserved

@@ -1,9 +1,6 @@
-use Rattle.std.proofs.Common.{◌≡◌, ◌≤◌, ◌∙◌, ap, sym, subst, length, arith, Err}
-use Rattle.std.specs.Prelude.{MatchResult}
+use Rattle.std.proofs.Common.{◌∙◌, ap, arith, Err}
 use Rattle.std.proofs.lemmas.Result.{err_from_is_err_and}
-use Rattle.http_wire.specs.Faults.{header_limit}
-use Rattle.http_wire.specs.Announced.{IsRequest, IsFaulty}
-use Rattle.http_wire.proofs.AnnouncedLaws.{too_many, bad_head, faulty_fields, request_by}
+use Rattle.http_wire.proofs.AnnouncedLaws.{too_many, faulty_fields, request_by}
 use Rattle.http_wire.proofs.request.read_request.Goals as goal
 
 pub returns-then-lines-gt-HEADER_LIMIT : goal.returns-then-lines-gt-HEADER_LIMIT
