@@ -1,15 +1,14 @@
 -- Contents: what their text decodes to, and that they are read again.
-use Rattle.std.proofs.Common.{◌≡◌, ◌≢◌, ℕ, ◌<◌, ◌≤◌, ◌==◌, Bool, true, false, nat_lt, if◌then◌else◌, List, [], ◌∷◌, length, Option, Some, None, Result, Ok, Err, refl, sym, ap, subst, ◌∙◌, arith}
+use Rattle.std.proofs.Common.{◌≡◌, ◌≢◌, ℕ, ◌≤◌, ◌==◌, Bool, true, false, nat_lt, if◌then◌else◌, List, [], ◌∷◌, length, Some, None, Ok, Err, refl, sym, ap, subst, ◌∙◌, arith}
 use Rattle.base64.specs.Engines.{standard}
-use Rattle.base64.specs.GeneralPurpose.{encode_of, decode_of, decoded_of, IsBytes, IsConsistent}
+use Rattle.base64.specs.GeneralPurpose.{encode_of, decode_of, decoded_of, IsBytes}
 use Rattle.base64.specs.declared.decode.DecodeError.{DecodeError}
 use Rattle.base64.proofs.EngineFacts.{decode_of-encode_of, encode_of-nil}
 use Rattle.base64.proofs.Streams.{decoded_of-ok}
-use Rattle.serde_json.specs.Data.{Data, string}
+use Rattle.serde_json.specs.Data.{string}
 use Rattle.json_fields.specs.Kinds.{empty_text}
 use Rattle.json_fields.specs.Texts.{IsText}
 use Rattle.json_fields.specs.Writing.{IsWritten}
-use Rattle.json_fields.specs.declared.whys.Why.{Why}
 use Rattle.json_fields.specs.declared.whys.Why.TheVariants.{NotBase64, TooLong}
 use Rattle.field_kinds.specs.Contents.{contents_why, contents_why_of, Encodes}
 use Rattle.field_kinds.specs.Texts.{a_string, is_blank}

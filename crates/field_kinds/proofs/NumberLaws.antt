@@ -1,5 +1,5 @@
 -- Whole numbers: digit by digit, up to a bound, and read again.
-use Rattle.std.proofs.Common.{◌≡◌, ℕ, zero, suc, ◌+◌, ◌-◌, ◌*◌, ◌^◌, ◌<◌, ◌≤◌, ◌==◌, ◌&&◌, ◌||◌, not, Bool, true, false, nat_lt, min, if◌then◌else◌, List, [], ◌∷◌, length, get_or, Option, Some, None, Result, Ok, Err, refl, sym, ap, subst, ◌∙◌, arith}
+use Rattle.std.proofs.Common.{◌≡◌, ℕ, zero, suc, ◌+◌, ◌*◌, ◌^◌, ◌<◌, ◌≤◌, ◌==◌, ◌&&◌, Bool, true, false, nat_lt, min, if◌then◌else◌, List, [], ◌∷◌, length, get_or, Some, None, Ok, Err, refl, ap, subst, ◌∙◌, arith}
 use Rattle.std.specs.List.{list_all}
 use Rattle.std.specs.Prelude.{decimal}
 use Rattle.std.specs.Char.{is_ascii_digit, digit_value}
@@ -7,12 +7,12 @@ use Rattle.std.specs.Str.Parse.{AllDigits, digits_value, digits_value_after}
 use Rattle.std.proofs.lemmas.Str.{digit_value_digit}
 use Rattle.std.proofs.lemmas.Str.Parse.{digit_from_value, numerals_by_value, tells_digits}
 use Rattle.std.proofs.lemmas.Fmt.{decimal_digit, decimal_nonempty, digits_decimal, first_decimal, digits_value-decimal}
-use Rattle.serde_json.specs.Data.{Data, Num, unsigned, negative, float, number, string}
+use Rattle.serde_json.specs.Data.{unsigned, number, string}
 use Rattle.json_fields.specs.Faults.{here}
 use Rattle.json_fields.specs.Kinds.{never_empty}
 use Rattle.json_fields.specs.Writing.{IsWritten}
 use Rattle.json_fields.specs.declared.faults.FaultKind.{FaultKind}
-use Rattle.field_kinds.specs.Numbers.{Said, no_number, no_whole, below_zero, says, said, said_text, beyond, is_decimal, a_whole, IsSaid}
+use Rattle.field_kinds.specs.Numbers.{Said, no_number, no_whole, below_zero, says, said, beyond, is_decimal, a_whole, IsSaid}
 use Rattle.field_kinds.specs.Readings.{answer}
 use Rattle.json_fields.specs.declared.faults.FaultKind.TheVariants.{BadValue}
 use Rattle.json_fields.specs.declared.whys.Why.TheVariants.{OutOfRange}

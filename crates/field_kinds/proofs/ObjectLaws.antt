@@ -1,5 +1,5 @@
 -- Objects without members.
-use Rattle.std.proofs.Common.{◌≡◌, ℕ, Bool, true, false, List, [], ◌∷◌, length, refl, arith}
+use Rattle.std.proofs.Common.{◌≡◌, Bool, true, false, List, [], ◌∷◌, length, refl, arith}
 use Rattle.std.specs.Bool.{IsTrue}
 use Rattle.field_kinds.specs.Properties.{no_members_in}
 use Rattle.serde_json.proofs.Views.{Entry}

@@ -11,7 +11,8 @@ most_of_contents = 1048576
 
 abbrev pub contents_why_of : Option (List ℕ) → Option Why
 contents_why_of None = Some NotBase64
-contents_why_of (Some bytes) = if nat_lt most_of_contents (length bytes) then Some (TooLong (length bytes)) else None
+contents_why_of (Some bytes) =
+    if nat_lt most_of_contents (length bytes) then Some (TooLong (length bytes)) else None
 
 -- A text that no bytes encode to is refused first, and then one that encodes too many.
 abbrev pub contents_why : List ℕ → Option Why

@@ -21,10 +21,13 @@ digit_place text = option_map (λ n. n + 7) (position (λ b. not (is_lower_hex b
 
 -- the first wrong place: in the front, then in the digits, then at the end
 abbrev pub wrong_place : List ℕ → Option ℕ
-wrong_place text = option_or (literal_bad_place (codes "sha256:") (take 7 text)) (option_or (digit_place text) (end_place text))
+wrong_place text =
+    option_or (literal_bad_place (codes "sha256:") (take 7 text))
+    (option_or (digit_place text) (end_place text))
 
 -- one part of 71 bytes: that it is empty, then that it is too long, then its first wrong place
 abbrev pub hash_why : List ℕ → Option Why
 hash_why text =
     if length text == 0 then Some Empty
-    else (if nat_lt 71 (length text) then Some (TooLong (length text)) else option_map BadByte (wrong_place text))
+    else (if nat_lt 71 (length text) then Some (TooLong (length text))
+    else option_map BadByte (wrong_place text))

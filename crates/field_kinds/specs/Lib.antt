@@ -9,3 +9,4 @@ pub mod Contents
 pub mod Hashes
 pub mod OutsideProfile
 pub mod Properties
+pub mod Filled

@@ -1,5 +1,5 @@
 -- Whole numbers: what a JSON value says of one, and which of them are within a bound.
-use Rattle.std.specs.Prelude.{◌≡◌, ℕ, Bool, true, false, not, ◌&&◌, ◌||◌, ◌==◌, nat_lt, if◌then◌else◌, List, [], ◌∷◌, length, Option, Some, None, IsTrue}
+use Rattle.std.specs.Prelude.{◌≡◌, ℕ, Bool, false, not, ◌&&◌, ◌||◌, ◌==◌, nat_lt, if◌then◌else◌, List, [], ◌∷◌, length, Option, Some, None}
 use Rattle.std.specs.List.{list_all}
 use Rattle.std.specs.Char.{is_ascii_digit}
 use Rattle.std.specs.Str.Parse.{digits_value}
@@ -9,7 +9,8 @@ use Rattle.json_fields.specs.declared.faults.FieldFault.{FieldFault}
 use Rattle.json_fields.specs.declared.faults.FaultKind.TheVariants.{WrongKind, BadValue}
 use Rattle.json_fields.specs.declared.whys.Why.TheVariants.{NotWhole, Negative, OutOfRange}
 
--- what a value says of a whole number: nothing, a number that isn't whole, one below zero, or this one
+-- what a value says of a whole number: nothing, a number that isn't whole, one below zero, or this
+-- one
 pub data Said : Type 0 where
   no_number : Said
   no_whole : Said
@@ -28,7 +29,8 @@ said_below n = if n == 0 then says 0 else below_zero
 -- `-` and a decimal text
 abbrev pub said_behind_minus : List ℕ → Said
 said_behind_minus [] = no_number
-said_behind_minus (b ∷ bs) = if b == 45 && is_decimal bs then said_below (digits_value 10 bs) else no_number
+said_behind_minus (b ∷ bs) =
+    if b == 45 && is_decimal bs then said_below (digits_value 10 bs) else no_number
 
 -- what a text says: the number that it writes in decimal, of any size
 abbrev pub said_text : List ℕ → Said

@@ -1,5 +1,5 @@
 -- How a test ended, by name.
-use Rattle.std.specs.Prelude.{◌≡◌, ℕ, Bool, true, false, ◌||◌, ◌==◌, if◌then◌else◌, List, [], ◌∷◌, length, codes, bytes_eq, Option, Some, None}
+use Rattle.std.specs.Prelude.{◌≡◌, ℕ, Bool, false, ◌||◌, ◌==◌, if◌then◌else◌, List, [], ◌∷◌, length, codes, bytes_eq, Option, Some, None}
 use Rattle.serde_json.specs.Data.{Data, null, boolean, number, string, array, object}
 use Rattle.names_realms.specs.declared.states.Status.{Status}
 use Rattle.names_realms.specs.declared.states.Status.TheVariants.{Pass, Fail, Crash, Abort, Skip}
@@ -11,7 +11,8 @@ use Rattle.json_fields.specs.declared.whys.Why.TheVariants.{Unknown}
 -- Each name with what it names.
 abbrev pub names_of_statuses : List (List ℕ × Status)
 names_of_statuses =
-    (codes "PASS", Pass) ∷ (codes "FAIL", Fail) ∷ (codes "CRASH", Crash) ∷ (codes "ABORT", Abort) ∷ (codes "SKIP", Skip) ∷ []
+    (codes "PASS", Pass) ∷ (codes "FAIL", Fail) ∷ (codes "CRASH", Crash) ∷ (codes "ABORT", Abort)
+    ∷ (codes "SKIP", Skip) ∷ []
 
 -- what a table has under a name
 abbrev pub looked_up : {A : Type 0} → List ℕ → List (List ℕ × A) → Option A

@@ -1,5 +1,5 @@
 -- Texts with a limit.
-use Rattle.std.specs.Prelude.{◌≡◌, ℕ, Bool, true, not, ◌&&◌, ◌==◌, nat_lt, if◌then◌else◌, List, length, Option, Some, None, option_map}
+use Rattle.std.specs.Prelude.{ℕ, Bool, true, not, ◌&&◌, ◌==◌, nat_lt, if◌then◌else◌, List, length, Option, Some, option_map}
 use Rattle.std.specs.List.{position}
 use Rattle.serde_json.specs.Data.{Data, null, boolean, number, string, array, object}
 use Rattle.json_fields.specs.Faults.{here}
@@ -18,10 +18,12 @@ a_string why (string s) = bad_value (why s)
 a_string why (array ds) = Some (here WrongKind)
 a_string why (object ms) = Some (here WrongKind)
 
--- At most so many bytes, each of them allowed: a text is too long, or else its first byte that isn't allowed is bad.
+-- At most so many bytes, each of them allowed: a text is too long, or else its first byte that
+-- isn't allowed is bad.
 abbrev pub limited_why : ℕ → (ℕ → Bool) → List ℕ → Option Why
 limited_why most allowed text =
-    if nat_lt most (length text) then Some (TooLong (length text)) else option_map BadByte (position (λ b. not (allowed b)) text)
+    if nat_lt most (length text) then Some (TooLong (length text))
+    else option_map BadByte (position (λ b. not (allowed b)) text)
 
 -- which bytes are allowed: all, those that print, and those that print but for the space
 abbrev pub any_byte : ℕ → Bool
@@ -33,7 +35,8 @@ printed b = nat_lt 31 b && nat_lt b 127
 abbrev pub inked : ℕ → Bool
 inked b = nat_lt 32 b && nat_lt b 127
 
--- the limits in bytes: of a summary or explanation, of an error's message, of a content type, and of a request id
+-- the limits in bytes: of a summary or explanation, of an error's message, of a content type, and
+-- of a request id
 abbrev pub most_of_html : ℕ
 most_of_html = 4096
 

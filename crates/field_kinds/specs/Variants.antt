@@ -1,11 +1,11 @@
 -- Variants: `{"def":{key:value}}`.
-use Rattle.std.specs.Prelude.{◌≡◌, ℕ, Bool, true, false, ◌&&◌, if◌then◌else◌, List, [], ◌∷◌, codes, Option, Some, None, is_some, unwrap_or, IsPermutation}
+use Rattle.std.specs.Prelude.{Bool, true, ◌&&◌, if◌then◌else◌, List, [], ◌∷◌, codes, Option, Some, None, is_some, unwrap_or, IsPermutation, All}
 use Rattle.serde_json.specs.Data.{Data, null, boolean, number, string, array, object, Members, no_members, member}
 use Rattle.serde_json.specs.Find.{as_str}
 use Rattle.names_realms.specs.declared.pairs.Pair.{Pair}
 use Rattle.names_realms.specs.declared.pairs.PairFault.{PairFault}
 use Rattle.names_realms.specs.declared.pairs.PairFault.TheVariants.{Key, Value, Memory}
-use Rattle.names_realms.specs.Pairs.{pair_fault}
+use Rattle.names_realms.specs.Pairs.{pair_fault, IsPairKey, IsPairValue}
 use Rattle.names_realms.specs.Variants.{IsAscending}
 use Rattle.json_fields.specs.Names.{NameForm, word}
 use Rattle.json_fields.specs.Faults.{here, first}
@@ -76,3 +76,21 @@ pairs_at (Some d) = pairs_in d
 pub record IsVariant (d : Data) (v : List Pair) : Type 0 where
   pub pairs : IsPermutation (pairs_at (set_at def_name d)) v
   pub order : IsAscending v
+
+-- a key and a value of the grammar of pairs
+abbrev pub IsPairOfGrammar : Pair → Type 0
+IsPairOfGrammar p = IsPairKey p.key × IsPairValue p.value
+
+-- each of the pairs is of the grammar
+unfoldable pub AreOfGrammar : List Pair → Type 0
+AreOfGrammar ps = All IsPairOfGrammar ps
+
+-- the object of pairs, each a text under its key
+abbrev pub def_members : List Pair → Members
+def_members [] = no_members
+def_members (p ∷ ps) = member p.key (string p.value) (def_members ps)
+
+-- what is written of a variant; without pairs it has no `def`
+abbrev pub variant_data : List Pair → Data
+variant_data [] = object no_members
+variant_data (p ∷ ps) = object (member def_name.camel (object (def_members (p ∷ ps))) no_members)

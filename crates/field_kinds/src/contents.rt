@@ -18,7 +18,8 @@ use serde_json::Value;
 use std::alloc::{AllocError, Global};
 use std::marker::Model;
 
-/// At most 1,048,576 bytes, which are written in standard base64 with padding (RFC 4648, section 4).
+/// At most 1,048,576 bytes, which are written in standard base64 with padding (RFC 4648, section
+/// 4).
 #[derive(Debug, Drop)]
 pub struct Contents {
     bytes: Bytes,
@@ -54,11 +55,13 @@ fn kept(alloc: Global, bytes: Vec<u8>) -> Result<Contents, ReadFault>
 }
 
 impl Contents {
-    /// The contents of a text. `NotBase64` where no bytes have this encoding, else `TooLong` with their number where they are too many.
+    /// The contents of a text. `NotBase64` where no bytes have this encoding, else `TooLong` with
+    /// their number where they are too many.
     pub fn parse(alloc: Global, text: &[u8]) -> Result<Contents, ReadFault>
         ensures ok { IfOk result (λ c. (contents_why text.now ≡ None) × Encodes text.now c) }
         ensures err { IfErr result (λ e. Says e (bad_value (contents_why text.now))) }
-        ensures spelling { contents_why text.now ≡ Some Why.NotBase64 → (b : List ℕ) → IsBytes b → text.now ≢ encode_of standard b }
+        ensures spelling { contents_why text.now ≡ Some Why.NotBase64 → (b : List ℕ) → IsBytes b
+            → text.now ≢ encode_of standard b }
     {
         match STANDARD.decode(alloc, text) {
             Ok(bytes) => kept(alloc, bytes),

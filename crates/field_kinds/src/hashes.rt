@@ -91,8 +91,8 @@ fn why_refused(text: &[u8]) -> Option<Why>
 }
 
 impl HashText {
-    /// The hash that a text is: `Empty`, else `TooLong` where it has more than 71 bytes, else `BadByte` at the first wrong byte, or at the
-    /// length where the text ends too soon.
+    /// The hash that a text is: `Empty`, else `TooLong` where it has more than 71 bytes, else
+    /// `BadByte` at the first wrong byte, or at the length where the text ends too soon.
     pub fn parse(alloc: Global, text: &str) -> Result<HashText, ReadFault>
         ensures ok { IfOk result (λ h. (h ≡ text.now) × (hash_why text.now ≡ None)) }
         ensures err { IfErr result (λ e. Says e (bad_value (hash_why text.now))) }

@@ -7,10 +7,10 @@ ghost use Rattle.json_fields.specs.declared.faults.FaultKind.TheVariants.{BadVal
 ghost use Rattle.json_fields.specs.declared.whys.Why.TheVariants.{TooMany};
 ghost use Rattle.field_kinds.specs.Lists.{over, too_many, most_names};
 
-use json_fields::{FaultKind, Form, ReadFault, Why};
+use json_fields::{FaultKind, Form, ReadFault, Why, Written};
 use lists::Listed;
 use serde_json::Value;
-use std::alloc::Global;
+use std::alloc::{AllocError, Global};
 use std::marker::{Model, PhantomData};
 
 /// How many elements a list may have.
@@ -63,7 +63,8 @@ impl<T, R: ListRule> LimitedList<T, R> {
 
 /// How many elements a list has, where they are too many.
 fn too_many(most: usize, value: &Value) -> Option<usize>
-    ensures { option_map (λ n. here (BadValue (TooMany n))) result ≡ too_many most (view value.now) }
+    ensures { option_map (λ n. here (BadValue (TooMany n))) result
+        ≡ too_many most (view value.now) }
 {
     match value {
         Value::Array(list) => over(most, list),
@@ -104,5 +105,17 @@ impl<T: Form, R: ListRule> Form for LimitedList<T, R> {
             list,
             rule: PhantomData,
         })
+    }
+}
+
+impl<T: Written, R: ListRule> Written for LimitedList<T, R> {
+    ghost use Rattle.json_fields.specs.Writing.{list_data, is_bare};
+
+    ghost json = { list_data T.json };
+
+    ghost blank = { is_bare };
+
+    fn write(&self, alloc: Global) -> Result<Value, AllocError> {
+        self.list.write(alloc)
     }
 }

@@ -159,7 +159,8 @@ impl Model for PageSize {
 impl PageSize {
     /// The size of a page, or `None` where it is greater than 2^31 - 1.
     pub fn new(value: u32) -> Option<PageSize>
-        ensures { MatchOption result (2147483647 < value) (λ n. (n ≡ value) × (value ≤ 2147483647)) }
+        ensures { MatchOption result (2147483647 < value)
+            (λ n. (n ≡ value) × (value ≤ 2147483647)) }
     {
         if value > 2147483647 {
             return None;

@@ -4,9 +4,9 @@ ghost use Rattle.serde_json.specs.View.{view};
 ghost use Rattle.field_kinds.specs.OutsideProfile.{left_out, an_empty_message, an_empty_text};
 ghost use Rattle.json_fields.specs.Faults.{Says};
 
-use json_fields::{FaultKind, Form, ReadFault, Why};
-use serde_json::Value;
-use std::alloc::Global;
+use json_fields::{FaultKind, Form, ReadFault, Why, Written};
+use serde_json::{Map, Value};
+use std::alloc::{AllocError, Global};
 
 fn left_out(alloc: Global) -> ReadFault
     ensures { Says result left_out }
@@ -14,7 +14,8 @@ fn left_out(alloc: Global) -> ReadFault
     ReadFault::here(alloc, FaultKind::BadValue(Why::OutOfProfile))
 }
 
-/// A message or a mask that the profile leaves out: it may be the empty object or the empty text, else `OutOfProfile`.
+/// A message or a mask that the profile leaves out: it may be the empty object or the empty text,
+/// else `OutOfProfile`.
 #[derive(Debug, Drop)]
 pub struct NoMessage;
 
@@ -50,6 +51,19 @@ impl Form for NoMessage {
     }
 }
 
+impl Written for NoMessage {
+    ghost use Rattle.std.specs.Prelude.{false};
+    ghost use Rattle.serde_json.specs.Data.{object, no_members};
+
+    ghost json = { λ _. object no_members };
+
+    ghost blank = { λ _. false };
+
+    fn write(&self, alloc: Global) -> Result<Value, AllocError> {
+        Ok(Value::Object(Map::new(alloc)))
+    }
+}
+
 /// A text that the profile leaves out: it may be the empty one, else `OutOfProfile`.
 #[derive(Debug, Drop)]
 pub struct NoText;
@@ -78,5 +92,18 @@ impl Form for NoText {
             },
             _ => Err(left_out(alloc)),
         }
+    }
+}
+
+impl Written for NoText {
+    ghost use Rattle.std.specs.Prelude.{false, []};
+    ghost use Rattle.serde_json.specs.Data.{string};
+
+    ghost json = { λ _. string [] };
+
+    ghost blank = { λ _. false };
+
+    fn write(&self, alloc: Global) -> Result<Value, AllocError> {
+        Ok(Value::String(String::new(alloc)))
     }
 }

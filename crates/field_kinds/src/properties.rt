@@ -3,12 +3,13 @@ ghost use Rattle.std.specs.Prelude.{◌≡◌, ◌≤◌, None, length, IfOk, If
 ghost use Rattle.serde_json.specs.View.{view};
 ghost use Rattle.serde_json.specs.Written.{compact_text};
 ghost use Rattle.json_fields.specs.Faults.{Says};
-ghost use Rattle.field_kinds.specs.Properties.{properties_fault};
+ghost use Rattle.json_fields.specs.Kinds.{an_object};
+ghost use Rattle.field_kinds.specs.Properties.{properties_fault, IsKept, value_in};
 
 use crate::trees::{has_float, is_within};
-use json_fields::{FaultKind, Form, ReadFault, Why};
+use json_fields::{FaultKind, Form, ReadFault, Why, Written};
 use serde_json::Value;
-use std::alloc::Global;
+use std::alloc::{AllocError, Global};
 use std::marker::Model;
 
 /// An object as its compact text, of at most 8,192 bytes.
@@ -19,12 +20,13 @@ pub struct Properties {
 
 impl Model for Properties {
     ghost use Rattle.std.specs.Prelude.{◌≤◌, ℕ, List, length, string_bytes};
+    ghost use Rattle.field_kinds.specs.Properties.{IsKept};
 
     ghost Value = { List ℕ };
 
     ghost view = { λ p. string_bytes p.text };
 
-    ghost invariant = { λ p. length (string_bytes p.text) ≤ 8192 };
+    ghost invariant = { λ p. (length (string_bytes p.text) ≤ 8192) × IsKept (string_bytes p.text) };
 }
 
 impl Properties {
@@ -32,6 +34,7 @@ impl Properties {
     pub fn as_str(&self) -> &str
         ensures text { result.now ≡ self.now }
         ensures few { length self.now ≤ 8192 }
+        ensures kept { IsKept self.now }
     {
         self.text.as_str()
     }
@@ -39,6 +42,7 @@ impl Properties {
 
 /// Keeps an object.
 fn kept(alloc: Global, value: &Value) -> Result<Properties, ReadFault>
+    requires { an_object (view value.now) ≡ None }
     ensures ok { IfOk result (λ p. (properties_fault (view value.now) ≡ None)
         × (p ≡ compact_text (view value.now))) }
     ensures err { IfErr result (λ e. Says e (properties_fault (view value.now))) }
@@ -77,5 +81,29 @@ impl Form for Properties {
             Value::Object(_) => kept(alloc, value),
             _ => Err(ReadFault::here(alloc, FaultKind::WrongKind)),
         }
+    }
+}
+
+/// The object of a text that was kept. Such a text is always read, so that only memory may be
+/// wanting.
+fn value_in(alloc: Global, text: &str) -> Result<Value, AllocError>
+    requires { IsKept text.now }
+    ensures { IfOk result (λ v. view v ≡ value_in text.now) }
+{
+    match Value::from_str(alloc, text) {
+        Ok(value) => Ok(value),
+        Err(_) => Err(AllocError),
+    }
+}
+
+impl Written for Properties {
+    ghost use Rattle.field_kinds.specs.Properties.{value_in, is_braces};
+
+    ghost json = { value_in };
+
+    ghost blank = { is_braces };
+
+    fn write(&self, alloc: Global) -> Result<Value, AllocError> {
+        value_in(alloc, self.as_str())
     }
 }

@@ -35,7 +35,8 @@ fn status_name(status: Status) -> &'static str
     }
 }
 
-/// A status by its name. The unspecified one and the empty text count as unset where it must be set.
+/// A status by its name. The unspecified one and the empty text count as unset where it must be
+/// set.
 #[derive(Clone, Copy, Debug, PartialEq, Eq)]
 pub struct StatusName {
     pub status: Status,

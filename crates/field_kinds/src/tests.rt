@@ -1,12 +1,17 @@
-//! Each kind at bodies from the formats: what is told of a refused one, and what is written of one that is read.
+//! Each kind at bodies from the formats: what is told of a refused one, and what is written of one
+//! that is read.
 use crate::{
     ByteSize, ContentType, Contents, Flag, HashText, Html, LimitedList, LimitedText, Message,
-    NoMessage, NoText, PageSize, Properties, QueryNames, RequestId, StatusName, VariantMap,
+    NoMessage, NoText, PageSize, Properties, QueryNames, RequestId, StatusName, VariantMap, laws,
+    optional_filled,
 };
 use json_fields::{
-    BodyFault, FaultKind, Form, InvocationName, ReadFault, Written, path_text, read_body,
+    BodyFault, FaultKind, InvocationName, Name, ReadFault, Tag, Written, path_text, read_body,
+    read_json,
 };
+use lists::Listed;
 use std::alloc::Global;
+use std::process::Abort;
 use std::test::Fail;
 
 #[derive(Clone, Copy)]
@@ -26,101 +31,277 @@ enum Kind {
     Properties,
     NoMessage,
     NoText,
+    Tags,
 }
 
-/// A kind, a body, and what is told of it.
-const BODIES: [(Kind, &str, &str); 38] = [
-    (Kind::Page, "2147483647", "read"),
-    (Kind::Page, "\"2147483648\"", "body OutOfRange"),
-    (Kind::Page, "\"-99999999999999999999999\"", "body Negative"),
+/// A kind, a body, and what is told of it: the path and the fault of a refused one, and else the
+/// compact text of what is written of its value.
+const ROWS: [(Kind, &str, &str); 78] = [
+    (Kind::Page, "2147483647", "2147483647"),
+    (Kind::Page, r#""2147483648""#, "body OutOfRange"),
+    (Kind::Page, r#""-99999999999999999999999""#, "body Negative"),
     (Kind::Page, "-1", "body Negative"),
-    (Kind::Page, "\"-0\"", "read"),
+    (Kind::Page, r#""-0""#, "0"),
     (Kind::Page, "-0", "body NotWhole"),
     (Kind::Page, "1.0", "body NotWhole"),
-    (Kind::Page, "\"1.0\"", "body WrongKind"),
-    (Kind::Page, "\"01\"", "body WrongKind"),
-    (Kind::Page, "\"\"", "body WrongKind"),
-    (Kind::Bytes, "9223372036854775807", "read"),
-    (Kind::Bytes, "\"9223372036854775808\"", "body OutOfRange"),
-    (Kind::Bytes, "99999999999999999999", "body NotWhole"),
-    (Kind::Bytes, "\"99999999999999999999\"", "body OutOfRange"),
-    (Kind::Flag, "\"true\"", "body WrongKind"),
-    (Kind::Status, "\"CRASH\"", "read"),
-    (Kind::Status, "\"pass\"", "body Unknown"),
+    (Kind::Page, "1e3", "body NotWhole"),
+    (Kind::Page, r#""1.0""#, "body WrongKind"),
+    (Kind::Page, r#""01""#, "body WrongKind"),
+    (Kind::Page, r#""+1""#, "body WrongKind"),
+    (Kind::Page, r#""-""#, "body WrongKind"),
+    (Kind::Page, r#""""#, "body WrongKind"),
+    (Kind::Page, "null", "body WrongKind"),
+    (
+        Kind::Bytes,
+        "9223372036854775807",
+        r#""9223372036854775807""#,
+    ),
+    (Kind::Bytes, r#""9223372036854775808""#, "body OutOfRange"),
+    (Kind::Bytes, "18446744073709551615", "body OutOfRange"),
+    (Kind::Bytes, "18446744073709551616", "body NotWhole"),
+    (Kind::Bytes, r#""18446744073709551616""#, "body OutOfRange"),
+    (Kind::Bytes, r#""-1""#, "body Negative"),
+    (Kind::Bytes, r#""0""#, r#""0""#),
+    (Kind::Flag, "true", "true"),
+    (Kind::Flag, "false", "false"),
+    (Kind::Flag, r#""true""#, "body WrongKind"),
+    (Kind::Status, r#""ABORT""#, r#""ABORT""#),
+    (Kind::Status, r#""pass""#, "body Unknown"),
+    (Kind::Status, r#""""#, "body Unknown"),
     (Kind::Status, "1", "body WrongKind"),
-    (Kind::ContentType, "\"text/\\u007f\"", "body BadByte 5"),
-    (Kind::RequestId, "\"a b\"", "body BadByte 1"),
-    (Kind::RequestId, "\"\"", "read"),
+    (Kind::Html, r#""<b>\u0000""#, r#""<b>\u0000""#),
+    (Kind::Html, r#""""#, r#""""#),
+    (Kind::Html, "[]", "body WrongKind"),
+    (Kind::Message, r#""""#, r#""""#),
+    (Kind::ContentType, r#""""#, r#""""#),
+    (Kind::ContentType, r#""text/\u007f""#, "body BadByte 5"),
+    (Kind::RequestId, r#""a b""#, "body BadByte 1"),
+    (Kind::RequestId, r#""!~""#, r#""!~""#),
+    (Kind::RequestId, r#""""#, r#""""#),
+    (
+        Kind::Names,
+        r#"["invocations/b","invocations/a"]"#,
+        r#"["invocations/b","invocations/a"]"#,
+    ),
+    (Kind::Names, "[]", "[]"),
     (Kind::Names, "[5]", "[0] WrongKind"),
-    (Kind::Variant, "[]", "body WrongKind"),
-    (Kind::Variant, "{\"def\":[]}", "def WrongKind"),
+    (Kind::Names, r#"["invocations/b",null]"#, "[1] WrongKind"),
+    (Kind::Names, r#""invocations/b""#, "body WrongKind"),
     (
         Kind::Variant,
-        "{\"def\":{\"A\":\"\",\"b\":null}}",
+        r#"{"def":{"b":"2","a":""}}"#,
+        r#"{"def":{"a":"","b":"2"}}"#,
+    ),
+    (
+        Kind::Variant,
+        r#"{"def":{"a":"1","a":"2"}}"#,
+        r#"{"def":{"a":"2"}}"#,
+    ),
+    (Kind::Variant, r#"{"def":{}}"#, "{}"),
+    (Kind::Variant, r#"{"def":null}"#, "{}"),
+    (Kind::Variant, "{}", "{}"),
+    (Kind::Variant, "[]", "body WrongKind"),
+    (Kind::Variant, "null", "body WrongKind"),
+    (Kind::Variant, r#"{"def":[]}"#, "def WrongKind"),
+    (
+        Kind::Variant,
+        r#"{"def":{"A":"","b":null}}"#,
         "def WrongKind",
     ),
     (
         Kind::Variant,
-        "{\"def\":{\"b\":\"\",\"a/\":\"\"}}",
+        r#"{"def":{"b":"","a/":""}}"#,
         "def BadByte 2",
     ),
-    (Kind::Variant, "{}", "read"),
-    (Kind::Contents, "\"YWJj\"", "read"),
-    (Kind::Contents, "\"YWI\"", "body NotBase64"),
-    (Kind::Contents, "\"YWJ=\"", "body NotBase64"),
-    (Kind::Hash, "\"\"", "body Empty"),
-    (Kind::Hash, "\"sha1:\"", "body BadByte 3"),
-    (Kind::Properties, "{\"a\":[1.5]}", "body NotWhole"),
-    (Kind::Properties, "[]", "body WrongKind"),
-    (Kind::NoMessage, "{}", "read"),
-    (Kind::NoMessage, "{\"a\":1}", "body OutOfProfile"),
-    (Kind::NoText, "{}", "body OutOfProfile"),
-    (Kind::NoText, "\"\"", "read"),
-];
-
-/// A kind, a body as a front, a piece so many times, and an end, and what is told of it.
-const LONG_BODIES: [(Kind, &str, &str, u32, &str, &str); 11] = [
-    (Kind::Html, "\"", "a", 4096, "\"", "read"),
-    (Kind::Html, "\"", "a", 4097, "\"", "body TooLong 4097"),
-    (Kind::Message, "\"", "é", 513, "\"", "body TooLong 1026"),
+    (Kind::Contents, r#""YWI=""#, r#""YWI=""#),
+    (Kind::Contents, r#""""#, r#""""#),
+    (Kind::Contents, r#""YWI""#, "body NotBase64"),
+    (Kind::Contents, r#""YWJ=""#, "body NotBase64"),
+    (Kind::Contents, r#""-_-_""#, "body NotBase64"),
+    (Kind::Contents, "5", "body WrongKind"),
     (
-        Kind::Names,
-        "[\"invocations/a\"",
-        ",\"invocations/a\"",
-        99,
-        "]",
-        "read",
+        Kind::Hash,
+        r#""sha256:ba7816bf8f01cfea414140de5dae2223b00361a396177a9cb410ff61f20015ad""#,
+        r#""sha256:ba7816bf8f01cfea414140de5dae2223b00361a396177a9cb410ff61f20015ad""#,
     ),
-    (Kind::Names, "[5", ",5", 100, "]", "body TooMany 101"),
-    (Kind::Hash, "\"sha256:", "0", 63, "\"", "body BadByte 70"),
-    (Kind::Hash, "\"sha256:", "0", 63, "A\"", "body BadByte 70"),
-    (Kind::Hash, "\"sha256:", "0", 65, "\"", "body TooLong 72"),
-    (Kind::Properties, "{\"a\":\"", "a", 8184, "\"}", "read"),
+    (Kind::Hash, r#""""#, "body Empty"),
+    (Kind::Hash, r#""sha1:""#, "body BadByte 3"),
     (
         Kind::Properties,
-        "{\"a\":\"",
+        r#"{"b" : [1], "a":"x"}"#,
+        r#"{"a":"x","b":[1]}"#,
+    ),
+    (Kind::Properties, "{}", "{}"),
+    (Kind::Properties, r#"{"a":[1.5]}"#, "body NotWhole"),
+    (Kind::Properties, "[]", "body WrongKind"),
+    (Kind::NoMessage, "{}", "{}"),
+    (Kind::NoMessage, "null", "{}"),
+    (Kind::NoMessage, r#""""#, "{}"),
+    (Kind::NoMessage, r#"{"a":1}"#, "body OutOfProfile"),
+    (Kind::NoMessage, "[]", "body OutOfProfile"),
+    (Kind::NoText, r#""""#, r#""""#),
+    (Kind::NoText, "null", r#""""#),
+    (Kind::NoText, r#""a""#, "body OutOfProfile"),
+    (Kind::NoText, "{}", "body OutOfProfile"),
+    (
+        Kind::Tags,
+        r#"[{"value":"v","key":"k"},{"key":"k"}]"#,
+        r#"[{"key":"k","value":"v"},{"key":"k"}]"#,
+    ),
+    (
+        Kind::Tags,
+        r#"[{"key":"k"},{"key":"k","value":null},{"value":"v"}]"#,
+        "[2].key Empty",
+    ),
+    (
+        Kind::Tags,
+        r#"[{"key":"K","value":5}]"#,
+        "[0].key BadByte 0",
+    ),
+    (
+        Kind::Tags,
+        r#"[{"key":"k","value":5}]"#,
+        "[0].value WrongKind",
+    ),
+];
+
+/// A kind, a body as a front, a piece so many times, and an end, and what is told of it; none where
+/// what is written of its value is the body again.
+const LONG_ROWS: [(Kind, &str, &str, u32, &str, Option<&str>); 22] = [
+    (Kind::Html, r#"""#, "a", 4096, r#"""#, None),
+    (
+        Kind::Html,
+        r#"""#,
+        "a",
+        4097,
+        r#"""#,
+        Some("body TooLong 4097"),
+    ),
+    (Kind::Message, r#"""#, "é", 512, r#"""#, None),
+    (
+        Kind::Message,
+        r#"""#,
+        "é",
+        513,
+        r#"""#,
+        Some("body TooLong 1026"),
+    ),
+    (Kind::ContentType, r#"""#, " ", 128, r#"""#, None),
+    (
+        Kind::ContentType,
+        r#"""#,
+        " ",
+        129,
+        r#"""#,
+        Some("body TooLong 129"),
+    ),
+    (Kind::RequestId, r#"""#, "a", 36, r#"""#, None),
+    (
+        Kind::RequestId,
+        r#"""#,
+        "a",
+        37,
+        r#"""#,
+        Some("body TooLong 37"),
+    ),
+    (
+        Kind::Names,
+        r#"["invocations/a""#,
+        r#","invocations/a""#,
+        99,
+        "]",
+        None,
+    ),
+    (Kind::Names, "[5", ",5", 100, "]", Some("body TooMany 101")),
+    (Kind::Variant, r#"{"def":{"a":""#, "a", 256, r#""}}"#, None),
+    (
+        Kind::Variant,
+        r#"{"def":{"b/":"","a":""#,
+        "a",
+        257,
+        r#""}}"#,
+        Some("def TooLong 257"),
+    ),
+    (
+        Kind::Variant,
+        r#"{"def":{"A":""#,
+        "a",
+        257,
+        r#""}}"#,
+        Some("def BadByte 0"),
+    ),
+    (
+        Kind::Hash,
+        r#""sha256:"#,
+        "0",
+        63,
+        r#"""#,
+        Some("body BadByte 70"),
+    ),
+    (
+        Kind::Hash,
+        r#""sha256:"#,
+        "0",
+        63,
+        r#"A""#,
+        Some("body BadByte 70"),
+    ),
+    (
+        Kind::Hash,
+        r#""sha256:"#,
+        "0",
+        65,
+        r#"""#,
+        Some("body TooLong 72"),
+    ),
+    (Kind::Properties, r#"{"a":""#, "a", 8184, r#""}"#, None),
+    (
+        Kind::Properties,
+        r#"{"a":""#,
         "a",
         8185,
-        "\"}",
-        "body TooLong 8193",
+        r#""}"#,
+        Some("body TooLong 8193"),
+    ),
+    (
+        Kind::Properties,
+        r#"{"b":1.5,"a":""#,
+        "a",
+        8185,
+        r#""}"#,
+        Some("body NotWhole"),
+    ),
+    (Kind::Contents, r#"""#, "AAAA", 349525, r#"AA==""#, None),
+    (
+        Kind::Contents,
+        r#"""#,
+        "AAAA",
+        349525,
+        r#"AAA=""#,
+        Some("body TooLong 1048577"),
     ),
     (
         Kind::Contents,
-        "\"",
+        r#"""#,
         "AAAA",
         349526,
-        "\"",
-        "body TooLong 1048578",
+        r#"A""#,
+        Some("body NotBase64"),
     ),
 ];
 
-/// Where and why a body isn't of the kind, as one text: the path, and the fault.
-fn told<T: Form>(alloc: Global, body: &str) -> Result<String, Fail> {
-    match read_body::<T>(alloc, body.as_bytes()) {
-        Ok(_) => Ok(String::from_str(alloc, "read")?),
-        Err(BodyFault::NotJson) => Ok(String::from_str(alloc, "NotJson")?),
-        Err(BodyFault::In(ReadFault::Memory)) => Ok(String::from_str(alloc, "Memory")?),
-        Err(BodyFault::In(ReadFault::Field(fault))) => {
+/// How many lists nest in an object, how many bytes a text beside them has, and what is told of it.
+const NESTED: [(u32, u32, Option<&str>); 3] = [
+    (63, 0, None),
+    (64, 0, Some("body TooDeep")),
+    (64, 8192, Some("body TooLong 8333")),
+];
+
+/// The path of a fault, and the fault.
+fn fault_text(alloc: Global, fault: ReadFault) -> Result<String, Fail> {
+    match fault {
+        ReadFault::Memory => Ok(String::from_str(alloc, "Memory")?),
+        ReadFault::Field(fault) => {
             let mut text = path_text(alloc, fault.path.as_slice())?;
             text.push(' ')?;
             match fault.kind {
@@ -130,6 +311,15 @@ fn told<T: Form>(alloc: Global, body: &str) -> Result<String, Fail> {
             }
             Ok(text)
         }
+    }
+}
+
+/// The compact text of what is written of the value that a body is, or what is told of it.
+fn told<T: Written>(alloc: Global, body: &str) -> Result<String, Fail> {
+    match read_body::<T>(alloc, body.as_bytes()) {
+        Ok(value) => Ok(value.write(alloc)?.to_string(alloc)?),
+        Err(BodyFault::NotJson) => Ok(String::from_str(alloc, "NotJson")?),
+        Err(BodyFault::In(fault)) => fault_text(alloc, fault),
     }
 }
 
@@ -150,107 +340,138 @@ fn told_of(alloc: Global, kind: Kind, body: &str) -> Result<String, Fail> {
         Kind::Properties => told::<Properties>(alloc, body),
         Kind::NoMessage => told::<NoMessage>(alloc, body),
         Kind::NoText => told::<NoText>(alloc, body),
+        Kind::Tags => told::<Listed<Tag>>(alloc, body),
     }
 }
 
-/// A front, a piece so many times, and an end.
-fn repeated(
-    alloc: Global,
-    front: &str,
-    piece: &str,
-    count: u32,
-    end: &str,
-) -> Result<String, Fail> {
-    let mut text = String::from_str(alloc, front)?;
+fn check_row(rt: &impl Abort, alloc: Global, row: &(Kind, &str, &str)) -> Result<(), Fail> {
+    let (kind, body, want) = *row;
+    let is = told_of(alloc, kind, body)?;
+    assert!(rt; is.as_str() == want, "{is} is told of {body}");
+    Ok(())
+}
+
+/// A piece so many times.
+fn push_repeated(text: &mut String, piece: &str, count: u32) -> Result<(), Fail> {
     for _ in 0..count {
         text.push_str(piece)?;
-    }
-    text.push_str(end)?;
-    Ok(text)
-}
-
-/// What is told of an object with lists that nest so deep in it.
-fn told_of_lists(alloc: Global, levels: u32) -> Result<String, Fail> {
-    let front = repeated(alloc, "{\"a\":", "[", levels, "")?;
-    let body = repeated(alloc, front.as_str(), "]", levels, "}")?;
-    told_of(alloc, Kind::Properties, body.as_str())
-}
-
-#[test]
-fn judges_each_kind(rt: HostRuntime) -> Result<(), Fail> {
-    for (kind, body, want) in BODIES {
-        let is = told_of(rt.alloc(), kind, body)?;
-        assert!(rt; is.as_str() == want, "{is}");
-    }
-    for (kind, front, piece, count, end, want) in LONG_BODIES {
-        let body = repeated(rt.alloc(), front, piece, count, end)?;
-        let is = told_of(rt.alloc(), kind, body.as_str())?;
-        assert!(rt; is.as_str() == want, "{is}");
-    }
-    for (levels, want) in [(63, "read"), (64, "body TooDeep")] {
-        let is = told_of_lists(rt.alloc(), levels)?;
-        assert!(rt; is.as_str() == want, "{is}");
     }
     Ok(())
 }
 
-/// A kind, a body, and the compact text of what is written of its value.
-const WRITTEN: [(Kind, &str, &str); 8] = [
-    (Kind::Page, "\"100\"", "100"),
-    (Kind::Bytes, "100", "\"100\""),
-    (Kind::Flag, "true", "true"),
-    (Kind::Status, "\"ABORT\"", "\"ABORT\""),
-    (Kind::Html, "\"<b>\\u0000\"", "\"<b>\\u0000\""),
-    (Kind::RequestId, "\"\"", "\"\""),
-    (Kind::Contents, "\"YWI=\"", "\"YWI=\""),
-    (
-        Kind::Hash,
-        "\"sha256:ba7816bf8f01cfea414140de5dae2223b00361a396177a9cb410ff61f20015ad\"",
-        "\"sha256:ba7816bf8f01cfea414140de5dae2223b00361a396177a9cb410ff61f20015ad\"",
-    ),
-];
-
-/// The compact text of what is written of a value that a body is.
-fn again<T: Written>(alloc: Global, body: &str) -> Result<String, Fail> {
-    let value = read_body::<T>(alloc, body.as_bytes()).map_err(|_| "was refused")?;
-    Ok(value.write(alloc)?.to_string(alloc)?)
+fn check_told(
+    rt: &impl Abort,
+    alloc: Global,
+    kind: Kind,
+    body: &str,
+    want: Option<&str>,
+) -> Result<(), Fail> {
+    let is = told_of(alloc, kind, body)?;
+    assert!(rt; is.as_str() == want.unwrap_or(body), "{is}");
+    Ok(())
 }
 
-fn again_of(alloc: Global, kind: Kind, body: &str) -> Result<String, Fail> {
-    match kind {
-        Kind::Page => again::<PageSize>(alloc, body),
-        Kind::Bytes => again::<ByteSize>(alloc, body),
-        Kind::Flag => again::<Flag>(alloc, body),
-        Kind::Status => again::<StatusName>(alloc, body),
-        Kind::Html => again::<LimitedText<Html>>(alloc, body),
-        Kind::RequestId => again::<LimitedText<RequestId>>(alloc, body),
-        Kind::Contents => again::<Contents>(alloc, body),
-        _ => again::<HashText>(alloc, body),
-    }
+fn check_long(
+    rt: &impl Abort,
+    alloc: Global,
+    row: &(Kind, &str, &str, u32, &str, Option<&str>),
+) -> Result<(), Fail> {
+    let (kind, front, piece, count, end, want) = *row;
+    let mut body = String::from_str(alloc, front)?;
+    push_repeated(&mut body, piece, count)?;
+    body.push_str(end)?;
+    check_told(rt, alloc, kind, body.as_str(), want)
 }
 
-/// The compact text of properties, and the key of the first pair of a variant.
-fn kept(alloc: Global) -> Result<bool, Fail> {
-    let text = b"{\"b\" : [1], \"a\":\"x\"}";
-    let kept = read_body::<Properties>(alloc, text).map_err(|_| "was refused")?;
-    let text = b"{\"def\":{\"b\":\"2\",\"a\":\"1\"}}";
-    let read = read_body::<VariantMap>(alloc, text).map_err(|_| "was refused")?;
-    let pairs = read.variant.as_slice();
-    Ok(
-        kept.as_str() == "{\"a\":\"x\",\"b\":[1]}"
-            && pairs.len() == 2
-            && pairs[0].key.as_slice() == b"a".as_slice()
-            && pairs[1].value.as_slice() == b"2".as_slice(),
-    )
+fn check_nested(
+    rt: &impl Abort,
+    alloc: Global,
+    row: &(u32, u32, Option<&str>),
+) -> Result<(), Fail> {
+    let (levels, count, want) = *row;
+    let mut body = String::from_str(alloc, "{\"a\":")?;
+    push_repeated(&mut body, "[", levels)?;
+    push_repeated(&mut body, "]", levels)?;
+    body.push_str(",\"b\":\"")?;
+    push_repeated(&mut body, "a", count)?;
+    body.push_str("\"}")?;
+    check_told(rt, alloc, Kind::Properties, body.as_str(), want)
 }
 
 #[test]
-fn writes_each_kind(rt: HostRuntime) -> Result<(), Fail> {
-    for (kind, body, want) in WRITTEN {
-        let is = again_of(rt.alloc(), kind, body)?;
-        assert!(rt; is.as_str() == want, "{is} is not {want}");
+fn reads_and_writes_each_kind(rt: HostRuntime) -> Result<(), Fail> {
+    for row in &ROWS {
+        check_row(&rt, rt.alloc(), row)?;
     }
-    assert!(rt; kept(rt.alloc())?);
+    for row in &LONG_ROWS {
+        check_long(&rt, rt.alloc(), row)?;
+    }
+    for row in &NESTED {
+        check_nested(&rt, rt.alloc(), row)?;
+    }
+    Ok(())
+}
+
+/// A body, and what is told of the status in it, which may be unset or empty.
+const OPTIONAL: [(&str, &str); 7] = [
+    ("{}", "unset"),
+    (r#"{"status":null}"#, "unset"),
+    (r#"{"status":""}"#, "unset"),
+    (r#"{"status":"STATUS_UNSPECIFIED"}"#, "unset"),
+    (r#"{"status":"SKIP"}"#, "read"),
+    (r#"{"status":"skip"}"#, "status Unknown"),
+    (r#"{"status":5}"#, "status WrongKind"),
+];
+
+fn told_of_status(alloc: Global, body: &str) -> Result<String, Fail> {
+    let value = read_json(alloc, body.as_bytes()).map_err(|_| "is no JSON")?;
+    match optional_filled::<StatusName>(alloc, &value, Name::word("status")) {
+        Ok(Some(_)) => Ok(String::from_str(alloc, "read")?),
+        Ok(None) => Ok(String::from_str(alloc, "unset")?),
+        Err(fault) => fault_text(alloc, fault),
+    }
+}
+
+fn check_status(rt: &impl Abort, alloc: Global, row: &(&str, &str)) -> Result<(), Fail> {
+    let is = told_of_status(alloc, row.0)?;
+    assert!(rt; is.as_str() == row.1, "{is} is not {}", row.1);
+    Ok(())
+}
+
+/// The text of properties that a body is.
+fn check_kept(rt: &impl Abort, alloc: Global, body: &str, text: &str) -> Result<(), Fail> {
+    let kept = read_body::<Properties>(alloc, body.as_bytes()).map_err(|_| "was refused")?;
+    assert!(rt; kept.as_str() == text);
+    Ok(())
+}
+
+/// The pairs of a variant that a body is.
+fn check_pairs(
+    rt: &impl Abort,
+    alloc: Global,
+    body: &str,
+    want: &[(&str, &str)],
+) -> Result<(), Fail> {
+    let read = read_body::<VariantMap>(alloc, body.as_bytes()).map_err(|_| "was refused")?;
+    assert!(rt; read.as_slice().len() == want.len());
+    let variant = read.into_variant();
+    for (pair, (key, value)) in variant.as_slice().iter().zip(want) {
+        assert!(rt; pair.key.as_slice() == key.as_bytes());
+        assert!(rt; pair.value.as_slice() == value.as_bytes());
+    }
+    Ok(())
+}
+
+#[test]
+fn empty_counts_as_unset(rt: HostRuntime) -> Result<(), Fail> {
+    for row in &OPTIONAL {
+        check_status(&rt, rt.alloc(), row)?;
+    }
+    check_kept(&rt, rt.alloc(), "{\"a\" : 1}", "{\"a\":1}")?;
+    let variant = r#"{"def":{"b":"2","a":"1"}}"#;
+    check_pairs(&rt, rt.alloc(), variant, &[("a", "1"), ("b", "2")])?;
     assert!(rt; PageSize::new(2147483648).is_none() && ByteSize::new(0).is_some());
+    laws::only_empty_messages_are_read();
+    laws::only_empty_texts_are_read();
     Ok(())
 }

@@ -79,7 +79,8 @@ impl TextRule for ContentType {
     }
 }
 
-/// At most 36 bytes of 0x21 to 0x7E: the id of a request, of which the empty one says that there is none.
+/// At most 36 bytes of 0x21 to 0x7E: the id of a request, of which the empty one says that there is
+/// none.
 #[derive(Debug, Drop)]
 pub struct RequestId;
 
@@ -136,10 +137,13 @@ fn why_refused<R: TextRule>(text: &[u8]) -> Option<Why>
 }
 
 impl<R: TextRule> LimitedText<R> {
-    /// The text, where the rule allows it. `TooLong` where it has too many bytes, else `BadByte` at the first that isn't allowed.
+    /// The text, where the rule allows it. `TooLong` where it has too many bytes, else `BadByte` at
+    /// the first that isn't allowed.
     pub fn parse(alloc: Global, text: &str) -> Result<LimitedText<R>, ReadFault>
-        ensures ok { IfOk result (λ t. (t ≡ text.now) × (limited_why R.limit R.allowed text.now ≡ None)) }
-        ensures err { IfErr result (λ e. Says e (bad_value (limited_why R.limit R.allowed text.now))) }
+        ensures ok { IfOk result (λ t. (t ≡ text.now)
+            × (limited_why R.limit R.allowed text.now ≡ None)) }
+        ensures err { IfErr result (λ e.
+            Says e (bad_value (limited_why R.limit R.allowed text.now))) }
     {
         if let Some(why) = why_refused::<R>(text.as_bytes()) {
             return Err(ReadFault::here(alloc, FaultKind::BadValue(why)));

@@ -1,5 +1,7 @@
 //! Variants of tests.
 ghost use Rattle.std.specs.Prelude.{◌≡◌, true, ◌++◌, [], ◌∷◌, None, Some, IfOk, IfErr, OnOk, IsPermutation, is_some, unwrap_or};
+ghost use Rattle.std.specs.Str.{IsUtf8};
+ghost use Rattle.serde_json.specs.Data.{object, string, put as with_member};
 ghost use Rattle.serde_json.specs.View.{view, members_view};
 ghost use Rattle.serde_json.specs.Find.{as_str};
 ghost use Rattle.names_realms.specs.Pairs.{pair_fault};
@@ -7,13 +9,14 @@ ghost use Rattle.names_realms.specs.Variants.{IsAscending};
 ghost use Rattle.json_fields.specs.Faults.{Says};
 ghost use Rattle.json_fields.specs.Texts.{refused};
 ghost use Rattle.json_fields.specs.Fields.{optional, set_at};
-ghost use Rattle.field_kinds.specs.Variants.{def_name, all_texts, pairs_of, pairs_at, pairs_fault, members_fault, told, a_def};
+ghost use Rattle.field_kinds.specs.Variants.{def_name, all_texts, pairs_of, pairs_at, pairs_fault, members_fault, told, a_def, IsPairOfGrammar, AreOfGrammar, def_members, variant_data};
 
-use json_fields::{FaultKind, Form, Name, ReadFault, Why, object, optional};
+use json_fields::{FaultKind, Form, Name, ReadFault, Why, Written, object, optional};
 use names_realms::{NameFault, Pair, PairFault, Variant};
 use serde_json::{Map, Value};
-use std::alloc::Global;
+use std::alloc::{AllocError, Global};
 use std::marker::Model;
+use std::str::from_utf8;
 
 fn refused(alloc: Global, fault: NameFault) -> ReadFault
     ensures { Says result (refused (Some fault)) }
@@ -64,7 +67,9 @@ fn text_of(value: &Value) -> &str
 
 /// Reads one pair.
 fn read_pair(alloc: Global, key: &str, value: &str) -> Result<Pair, ReadFault>
-    ensures ok { IfOk result (λ p. (p.key ≡ key.now) × (p.value ≡ value.now) × (pair_fault key.now value.now ≡ None)) }
+    ensures ok { IfOk result (λ p. (p.key ≡ key.now) × (p.value ≡ value.now)
+        × (pair_fault key.now value.now ≡ None)) }
+    ensures grammar { IfOk result (λ p. IsPairOfGrammar p) }
     ensures err { IfErr result (λ e. Says e (told (pair_fault key.now value.now))) }
 {
     match Pair::read(alloc, key.as_bytes(), value.as_bytes()) {
@@ -74,11 +79,14 @@ fn read_pair(alloc: Global, key: &str, value: &str) -> Result<Pair, ReadFault>
 }
 
 /// Appends the pair of a name and a value.
+#[tactic(auto, using(crate::proofs::VariantLaws::grammar_more))]
 fn add_pair(alloc: Global, pairs: &mut Vec<Pair>, key: &str, value: &Value) -> Result<(), ReadFault>
     ensures ok { OnOk result ((pairs.new.items ≡ pairs.old.items
         ++ record { key = key.now; value = unwrap_or (as_str (view value.now)) [] } ∷ [])
         × (pair_fault key.now (unwrap_or (as_str (view value.now)) []) ≡ None)) }
-    ensures err { IfErr result (λ e. Says e (told (pair_fault key.now (unwrap_or (as_str (view value.now)) [])))) }
+    ensures grammar { OnOk result (AreOfGrammar pairs.old.items → AreOfGrammar pairs.new.items) }
+    ensures err { IfErr result (λ e.
+        Says e (told (pair_fault key.now (unwrap_or (as_str (view value.now)) [])))) }
 {
     let pair = read_pair(alloc, key, text_of(value))?;
     match pairs.push(pair) {
@@ -88,11 +96,14 @@ fn add_pair(alloc: Global, pairs: &mut Vec<Pair>, key: &str, value: &Value) -> R
 }
 
 /// The pairs of an object, or the fault of the first that has one.
+#[tactic(auto, using(crate::proofs::VariantLaws::grammar_nil))]
 fn read_pairs(alloc: Global, map: &Map<String, Value>) -> Result<Vec<Pair>, ReadFault>
     ensures ok { IfOk result (λ ps. (ps.items ≡ pairs_of (members_view map.now.entries))
         × (pairs_fault (pairs_of (members_view map.now.entries)) ≡ None)) }
     ensures ascending { IfOk result (λ _. IsAscending (pairs_of (members_view map.now.entries))) }
-    ensures err { IfErr result (λ e. Says e (pairs_fault (pairs_of (members_view map.now.entries)))) }
+    ensures grammar { IfOk result (λ ps. AreOfGrammar ps.items) }
+    ensures err { IfErr result (λ e.
+        Says e (pairs_fault (pairs_of (members_view map.now.entries)))) }
 {
     let mut pairs = Vec::with_capacity(alloc, map.len())?;
     for (key, value) in map {
@@ -111,18 +122,20 @@ impl Model for Pairs {
     ghost use Rattle.std.specs.Prelude.{List};
     ghost use Rattle.names_realms.specs.declared.pairs.Pair.{Pair};
     ghost use Rattle.names_realms.specs.Variants.{IsAscending};
+    ghost use Rattle.field_kinds.specs.Variants.{AreOfGrammar};
 
     ghost Value = { List Pair };
 
     ghost view = { λ p. p.pairs.items };
 
-    ghost invariant = { λ p. IsAscending p.pairs.items };
+    ghost invariant = { λ p. IsAscending p.pairs.items × AreOfGrammar p.pairs.items };
 }
 
 impl Pairs {
     fn into_vec(self) -> Vec<Pair>
         ensures pairs { result.items ≡ self }
         ensures ascending { IsAscending self }
+        ensures grammar { AreOfGrammar self }
     {
         self.pairs
     }
@@ -157,10 +170,42 @@ impl Form for Pairs {
     }
 }
 
-/// A variant as `{"def":{key:value}}`.
+/// A variant as `{"def":{key:value}}`, whose pairs are of the grammar of pairs. Contracts see it as
+/// the pairs.
 #[derive(Debug, Drop)]
 pub struct VariantMap {
-    pub variant: Variant,
+    variant: Variant,
+}
+
+impl Model for VariantMap {
+    ghost use Rattle.std.specs.Prelude.{List};
+    ghost use Rattle.names_realms.specs.declared.pairs.Pair.{Pair};
+    ghost use Rattle.field_kinds.specs.Variants.{AreOfGrammar};
+
+    ghost Value = { List Pair };
+
+    ghost view = { λ m. m.variant };
+
+    ghost invariant = { λ m. AreOfGrammar m.variant };
+}
+
+impl VariantMap {
+    /// The pairs, in the order of their keys.
+    pub fn as_slice(&self) -> &[Pair]
+        ensures pairs { result.now ≡ self.now }
+        ensures ascending { IsAscending self.now }
+        ensures grammar { AreOfGrammar self.now }
+    {
+        self.variant.as_slice()
+    }
+
+    /// The variant, without taking memory.
+    pub fn into_variant(self) -> Variant
+        ensures pairs { result ≡ self }
+        ensures grammar { AreOfGrammar self }
+    {
+        self.variant
+    }
 }
 
 fn def_name() -> Name
@@ -170,9 +215,11 @@ fn def_name() -> Name
 }
 
 /// The pairs at `def`, none where it is unset.
+#[tactic(auto, using(crate::proofs::VariantLaws::grammar_nil))]
 fn pairs_at(alloc: Global, value: &Value) -> Result<Vec<Pair>, ReadFault>
     ensures ok { IfOk result (λ ps. (optional def_name a_def (view value.now) ≡ None)
         × (ps.items ≡ pairs_at (set_at def_name (view value.now))) × IsAscending ps.items) }
+    ensures grammar { IfOk result (λ ps. AreOfGrammar ps.items) }
     ensures err { IfErr result (λ e. Says e (optional def_name a_def (view value.now))) }
 {
     match optional::<Pairs>(alloc, value, def_name()) {
@@ -193,9 +240,12 @@ fn only_memory(fault: NameFault) -> ReadFault
 }
 
 /// The variant of pairs, which have no key twice.
+#[tactic(auto, using(crate::proofs::VariantLaws::grammar_permutation))]
 fn variant_of(alloc: Global, pairs: Vec<Pair>) -> Result<Variant, ReadFault>
-    requires { IsAscending pairs.items }
+    requires ascending { IsAscending pairs.items }
+    requires grammar { AreOfGrammar pairs.items }
     ensures ok { IfOk result (λ v. IsPermutation pairs.items v × IsAscending v) }
+    ensures grammar { IfOk result (λ v. AreOfGrammar v) }
     ensures memory { IfErr result (λ e. e ≡ ReadFault.Memory) }
 {
     match Variant::from_pairs(alloc, pairs) {
@@ -210,7 +260,7 @@ impl Form for VariantMap {
 
     ghost fault = { a_variant };
 
-    ghost means = { λ d x. IsVariant d x.variant };
+    ghost means = { IsVariant };
 
     ghost empty = { never_empty };
 
@@ -223,5 +273,72 @@ impl Form for VariantMap {
         let pairs = pairs_at(alloc, value)?;
         let variant = variant_of(alloc, pairs)?;
         Ok(VariantMap { variant })
+    }
+}
+
+/// The text of bytes that are UTF-8.
+fn utf8_text(bytes: &[u8]) -> &str
+    requires { IsUtf8 bytes.now }
+    ensures { result.now ≡ bytes.now }
+{
+    match from_utf8(bytes) {
+        Ok(text) => text,
+        Err(_) => unreachable!(),
+    }
+}
+
+/// Puts the value of a pair under its key.
+#[tactic(auto, using(crate::proofs::VariantLaws::key_text))]
+fn put_pair(alloc: Global, map: &mut Map<String, Value>, pair: &Pair) -> Result<(), AllocError>
+    requires { IsPairOfGrammar pair.now }
+    ensures { OnOk result (members_view map.new.entries
+        ≡ with_member pair.now.key (string pair.now.value) (members_view map.old.entries)) }
+{
+    let key = utf8_text(pair.key.as_slice());
+    let text = utf8_text(pair.value.as_slice());
+    let value = Value::try_from_str(alloc, text)?;
+    serde_json::put(map, alloc, key, value)
+}
+
+/// The object of pairs.
+fn def_value(alloc: Global, pairs: &[Pair]) -> Result<Value, AllocError>
+    requires ascending { IsAscending pairs.now }
+    requires grammar { AreOfGrammar pairs.now }
+    ensures { IfOk result (λ v. view v ≡ object (def_members pairs.now)) }
+{
+    let mut map = Map::new(alloc);
+    for pair in pairs {
+        put_pair(alloc, &mut map, pair)?;
+    }
+    Ok(Value::Object(map))
+}
+
+/// The object of a variant.
+#[tactic(auto, using(crate::proofs::VariantLaws::data_nil, crate::proofs::VariantLaws::data_some))]
+fn variant_value(alloc: Global, pairs: &[Pair]) -> Result<Value, AllocError>
+    requires ascending { IsAscending pairs.now }
+    requires grammar { AreOfGrammar pairs.now }
+    ensures { IfOk result (λ v. view v ≡ variant_data pairs.now) }
+{
+    let mut map = Map::new(alloc);
+    if pairs.is_empty() {
+        return Ok(Value::Object(map));
+    }
+    let def = def_value(alloc, pairs)?;
+    serde_json::put(&mut map, alloc, "def", def)?;
+    Ok(Value::Object(map))
+}
+
+impl Written for VariantMap {
+    ghost use Rattle.std.specs.Prelude.{false};
+    ghost use Rattle.field_kinds.specs.Variants.{variant_data};
+
+    ghost json = { variant_data };
+
+    ghost blank = { λ _. false };
+
+    #[tactic(auto, using(crate::proofs::VariantLaws::variant_written))]
+    fn write(&self, alloc: Global) -> Result<Value, AllocError> {
+        variant_value(alloc, self.as_slice())
     }
 }

@@ -1,4 +1,4 @@
-use Rattle.std.proofs.Common.{◌<◌, ◌≤◌, ℕ, arith}
+use Rattle.std.proofs.Common.{arith}
 use Rattle.base64.specs.GeneralPurpose.{IsBytes}
 use Rattle.field_kinds.proofs.ContentLaws.{contents_written}
 use Rattle.field_kinds.proofs.contents.encoded.Goals as goal

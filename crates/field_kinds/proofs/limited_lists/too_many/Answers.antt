@@ -1,4 +1,4 @@
-use Rattle.std.proofs.Common.{sym, ap, ◌∙◌}
+use Rattle.std.proofs.Common.{sym}
 use Rattle.serde_json.proofs.Views.{view-Array}
 use Rattle.field_kinds.proofs.ListLaws.{length_of_view}
 use Rattle.field_kinds.proofs.limited_lists.too_many.Goals as goal

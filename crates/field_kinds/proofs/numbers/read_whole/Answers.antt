@@ -1,5 +1,4 @@
-use Rattle.std.proofs.Common.{◌≡◌, sym, ◌∙◌, subst, Some}
-use Rattle.json_fields.specs.Faults.{Says, here}
+use Rattle.std.proofs.Common.{sym, ◌∙◌}
 use Rattle.serde_json.specs.View.{view}
 use Rattle.field_kinds.specs.Numbers.{said}
 use Rattle.field_kinds.proofs.NumberLaws.{answer-Err}

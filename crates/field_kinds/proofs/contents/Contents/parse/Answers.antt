@@ -1,7 +1,7 @@
-use Rattle.std.proofs.Common.{◌≡◌, List, ℕ, Ok, Option, refl, sym, ap, subst, ◌∙◌}
+use Rattle.std.proofs.Common.{Option, refl, sym, ap, subst, ◌∙◌}
 use Rattle.std.proofs.lemmas.Result.{IfOk-weaker, IfErr-weaker}
 use Rattle.base64.specs.Engines.{standard}
-use Rattle.base64.specs.GeneralPurpose.{encode_of, decode_of}
+use Rattle.base64.specs.GeneralPurpose.{encode_of}
 use Rattle.json_fields.specs.Faults.{Says}
 use Rattle.json_fields.specs.Texts.{bad_value}
 use Rattle.json_fields.specs.declared.whys.Why.{Why}

@@ -1,6 +1,5 @@
-use Rattle.std.proofs.Common.{◌≡◌, ◌≤◌, ℕ, length, subst, sym, ap, ◌∙◌}
+use Rattle.std.proofs.Common.{◌≤◌, ℕ, length, subst}
 use Rattle.serde_json.specs.View.{view}
-use Rattle.field_kinds.specs.Lists.{too_many}
 use Rattle.field_kinds.proofs.ListLaws.{limit_kept}
 use Rattle.field_kinds.proofs.limited_lists.LimitedListForm.read.Goals as goal
 

@@ -1,4 +1,4 @@
-use Rattle.std.proofs.Common.{◌≤◌, ℕ, arith}
+use Rattle.std.proofs.Common.{arith}
 use Rattle.field_kinds.proofs.NumberLaws.{bytes_written}
 use Rattle.field_kinds.proofs.numbers.ByteSizeWritten.write.Goals as goal
 
