@@ -1,5 +1,6 @@
 mod ByteLemmas
 pub mod DocumentLemmas
+mod FrontLemmas
 mod MessageLemmas
 mod RunLaws
 mod ShrinkLaws

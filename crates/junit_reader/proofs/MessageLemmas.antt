@@ -29,7 +29,7 @@ unfolding boundary
 boundary_here zero bytes e = refl
 boundary_here (suc n) bytes e = let inner : is_inner (slice_index bytes (suc n)) ≡ false = tested n _ _ e in rw inner refl
 
-solid_some : (b : ℕ) (bs : List ℕ) → nat_lt 0 (solid_len bs) ≡ true → solid_len (b ∷ bs) ≡ suc (solid_len bs)
+pub solid_some : (b : ℕ) (bs : List ℕ) → nat_lt 0 (solid_len bs) ≡ true → solid_len (b ∷ bs) ≡ suc (solid_len bs)
 unfolding solid_len
 solid_some b bs some = rw some refl
 

@@ -1,12 +1,15 @@
 -- What is kept stays true as elements are opened and closed.
-use Rattle.std.proofs.Common.{◌≡◌, ℕ, suc, ◌+◌, Bool, true, false, ◌||◌, cond, List, [], ◌∷◌, ◌++◌, length, map, Option, Some, None, is_some, refl, sym, ap, subst, ◌∙◌, arith, append_assoc, length-append, add-one}
+use Rattle.std.proofs.Common.{◌≡◌, ℕ, suc, ◌+◌, Bool, true, false, ◌||◌, cond, List, [], ◌∷◌, ◌++◌, length, map, take, Option, Some, None, is_some, refl, sym, ap, subst, ◌∙◌, arith, append_assoc, length-append, add-one}
 use Rattle.std.specs.Prelude.{if◌then◌else◌, codes}
 use Rattle.std.specs.Option.{option_or}
 use Rattle.std.specs.Str.{bytes_eq}
 use Rattle.std.proofs.lemmas.List.{append-nil, length-map, map_push}
 use Rattle.names_realms.specs.declared.states.Case.{Case}
+use Rattle.junit_reader.specs.Bytes.{behind_white}
+use Rattle.junit_reader.specs.Fronts.{IsKept, front, told_first}
+use Rattle.junit_reader.proofs.FrontLemmas.{told_of_fronts}
 use Rattle.junit_reader.specs.Cases.{added_by, case_duration, case_name, case_of, cases_in, ended_case, ending_of, first_told, inner_of_case, inner_of_suite, inner_of_suites, inner_of_top, own_text, role_in, role_of, text_named, told_by, told_of}
-use Rattle.junit_reader.specs.Standing.{Begins, Ends, IsCaseSoFar, IsFresh, IsNoted, IsSameCase, Keeps, KeepsIn, StandsFor, cases_so_far, closed, content_of, open_text, opens, put}
+use Rattle.junit_reader.specs.Standing.{Begins, Ends, IsCaseSoFar, IsFresh, IsNoted, IsSameCase, Keeps, KeepsIn, StandsFor, cases_so_far, closed, content_of, open_text, opens, put, told_so_far}
 use Rattle.junit_reader.specs.Tags.{TagText}
 use Rattle.junit_reader.specs.Tree.{Content, Nothing, Then, Element, Unfinished, Outside, Within, depth_of, has_element, has_root}
 use Rattle.junit_reader.specs.declared.judging.Spot.{Spot}
@@ -144,16 +147,17 @@ either None true x = refl
 either None false x = refl
 either (Some y) b x = refl
 
-noted : (p q : Pending) (t tag : TagText) (before content : Content) (left : ℕ) (end : Option (ℕ × List ℕ)) → IsCaseSoFar p t before → p.message.items ≡ text_named (codes "message") tag → p.text.items ≡ own_text content
+noted : (p q : Pending) (t tag : TagText) (before content : Content) (left : ℕ) (end : Option (ℕ × List ℕ)) → IsCaseSoFar p t before → p.message.items ≡ front (text_named (codes "message") tag) → IsKept p.text (behind_white (own_text content))
     → IsNoted p q tag.name → IsCaseSoFar q t (Element before left tag content end)
 noted p q t tag before content left end so_far message text note =
-    let told : told_by p.message.items p.text.items ≡ told_of tag content = ap (λ m. told_by m p.text.items) message ∙ ap (λ x. told_by (text_named (codes "message") tag) x) text in
+    let told : told_so_far p ≡ told_of tag content =
+    ap (λ m. told_first m (take p.text.solid p.text.front.items)) message ∙ told_of_fronts p.text (text_named (codes "message") tag) (own_text content) text in
     record {
       name = note.name_is ∙ so_far.name;
       duration = note.duration ∙ so_far.duration;
-      error = note.error ∙ ap (λ x. option_or x (if bytes_eq tag.name (codes "error") then Some (told_by p.message.items p.text.items) else None)) so_far.error
+      error = note.error ∙ ap (λ x. option_or x (if bytes_eq tag.name (codes "error") then Some (told_so_far p) else None)) so_far.error
           ∙ ap (λ m. option_or (first_told (codes "error") before) (if bytes_eq tag.name (codes "error") then Some m else None)) told;
-      failure = note.failure ∙ ap (λ x. option_or x (if bytes_eq tag.name (codes "failure") then Some (told_by p.message.items p.text.items) else None)) so_far.failure
+      failure = note.failure ∙ ap (λ x. option_or x (if bytes_eq tag.name (codes "failure") then Some (told_so_far p) else None)) so_far.failure
           ∙ ap (λ m. option_or (first_told (codes "failure") before) (if bytes_eq tag.name (codes "failure") then Some m else None)) told;
       is_skipped = note.is_skipped ∙ ap (λ x. x || bytes_eq tag.name (codes "skipped")) so_far.is_skipped
           ∙ either (first_told (codes "skipped") before) (bytes_eq tag.name (codes "skipped")) (told_of tag content);

@@ -4,6 +4,7 @@ use Rattle.std.proofs.lemmas.Bool.Decides.{nat_tests}
 use Rattle.std.specs.Prelude.{◌==◌, if◌then◌else◌}
 use Rattle.std.specs.Str.{bytes_eq}
 use Rattle.std.proofs.lemmas.List.{append-nil, drop_more}
+use Rattle.junit_reader.specs.Fronts.{front}
 use Rattle.junit_reader.specs.References.{reference_from}
 use Rattle.junit_reader.specs.Tags.{AttributeText, attribute_text}
 use Rattle.junit_reader.specs.Values.{behind_reference, flaw_in, put_text, reference_at, value_from, value_named}
@@ -50,6 +51,12 @@ begun bytes = record { fuel = length bytes; enough = omega arith; same = none (v
   none : (r : Read) → put_text [] r ≡ r
   none (Ok t) = refl
   none (Err f) = refl
+
+-- the same, where no more than the front of what was read is kept
+pub record LeftFront (kept rest : List ℕ) (whole : Read) : Type 0 where
+  pub text : List ℕ
+  pub same : kept ≡ front text
+  pub left : Left text rest whole
 
 pub left_byte : (front : List ℕ) (b : ℕ) (bs : List ℕ) (whole : Read) → Left front (b ∷ bs) whole → (b == 38) ≡ false → Left (front ++ b ∷ []) bs whole
 left_byte front b bs whole left other = go left.fuel left.enough left.same where

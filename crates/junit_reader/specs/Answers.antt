@@ -10,7 +10,8 @@ abbrev pub Fails : {Y : Type 0} → Unread → Option Y → Type 0
 Fails Memory read = Unit {0}
 Fails Broken read = read ≡ None
 
--- what was read, seen by `view`, is what the definition reads, and nothing is read where it reads nothing, unless memory ran out
+-- what was read, seen by `view`, is what the definition reads, and nothing is read where it reads
+-- nothing, unless memory ran out
 abbrev pub Gives : {X Y : Type 0} → (X → Y) → Result X Unread → Option Y → Type 0
 Gives view (Ok x) read = read ≡ Some (view x)
 Gives view (Err e) read = Fails e read

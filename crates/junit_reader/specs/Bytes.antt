@@ -41,7 +41,12 @@ is_name bytes = begins_name bytes && run_len continues_name bytes == length byte
 unfoldable pub name_from : List ℕ → Option (List ℕ × List ℕ)
 name_from [] = None
 name_from (b ∷ bs) =
-    if starts_name b then Some (take (run_len continues_name (b ∷ bs)) (b ∷ bs), drop (run_len continues_name (b ∷ bs)) (b ∷ bs)) else None
+    if starts_name b
+    then Some (
+      take (run_len continues_name (b ∷ bs)) (b ∷ bs),
+      drop (run_len continues_name (b ∷ bs)) (b ∷ bs),
+    )
+    else None
 
 -- this byte, and what stands behind it
 unfoldable pub byte_from : ℕ → List ℕ → Option (List ℕ)

@@ -4,7 +4,6 @@ use Rattle.std.specs.Option.{option_or}
 use Rattle.std.specs.Str.{bytes_eq}
 use Rattle.names_realms.specs.declared.states.Case.{Case}
 use Rattle.names_realms.specs.declared.states.Status.TheVariants.{Pass, Fail, Crash, Skip}
-use Rattle.moments_spans.specs.declared.spans.Span.{Span}
 use Rattle.junit_reader.specs.Constructs.{Leaf, Text, Reference, Data, Comment}
 use Rattle.junit_reader.specs.Messages.{cut, trimmed}
 use Rattle.junit_reader.specs.Tags.{TagText}
@@ -79,7 +78,8 @@ abbrev pub first_told : List ℕ → Content → Option (List ℕ)
 first_told name Nothing = None
 first_told name (Then before left leaf) = first_told name before
 first_told name (Element before left tag own end) =
-    option_or (first_told name before) (if bytes_eq tag.name name then Some (told_of tag own) else None)
+    option_or (first_told name before)
+    (if bytes_eq tag.name name then Some (told_of tag own) else None)
 
 -- how a case ended, by its first error, its first failure and its first skip
 pub record Ending : Type 0 where
@@ -95,13 +95,17 @@ ending_of own = record {
 }
 
 -- an error before a failure, a failure before a skip, and passed without any
-abbrev pub without_error : List ℕ → Option Span → Option (List ℕ) → Bool → Case
-without_error name duration (Some message) skipped = record { name = name; status = Fail; expected = false; duration = duration; message = message }
-without_error name duration None true = record { name = name; status = Skip; expected = true; duration = duration; message = [] }
-without_error name duration None false = record { name = name; status = Pass; expected = true; duration = duration; message = [] }
+abbrev pub without_error : List ℕ → Option ℕ → Option (List ℕ) → Bool → Case
+without_error name duration (Some message) skipped =
+    record { name = name; status = Fail; expected = false; duration = duration; message = message }
+without_error name duration None true =
+    record { name = name; status = Skip; expected = true; duration = duration; message = [] }
+without_error name duration None false =
+    record { name = name; status = Pass; expected = true; duration = duration; message = [] }
 
-abbrev pub ended_case : List ℕ → Option Span → Option (List ℕ) → Option (List ℕ) → Bool → Case
-ended_case name duration (Some message) failure skipped = record { name = name; status = Crash; expected = false; duration = duration; message = message }
+abbrev pub ended_case : List ℕ → Option ℕ → Option (List ℕ) → Option (List ℕ) → Bool → Case
+ended_case name duration (Some message) failure skipped =
+    record { name = name; status = Crash; expected = false; duration = duration; message = message }
 ended_case name duration None failure skipped = without_error name duration failure skipped
 
 -- the class and the name with a point between them, or the name alone
@@ -112,17 +116,19 @@ joined_name (c ∷ cs) name = (c ∷ cs) ++ 46 ∷ name
 abbrev pub case_name : TagText → List ℕ
 case_name tag = joined_name (text_named (codes "classname") tag) (text_named (codes "name") tag)
 
-abbrev pub span_in : Option (Option ℕ) → Option Span
-span_in (Some (Some micros)) = Some (record { micros = micros })
+abbrev pub span_in : Option (Option ℕ) → Option ℕ
+span_in (Some (Some micros)) = Some micros
 span_in (Some None) = None
 span_in None = None
 
-abbrev pub case_duration : TagText → Option Span
+abbrev pub case_duration : TagText → Option ℕ
 case_duration tag = span_in (time_from (text_named (codes "time") tag))
 
 -- the case of a `testcase`
 abbrev pub case_of : TagText → Content → Case
-case_of tag own = ended_case (case_name tag) (case_duration tag) (ending_of own).error (ending_of own).failure (ending_of own).is_skipped
+case_of tag own =
+    ended_case (case_name tag) (case_duration tag)
+    (ending_of own).error (ending_of own).failure (ending_of own).is_skipped
 
 -- what an element adds, by its role: a suite the cases in it, a case itself
 abbrev pub added_by : Role → List Case → Case → List Case
@@ -138,4 +144,5 @@ abbrev pub cases_in : Role → Content → List Case
 cases_in role Nothing = []
 cases_in role (Then before left leaf) = cases_in role before
 cases_in role (Element before left tag own end) =
-    cases_in role before ++ added_by (role_in role tag.name) (cases_in (role_in role tag.name) own) (case_of tag own)
+    cases_in role before
+    ++ added_by (role_in role tag.name) (cases_in (role_in role tag.name) own) (case_of tag own)

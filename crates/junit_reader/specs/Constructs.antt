@@ -17,7 +17,8 @@ pub data Leaf : Type 0 where
   Data : List ℕ → Leaf
   Comment : Leaf
 
--- A construct: a leaf, a start tag, the tag of an element without content, an end tag, or what isn't supported.
+-- A construct: a leaf, a start tag, the tag of an element without content, an end tag, or what
+-- isn't supported.
 pub data Token : Type 0 where
   Stands : Leaf → Token
   Opens : TagText → Token
@@ -116,7 +117,8 @@ character_from bytes = do
   found ← reference_from bytes
   Some (meant found.0, found.1)
 
--- The construct in front of bytes, and what stands behind it. Text goes up to the next `<` or `&` (2.4 CharData).
+-- The construct in front of bytes, and what stands behind it. Text goes up to the next `<` or `&`
+-- (2.4 CharData).
 unfoldable pub token_from : List ℕ → Option (Token × List ℕ)
 token_from [] = None
 token_from (b ∷ bs) =

@@ -21,7 +21,9 @@ flaw_at left what = record { left = left; cause = what }
 
 -- the first faulty reference of attributes, at its own place
 abbrev pub flaw_of_attribute : AttributeText → Option Flaw
-flaw_of_attribute a = option_map (λ f. flaw_at (a.left - (length a.value - f.left)) f.cause) (flaw_in (value_of a.value))
+flaw_of_attribute a =
+    option_map (λ f. flaw_at (a.left - (length a.value - f.left)) f.cause)
+    (flaw_in (value_of a.value))
 
 abbrev pub first_flaw : List AttributeText → Option Flaw
 first_flaw [] = None
@@ -29,7 +31,8 @@ first_flaw (a ∷ attributes) = option_or (flaw_of_attribute a) (first_flaw attr
 
 -- The one root is a `testsuites` or a `testsuite`.
 abbrev pub is_root_name : List ℕ → Bool
-is_root_name name = if bytes_eq name (codes "testsuites") then true else bytes_eq name (codes "testsuite")
+is_root_name name =
+    if bytes_eq name (codes "testsuites") then true else bytes_eq name (codes "testsuite")
 
 abbrev pub root_cause : Role → Bool → List ℕ → Option Cause
 root_cause role.Top true name = Some cause.NotWellFormed
@@ -71,18 +74,21 @@ depth_cause depth = if nat_le 32 depth then Some cause.TooDeep else None
 -- what is wrong with a tag at its own place, the first of these, in this order
 abbrev pub tag_cause : Role → Bool → ℕ → TagText → Option Cause
 tag_cause outer root depth tag =
-    option_or (root_cause outer root tag.name) (option_or (cause_by_role (role_in outer tag.name) tag) (depth_cause depth))
+    option_or (root_cause outer root tag.name)
+    (option_or (cause_by_role (role_in outer tag.name) tag) (depth_cause depth))
 
 abbrev pub at_place : ℕ → Option Cause → Option Flaw
 at_place left found = option_map (flaw_at left) found
 
 abbrev pub tag_flaw : Role → Bool → ℕ → ℕ → TagText → Option Flaw
-tag_flaw outer root depth left tag = option_or (at_place left (tag_cause outer root depth tag)) (first_flaw tag.attributes)
+tag_flaw outer root depth left tag =
+    option_or (at_place left (tag_cause outer root depth tag)) (first_flaw tag.attributes)
 
 -- Outside the root stand white space and comments.
 abbrev pub outside_flaw : ℕ → Leaf → Option Flaw
 outside_flaw left (Text text) =
-    if run_len is_white text == length text then None else Some (flaw_at (left - run_len is_white text) cause.NotWellFormed)
+    if run_len is_white text == length text then None
+    else Some (flaw_at (left - run_len is_white text) cause.NotWellFormed)
 outside_flaw left (Reference c) = Some (flaw_at left cause.NotWellFormed)
 outside_flaw left (Data text) = Some (flaw_at left cause.NotWellFormed)
 outside_flaw left Comment = None
@@ -95,7 +101,8 @@ token_flaw (Outside content) left (Closes name) = Some (flaw_at left cause.NotWe
 token_flaw (Within outer place start content) left (Closes name) =
     if bytes_eq start.name name then None else Some (flaw_at left cause.NotWellFormed)
 token_flaw (Outside content) left Entity = Some (flaw_at left cause.NotWellFormed)
-token_flaw (Within outer place start content) left Entity = Some (flaw_at left (cause.Unsupported unsupported.Entity))
+token_flaw (Within outer place start content) left Entity =
+    Some (flaw_at left (cause.Unsupported unsupported.Entity))
 token_flaw u left Doctype = Some (flaw_at left (cause.Unsupported unsupported.Doctype))
 token_flaw u left Instruction = Some (flaw_at left (cause.Unsupported unsupported.Instruction))
 token_flaw u left (Opens tag) = tag_flaw (role_of u) (has_root u) (depth_of u) left tag
@@ -104,13 +111,18 @@ token_flaw u left (Whole tag) = tag_flaw (role_of u) (has_root u) (depth_of u) l
 -- Nothing is wrong with any construct of content that stands where `spot` puts it.
 abbrev pub IsSoundAt : (Content → Unfinished) → Content → Type 0
 IsSoundAt spot Nothing = Unit {0}
-IsSoundAt spot (Then before left leaf) = IsSoundAt spot before × (token_flaw (spot before) left (Stands leaf) ≡ None)
-IsSoundAt spot (Element before left tag own None) = IsSoundAt spot before × (token_flaw (spot before) left (Whole tag) ≡ None)
+IsSoundAt spot (Then before left leaf) =
+    IsSoundAt spot before × (token_flaw (spot before) left (Stands leaf) ≡ None)
+IsSoundAt spot (Element before left tag own None) =
+    IsSoundAt spot before × (token_flaw (spot before) left (Whole tag) ≡ None)
 IsSoundAt spot (Element before left tag own (Some end)) =
     IsSoundAt spot before × (token_flaw (spot before) left (Opens tag) ≡ None)
-    × IsSoundAt (λ c. Within (spot before) left tag c) own × (token_flaw (Within (spot before) left tag own) end.0 (Closes end.1) ≡ None)
+    × IsSoundAt (λ c. Within (spot before) left tag c) own
+    × (token_flaw (Within (spot before) left tag own) end.0 (Closes end.1) ≡ None)
 
 -- the same of an unfinished tree
 abbrev pub IsSound : Unfinished → Type 0
 IsSound (Outside content) = IsSoundAt (λ c. Outside c) content
-IsSound (Within outer left tag content) = IsSound outer × (token_flaw outer left (Opens tag) ≡ None) × IsSoundAt (λ c. Within outer left tag c) content
+IsSound (Within outer left tag content) =
+    IsSound outer × (token_flaw outer left (Opens tag) ≡ None)
+    × IsSoundAt (λ c. Within outer left tag c) content

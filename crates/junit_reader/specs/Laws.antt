@@ -6,16 +6,24 @@ use Rattle.junit_reader.specs.declared.faults.JunitFault.{JunitFault}
 
 -- at most one list of cases
 abbrev pub OneListOfCases : Type 0
-OneListOfCases = (bytes : List ℕ) (cases other : List Case) → HasCases bytes cases → HasCases bytes other → cases ≡ other
+OneListOfCases =
+    (bytes : List ℕ) (cases other : List Case)
+    → HasCases bytes cases → HasCases bytes other → cases ≡ other
 
 -- at most one fault
 abbrev pub OneFault : Type 0
-OneFault = (bytes : List ℕ) (fault other : JunitFault) → HasFault bytes fault → HasFault bytes other → fault ≡ other
+OneFault =
+    (bytes : List ℕ) (fault other : JunitFault)
+    → HasFault bytes fault → HasFault bytes other → fault ≡ other
 
 -- not both
 abbrev pub CasesOrFault : Type 0
-CasesOrFault = (bytes : List ℕ) (cases : List Case) (fault : JunitFault) → HasCases bytes cases → ¬ HasFault bytes fault
+CasesOrFault =
+    (bytes : List ℕ) (cases : List Case) (fault : JunitFault)
+    → HasCases bytes cases → ¬ HasFault bytes fault
 
 -- and one of them there is
 abbrev pub CasesOrAFault : Type 0
-CasesOrAFault = (bytes : List ℕ) → ((cases : List Case) × HasCases bytes cases) ⊎ ((fault : JunitFault) × HasFault bytes fault)
+CasesOrAFault =
+    (bytes : List ℕ)
+    → ((cases : List Case) × HasCases bytes cases) ⊎ ((fault : JunitFault) × HasFault bytes fault)

@@ -6,6 +6,7 @@ pub mod Constructs
 pub mod Values
 pub mod Times
 pub mod Messages
+pub mod Fronts
 pub mod Tree
 pub mod Cases
 pub mod Flaws

@@ -5,7 +5,8 @@ use Rattle.junit_reader.specs.Bytes.{behind_white, is_white}
 -- how many bytes there are up to the last that isn't white space
 unfoldable pub solid_len : List ℕ → ℕ
 solid_len [] = 0
-solid_len (b ∷ bs) = if nat_lt 0 (solid_len bs) then suc (solid_len bs) else (if is_white b then 0 else 1)
+solid_len (b ∷ bs) =
+    if nat_lt 0 (solid_len bs) then suc (solid_len bs) else (if is_white b then 0 else 1)
 
 -- without the white space in front and at the end
 abbrev pub trimmed : List ℕ → List ℕ

@@ -33,7 +33,8 @@ character n = if is_scalar n then Some (Character n) else None
 -- the character whose number one digit or more say
 abbrev pub numbered : ℕ → List ℕ → Option Meaning
 numbered base [] = None
-numbered base (b ∷ bs) = if all_digits base (b ∷ bs) then character (number_from base 0 (b ∷ bs)) else None
+numbered base (b ∷ bs) =
+    if all_digits base (b ∷ bs) then character (number_from base 0 (b ∷ bs)) else None
 
 -- a character by its number, or the name of another entity
 abbrev pub other_meaning : List ℕ → Option Meaning

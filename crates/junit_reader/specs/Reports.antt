@@ -17,7 +17,8 @@ use Rattle.junit_reader.specs.declared.faults.JunitFault.{JunitFault}
 use Rattle.junit_reader.specs.declared.faults.JunitFault.TheVariants as fault
 use Rattle.junit_reader.specs.declared.roles.Role.TheVariants.{Top}
 
--- A document is a print of content outside every element, with nothing wrong in it and a root; its cases are those of the tree.
+-- A document is a print of content outside every element, with nothing wrong in it and a root; its
+-- cases are those of the tree.
 pub record IsDocument (document : List ℕ) (cases : List Case) : Type 0 where
   pub tree : Content
   pub printed : Prints document tree []
@@ -25,16 +26,24 @@ pub record IsDocument (document : List ℕ) (cases : List Case) : Type 0 where
   pub root : has_element tree ≡ true
   pub same : cases ≡ cases_in Top tree
 
--- The first flaw of what is no document, behind an unfinished tree with nothing wrong in it: a construct that is wrong there; a place
--- where no construct stands; an end within an open element; an end without a root.
+-- The first flaw of what is no document, behind an unfinished tree with nothing wrong in it: a
+-- construct that is wrong there; a place where no construct stands; an end within an open element;
+-- an end without a root.
 pub data HasFlaw (document : List ℕ) (flaw : Flaw) : Type 0 where
-  wrong : (front : Unfinished) (middle rest : List ℕ) (token : Token) → PrintsFront document front middle → IsSound front
-      → IsAt middle (length middle) token rest → token_flaw front (length middle) token ≡ Some flaw → HasFlaw document flaw
-  broken : (front : Unfinished) (middle : List ℕ) → PrintsFront document front middle → IsSound front
-      → 0 < length middle → token_from middle ≡ None → flaw ≡ flaw_at (length middle) cause.NotWellFormed → HasFlaw document flaw
-  open_end : (outer : Unfinished) (left : ℕ) (tag : TagText) (content : Content) → PrintsFront document (Within outer left tag content) []
-      → IsSound (Within outer left tag content) → flaw ≡ flaw_at 0 cause.NotWellFormed → HasFlaw document flaw
-  no_root : (tree : Content) → Prints document tree [] → IsSound (Outside tree) → has_element tree ≡ false
+  wrong : (front : Unfinished) (middle rest : List ℕ) (token : Token)
+      → PrintsFront document front middle → IsSound front
+      → IsAt middle (length middle) token rest
+      → token_flaw front (length middle) token ≡ Some flaw → HasFlaw document flaw
+  broken : (front : Unfinished) (middle : List ℕ)
+      → PrintsFront document front middle → IsSound front
+      → 0 < length middle → token_from middle ≡ None
+      → flaw ≡ flaw_at (length middle) cause.NotWellFormed → HasFlaw document flaw
+  open_end : (outer : Unfinished) (left : ℕ) (tag : TagText) (content : Content)
+      → PrintsFront document (Within outer left tag content) []
+      → IsSound (Within outer left tag content)
+      → flaw ≡ flaw_at 0 cause.NotWellFormed → HasFlaw document flaw
+  no_root : (tree : Content)
+      → Prints document tree [] → IsSound (Outside tree) → has_element tree ≡ false
       → flaw ≡ flaw_at 0 cause.NoRoot → HasFlaw document flaw
 
 -- why reading a document stopped
@@ -46,7 +55,8 @@ IsFlawed document (stop.Flawed flaw) = HasFlaw document flaw
 abbrev pub behind_mark : List ℕ → List ℕ
 behind_mark bytes = if starts_with nat_eq bytes (239 ∷ 187 ∷ 191 ∷ []) then drop 3 bytes else bytes
 
--- behind the declaration that may stand at the very start: `<?xml`, white space or `?`, and all up to the first `?>` (2.8 XMLDecl)
+-- behind the declaration that may stand at the very start: `<?xml`, white space or `?`, and all up
+-- to the first `?>` (2.8 XMLDecl)
 abbrev pub ends_target : List ℕ → Bool
 ends_target [] = false
 ends_target (b ∷ bs) = is_white b || b == 63
@@ -86,9 +96,13 @@ pub record HasCases (bytes : List ℕ) (cases : List Case) : Type 0 where
 
 -- Its fault: a flaw before the place where the text ends, or that the text ends there.
 pub data HasFault (bytes : List ℕ) (answer : JunitFault) : Type 0 where
-  flawed : (flaw : Flaw) → HasFlaw (document_of bytes) flaw → (length bytes ≤ text_place bytes) ⊎ (length bytes - flaw.left < text_place bytes)
+  flawed : (flaw : Flaw) → HasFlaw (document_of bytes) flaw
+      → (length bytes ≤ text_place bytes) ⊎ (length bytes - flaw.left < text_place bytes)
       → answer ≡ told (length bytes) flaw → HasFault bytes answer
-  no_text : text_place bytes < length bytes → (cases : List Case) → IsDocument (document_of bytes) cases
+  no_text : text_place bytes < length bytes
+      → (cases : List Case) → IsDocument (document_of bytes) cases
       → answer ≡ fault.NotText (text_place bytes) → HasFault bytes answer
-  text_ends : text_place bytes < length bytes → (flaw : Flaw) → HasFlaw (document_of bytes) flaw → text_place bytes ≤ length bytes - flaw.left
+  text_ends : text_place bytes < length bytes
+      → (flaw : Flaw) → HasFlaw (document_of bytes) flaw
+      → text_place bytes ≤ length bytes - flaw.left
       → answer ≡ fault.NotText (text_place bytes) → HasFault bytes answer

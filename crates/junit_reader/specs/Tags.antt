@@ -7,7 +7,8 @@ use Rattle.junit_reader.specs.Bytes.{◌>>=◌, begins_name, behind_white, byte_
 use Rattle.junit_reader.specs.declared.tags.Attribute.{Attribute}
 use Rattle.junit_reader.specs.declared.tags.Tag.{Tag}
 
--- a name and a value as it is written; `left` counts the bytes of the report from the value's first on
+-- a name and a value as it is written; `left` counts the bytes of the report from the value's first
+-- on
 pub record AttributeText : Type 0 where
   pub name : List ℕ
   pub value : List ℕ
@@ -36,7 +37,8 @@ is_quote b = b == 34 || b == 39
 -- a value in quotes, and what stands behind it
 unfoldable pub quoted_from : List ℕ → Option (List ℕ × List ℕ)
 quoted_from [] = None
-quoted_from (q ∷ bs) = if is_quote q then closed_by q (position_or_len (λ b. b == q || b == 60) bs) bs else None
+quoted_from (q ∷ bs) =
+    if is_quote q then closed_by q (position_or_len (λ b. b == q || b == 60) bs) bs else None
 
 -- a name, `=` and a value (3.1 Attribute)
 unfoldable pub attribute_from : List ℕ → Option (AttributeText × List ℕ)
@@ -55,17 +57,21 @@ unfoldable pub attributes_from : ℕ → List ℕ → Option (List AttributeText
 attributes_from zero bytes = Some ([], bytes)
 attributes_from (suc n) bytes =
     if has_attribute bytes
-    then (attribute_from (behind_white bytes) >>= λ first. attributes_from n first.1 >>= λ others. Some (first.0 ∷ others.0, others.1))
+    then (attribute_from (behind_white bytes)
+    >>= λ first. attributes_from n first.1 >>= λ others. Some (first.0 ∷ others.0, others.1))
     else Some ([], bytes)
 
 -- no name stands twice (3.1, Unique Att Spec)
 abbrev pub are_distinct : List (List ℕ) → Bool
 are_distinct [] = true
-are_distinct (name ∷ names) = not (list_any (λ other. bytes_eq other name) names) && are_distinct names
+are_distinct (name ∷ names) =
+    not (list_any (λ other. bytes_eq other name) names) && are_distinct names
 
 -- a name and attributes, each name of them once (3.1 STag, EmptyElemTag)
 unfoldable pub tag_from : List ℕ → Option (TagText × List ℕ)
 tag_from bytes = do
   name ← name_from bytes
   attributes ← attributes_from (length name.1) name.1
-  if are_distinct (map (λ a. a.name) attributes.0) then Some (record { name = name.0; attributes = attributes.0 }, attributes.1) else None
+  if are_distinct (map (λ a. a.name) attributes.0)
+      then Some (record { name = name.0; attributes = attributes.0 }, attributes.1)
+      else None

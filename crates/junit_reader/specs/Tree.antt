@@ -3,15 +3,16 @@ use Rattle.std.specs.Prelude.{◌≡◌, ℕ, suc, Bool, true, false, List, [], 
 use Rattle.junit_reader.specs.Constructs.{Leaf, Token, Stands, Opens, Whole, Closes, token_from}
 use Rattle.junit_reader.specs.Tags.{TagText}
 
--- Content, from its end: nothing; content and a leaf behind it; content and an element behind it, with its tag, its own content, and
--- its end tag where it has one. Each construct has its place, as the number of bytes from its first on.
+-- Content, from its end: nothing; content and a leaf behind it; content and an element behind it,
+-- with its tag, its own content, and its end tag where it has one. Each construct has its place, as
+-- the number of bytes from its first on.
 pub data Content : Type 0 where
   Nothing : Content
   Then : Content → ℕ → Leaf → Content
   Element : Content → ℕ → TagText → Content → Option (ℕ × List ℕ) → Content
 
--- An unfinished tree: content outside every element; or content behind the start tag of an element that isn't ended, behind an
--- unfinished tree.
+-- An unfinished tree: content outside every element; or content behind the start tag of an element
+-- that isn't ended, behind an unfinished tree.
 pub data Unfinished : Type 0 where
   Outside : Content → Unfinished
   Within : Unfinished → ℕ → TagText → Content → Unfinished
@@ -21,20 +22,26 @@ pub record IsAt (bytes : List ℕ) (left : ℕ) (token : Token) (rest : List ℕ
   pub place : left ≡ length bytes
   pub read : token_from bytes ≡ Some (token, rest)
 
--- The bytes up to this rest are a print of content (XML 1.0, 3.1 content, element): its constructs, one behind the other.
+-- The bytes up to this rest are a print of content (XML 1.0, 3.1 content, element): its constructs,
+-- one behind the other.
 abbrev pub Prints : List ℕ → Content → List ℕ → Type 0
 Prints bytes Nothing rest = bytes ≡ rest
-Prints bytes (Then before left leaf) rest = (middle : List ℕ) × Prints bytes before middle × IsAt middle left (Stands leaf) rest
-Prints bytes (Element before left tag own None) rest = (middle : List ℕ) × Prints bytes before middle × (own ≡ Nothing) × IsAt middle left (Whole tag) rest
+Prints bytes (Then before left leaf) rest =
+    (middle : List ℕ) × Prints bytes before middle × IsAt middle left (Stands leaf) rest
+Prints bytes (Element before left tag own None) rest =
+    (middle : List ℕ) × Prints bytes before middle
+    × (own ≡ Nothing) × IsAt middle left (Whole tag) rest
 Prints bytes (Element before left tag own (Some end)) rest =
     (middle : List ℕ) × (behind : List ℕ) × (last : List ℕ)
-    × Prints bytes before middle × IsAt middle left (Opens tag) behind × Prints behind own last × IsAt last end.0 (Closes end.1) rest
+    × Prints bytes before middle × IsAt middle left (Opens tag) behind
+    × Prints behind own last × IsAt last end.0 (Closes end.1) rest
 
 -- the same of an unfinished tree
 abbrev pub PrintsFront : List ℕ → Unfinished → List ℕ → Type 0
 PrintsFront bytes (Outside content) rest = Prints bytes content rest
 PrintsFront bytes (Within outer left tag content) rest =
-    (middle : List ℕ) × (behind : List ℕ) × PrintsFront bytes outer middle × IsAt middle left (Opens tag) behind × Prints behind content rest
+    (middle : List ℕ) × (behind : List ℕ) × PrintsFront bytes outer middle
+    × IsAt middle left (Opens tag) behind × Prints behind content rest
 
 -- an element stands in the content
 abbrev pub has_element : Content → Bool

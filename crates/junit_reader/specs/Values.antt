@@ -18,19 +18,27 @@ put_text front (Err flaw) = Err flaw
 -- what a reference with so many bytes from its `&` on stands for, and what stands behind it
 abbrev pub reference_at : ℕ → Option (Meaning × List ℕ) → Result (ℕ × List ℕ) Flaw
 reference_at left None = Err (record { left = left; cause = NotWellFormed })
-reference_at left (Some found) = elim found.0 [ Character c ↦ Ok (c, found.1) | Foreign ↦ Err (record { left = left; cause = Unsupported Entity }) ]
+reference_at left (Some found) = elim found.0 [
+  | Character c ↦ Ok (c, found.1)
+  | Foreign ↦ Err (record { left = left; cause = Unsupported Entity })
+]
 
 -- its character in front of what follows it
-abbrev pub behind_reference : (List ℕ → Result (List ℕ) Flaw) → Result (ℕ × List ℕ) Flaw → Result (List ℕ) Flaw
+abbrev pub behind_reference :
+    (List ℕ → Result (List ℕ) Flaw) → Result (ℕ × List ℕ) Flaw → Result (List ℕ) Flaw
 behind_reference next (Ok found) = put_text (encode_utf8 found.0) (next found.1)
 behind_reference next (Err flaw) = Err flaw
 
--- The text of a value of at most so many bytes, each reference as its character; or its first faulty reference.
+-- The text of a value of at most so many bytes, each reference as its character; or its first
+-- faulty reference.
 unfoldable pub value_from : ℕ → List ℕ → Result (List ℕ) Flaw
 value_from zero bytes = Ok []
 value_from (suc n) [] = Ok []
 value_from (suc n) (b ∷ bs) =
-    if b == 38 then behind_reference (λ rest. value_from n rest) (reference_at (length (b ∷ bs)) (reference_from bs)) else put_text (b ∷ []) (value_from n bs)
+    if b == 38
+    then behind_reference (λ rest. value_from n rest)
+    (reference_at (length (b ∷ bs)) (reference_from bs))
+    else put_text (b ∷ []) (value_from n bs)
 
 abbrev pub value_of : List ℕ → Result (List ℕ) Flaw
 value_of bytes = value_from (length bytes) bytes
@@ -38,7 +46,8 @@ value_of bytes = value_from (length bytes) bytes
 -- the value of the attribute of this name
 abbrev pub value_named : List ℕ → List AttributeText → Option (List ℕ)
 value_named name [] = None
-value_named name (a ∷ attributes) = if bytes_eq a.name name then Some a.value else value_named name attributes
+value_named name (a ∷ attributes) =
+    if bytes_eq a.name name then Some a.value else value_named name attributes
 
 abbrev pub value_or_nothing : Option (List ℕ) → Result (List ℕ) Flaw
 value_or_nothing None = Ok []

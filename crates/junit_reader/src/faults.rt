@@ -62,7 +62,8 @@ impl<T: Drop> From<AllocFailed<T>> for Stop {
 pub enum JunitFault {
     /// A byte that is no UTF-8, or the one behind 64 MiB.
     NotText { at: usize },
-    /// A break of the form: the `<` or `&` of the construct at fault, the first byte of text outside the root, or the length.
+    /// A break of the form: the `<` or `&` of the construct at fault, the first byte of text
+    /// outside the root, or the length.
     NotWellFormed { at: usize },
     /// A construct of XML that isn't read.
     Unsupported { at: usize, what: Unsupported },

@@ -1,4 +1,5 @@
-//! Laws of the definitions that the contracts cite. These functions do nothing: what each of them ensures is the law.
+//! Laws of the definitions that the contracts cite. These functions do nothing: what each of them
+//! ensures is the law.
 ghost use Rattle.junit_reader.specs.Laws.{CasesOrAFault, CasesOrFault, OneFault, OneListOfCases};
 
 /// A report has at most one list of cases.

@@ -7,6 +7,7 @@ mod faults;
 mod judging;
 pub mod laws;
 mod messages;
+mod own_text;
 pub mod parts;
 mod pending;
 mod reading;

@@ -14,7 +14,7 @@ fn ends_white(bytes: &[u8], at: usize) -> bool
 }
 
 /// How many bytes there are up to the last that isn't white space.
-fn solid_len(bytes: &[u8]) -> usize
+pub(crate) fn solid_len(bytes: &[u8]) -> usize
     ensures value { result ≡ solid_len bytes.now }
     ensures within { result ≤ length bytes.now }
 {

@@ -1,17 +1,47 @@
 //! The case that is open.
-ghost use Rattle.std.specs.Prelude.{◌≡◌, ◌∷◌, ◌++◌, IfOk, OnOk, [], codes};
+ghost use Rattle.std.specs.Prelude.{◌≡◌, ◌∷◌, ◌++◌, ℕ, List, IfOk, OnOk, [], codes};
+ghost use Rattle.junit_reader.specs.Bytes.{behind_white};
 ghost use Rattle.junit_reader.specs.Cases.{case_duration, case_name, ended_case, joined_name, text_named, told_by};
+ghost use Rattle.junit_reader.specs.Fronts.{IsKept, front, told_first};
 ghost use Rattle.junit_reader.specs.Standing.{IsFresh, IsNoted, IsSameCase};
 ghost use Rattle.junit_reader.specs.Tags.{tag_text};
 
 use crate::faults::Stop;
 use crate::messages::{cut, trimmed};
+use crate::own_text::OwnText;
 use crate::tags::Tag;
 use crate::times::time;
 use crate::unread::Unread;
-use crate::values::named_text;
+use crate::values::{named_text, value_front, value_named};
 use names_realms::{Bytes, Case, Span, Status};
 use std::alloc::{AllocError, Global};
+
+/// How a case ended, by its first error, its first failure and its first skip.
+#[derive(Debug, Drop)]
+pub struct Ending {
+    pub error: Option<Bytes>,
+    pub failure: Option<Bytes>,
+    pub is_skipped: bool,
+}
+
+/// A case by how it ended.
+pub fn ended_case(alloc: Global, name: Bytes, duration: Option<Span>, ending: Ending) -> Case
+    ensures { result ≡ ended_case name duration ending.error ending.failure ending.is_skipped }
+{
+    let (status, expected, message) = match (ending.error, ending.failure, ending.is_skipped) {
+        (Some(message), _, _) => (Status::Crash, false, message),
+        (None, Some(message), _) => (Status::Fail, false, message),
+        (None, None, true) => (Status::Skip, true, Bytes::new(Vec::new(alloc))),
+        (None, None, false) => (Status::Pass, true, Bytes::new(Vec::new(alloc))),
+    };
+    Case {
+        name,
+        status,
+        expected,
+        duration,
+        message,
+    }
+}
 
 /// The case that is open, and of it the outcome that is open.
 #[derive(Debug, Drop)]
@@ -23,10 +53,10 @@ pub(crate) struct Pending {
     /// What the first failure tells.
     pub(crate) failure: Option<Bytes>,
     pub(crate) is_skipped: bool,
-    /// The attribute `message` of the outcome that is open.
+    /// The front of the attribute `message` of the outcome that is open.
     pub(crate) message: Vec<u8>,
     /// Its own text so far.
-    pub(crate) text: Vec<u8>,
+    pub(crate) text: OwnText,
 }
 
 /// The text of an attribute, nothing where there is none.
@@ -74,14 +104,35 @@ pub fn case_name(alloc: Global, tag: &Tag<'_>) -> Result<Vec<u8>, AllocError>
     joined_name(class, name)
 }
 
+/// The front of the attribute `message`, nothing where there is none.
+fn message_front(alloc: Global, tag: &Tag<'_>) -> Result<Vec<u8>, AllocError>
+    ensures { IfOk result (λ v. v.items ≡ front (text_named (codes "message") (tag_text tag.now))) }
+{
+    let Some(value) = value_named(tag.attributes.as_slice(), b"message") else {
+        return Ok(Vec::new(alloc));
+    };
+    match value_front(alloc, value) {
+        Ok(text) => Ok(text),
+        Err(Stop::Flawed(_)) => Ok(Vec::new(alloc)),
+        Err(Stop::Memory) => Err(AllocError),
+    }
+}
+
+/// What is told of a message, or where there is none of a text that is trimmed.
+fn told_first(alloc: Global, message: &[u8], text: &[u8]) -> Result<Bytes, AllocError>
+    ensures { IfOk result (λ b. b ≡ told_first message.now text.now) }
+{
+    match message {
+        [] => Ok(Bytes::new(Vec::from_slice(alloc, cut(text))?)),
+        _ => Ok(Bytes::new(Vec::from_slice(alloc, cut(message))?)),
+    }
+}
+
 /// What an error or a failure tells.
 pub fn told_by(alloc: Global, message: &[u8], text: &[u8]) -> Result<Bytes, AllocError>
     ensures { IfOk result (λ b. b ≡ told_by message.now text.now) }
 {
-    match message {
-        [] => Ok(Bytes::new(Vec::from_slice(alloc, cut(trimmed(text)))?)),
-        _ => Ok(Bytes::new(Vec::from_slice(alloc, cut(message))?)),
-    }
+    told_first(alloc, message, trimmed(text))
 }
 
 impl Pending {
@@ -94,7 +145,7 @@ impl Pending {
             failure: None,
             is_skipped: false,
             message: Vec::new(alloc),
-            text: Vec::new(alloc),
+            text: OwnText::new(alloc),
         }
     }
 
@@ -111,18 +162,19 @@ impl Pending {
             failure: None,
             is_skipped: false,
             message: Vec::new(alloc),
-            text: Vec::new(alloc),
+            text: OwnText::new(alloc),
         })
     }
 
     /// Begins an outcome.
     pub(crate) fn begin_outcome(&mut self, alloc: Global, tag: &Tag<'_>) -> Result<(), AllocError>
         ensures same { OnOk result (IsSameCase self.old self.new) }
-        ensures message { OnOk result (self.new.message.items ≡ text_named (codes "message") (tag_text tag.now)) }
-        ensures text { OnOk result (self.new.text.items ≡ []) }
+        ensures message { OnOk result (self.new.message.items
+            ≡ front (text_named (codes "message") (tag_text tag.now))) }
+        ensures text { OnOk result (IsKept self.new.text (behind_white [])) }
     {
-        self.message = text_named(alloc, tag, b"message")?;
-        self.text = Vec::new(alloc);
+        self.message = message_front(alloc, tag)?;
+        self.text = OwnText::new(alloc);
         Ok(())
     }
 
@@ -130,16 +182,17 @@ impl Pending {
     pub(crate) fn add_text(&mut self, text: &[u8]) -> Result<(), AllocError>
         ensures same { OnOk result (IsSameCase self.old self.new) }
         ensures message { OnOk result (self.new.message.items ≡ self.old.message.items) }
-        ensures text { OnOk result (self.new.text.items ≡ self.old.text.items ++ text.now) }
+        ensures text { OnOk result ((all : List ℕ) → IsKept self.old.text (behind_white all)
+            → IsKept self.new.text (behind_white (all ++ text.now))) }
     {
-        self.text.extend_from_slice(text)
+        self.text.push(text)
     }
 
     /// Ends the outcome of this name.
     pub(crate) fn end_outcome(&mut self, alloc: Global, name: &[u8]) -> Result<(), AllocError>
         ensures { OnOk result (IsNoted self.old self.new name.now) }
     {
-        let told = told_by(alloc, self.message.as_slice(), self.text.as_slice())?;
+        let told = told_first(alloc, self.message.as_slice(), self.text.trimmed())?;
         if name == b"error".as_slice() {
             self.error = self.error.take().or(Some(told));
             return Ok(());
@@ -160,18 +213,11 @@ impl Pending {
     {
         let name = Bytes::new(self.name);
         let duration = self.duration;
-        let (status, expected, message) = match (self.error, self.failure, self.is_skipped) {
-            (Some(message), _, _) => (Status::Crash, false, message),
-            (None, Some(message), _) => (Status::Fail, false, message),
-            (None, None, true) => (Status::Skip, true, Bytes::new(Vec::new(alloc))),
-            (None, None, false) => (Status::Pass, true, Bytes::new(Vec::new(alloc))),
+        let ending = Ending {
+            error: self.error,
+            failure: self.failure,
+            is_skipped: self.is_skipped,
         };
-        Case {
-            name,
-            status,
-            expected,
-            duration,
-            message,
-        }
+        ended_case(alloc, name, duration, ending)
     }
 }

@@ -26,7 +26,8 @@ pub(crate) struct Open<'a> {
     pub(crate) role: Role,
 }
 
-/// What is kept of a report as far as it was read: the open elements, the cases, and the case that is open.
+/// What is kept of a report as far as it was read: the open elements, the cases, and the case that
+/// is open.
 #[derive(Debug, Drop)]
 pub(crate) struct Reading<'a> {
     pub(crate) opened: Vec<Open<'a>>,
@@ -64,7 +65,8 @@ fn end_role(
     cases: &mut Vec<Case>,
     element: Open<'_>,
 ) -> Result<(), AllocError>
-    ensures { OnOk result (Ends element.entry.role pending.old pending.new cases.old.items cases.new.items element.entry.name.now) }
+    ensures { OnOk result (Ends element.entry.role pending.old pending.new
+        cases.old.items cases.new.items element.entry.name.now) }
 {
     match element.role {
         Role::Testcase => {
@@ -120,7 +122,8 @@ impl<'a> Reading<'a> {
 
     /// Where a tag stands.
     fn spot(&self) -> Spot
-        ensures { (u : Unfinished) → StandsFor self.now u → result ≡ record { outer = role_of u; has_root = has_root u; depth = depth_of u } }
+        ensures { (u : Unfinished) → StandsFor self.now u
+            → result ≡ record { outer = role_of u; has_root = has_root u; depth = depth_of u } }
     {
         Spot {
             outer: self.role(),
@@ -131,7 +134,8 @@ impl<'a> Reading<'a> {
 
     /// Opens an element.
     fn open_element(&mut self, alloc: Global, tag: &Tag<'a>) -> Result<(), AllocError>
-        ensures { OnOk result ((u : Unfinished) (left : ℕ) → StandsFor self.old u → StandsFor self.new (Within u left (tag_text tag.now) Nothing)) }
+        ensures { OnOk result ((u : Unfinished) (left : ℕ) → StandsFor self.old u
+            → StandsFor self.new (Within u left (tag_text tag.now) Nothing)) }
     {
         let role = role_in(self.role(), tag.name);
         begin_role(&mut self.pending, alloc, role, tag)?;
@@ -145,8 +149,9 @@ impl<'a> Reading<'a> {
 
     /// Closes the innermost element.
     fn close_element(&mut self, alloc: Global) -> Result<(), AllocError>
-        ensures { OnOk result ((outer : Unfinished) (left : ℕ) (tag : TagText) (content : Content) (end : Option (ℕ × List ℕ))
-            → StandsFor self.old (Within outer left tag content) → StandsFor self.new (closed outer left tag content end)) }
+        ensures { OnOk result ((outer : Unfinished) (left : ℕ) (tag : TagText) (content : Content)
+            (end : Option (ℕ × List ℕ)) → StandsFor self.old (Within outer left tag content)
+            → StandsFor self.new (closed outer left tag content end)) }
     {
         match self.opened.pop() {
             Some(element) => {
@@ -217,7 +222,9 @@ impl<'a> Reading<'a> {
 
     /// Judges a tag where it stands.
     fn judge(&self, alloc: Global, left: usize, tag: &Tag<'a>) -> Result<(), Stop>
-        ensures { (u : Unfinished) → StandsFor self.now u → IsJudged result (tag_flaw (role_of u) (has_root u) (depth_of u) left (tag_text tag.now)) }
+        ensures { (u : Unfinished) → StandsFor self.now u
+            → IsJudged result
+            (tag_flaw (role_of u) (has_root u) (depth_of u) left (tag_text tag.now)) }
     {
         match tag_flaw(alloc, self.spot(), left, tag)? {
             Some(flaw) => Err(Stop::Flawed(flaw)),

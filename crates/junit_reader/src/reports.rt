@@ -86,7 +86,7 @@ pub fn document_of(bytes: &[u8]) -> &[u8]
 }
 
 /// The first byte that is no UTF-8, or the one behind 64 MiB.
-pub fn text_place(bytes: &[u8]) -> usize
+fn text_place(bytes: &[u8]) -> usize
     ensures { result ≡ text_place bytes.now }
 {
     utf8_len(bytes).min(67_108_864)
@@ -115,7 +115,7 @@ fn ends_before(text: usize, len: usize, left: usize) -> bool
 }
 
 /// The fault of a report with a flaw, whose text ends at a place.
-pub fn fault_of(bytes: &[u8], flaw: Flaw) -> JunitFault
+fn fault_of(bytes: &[u8], flaw: Flaw) -> JunitFault
     requires { HasFlaw (document_of bytes.now) flaw }
     ensures { HasFault bytes.now result }
 {
@@ -127,19 +127,25 @@ pub fn fault_of(bytes: &[u8], flaw: Flaw) -> JunitFault
     }
 }
 
-/// The cases of a JUnit XML report, or its first fault.
-///
-/// The bytes are UTF-8 of at most 64 MiB, in the profile of XML 1.0 that `docs/formats.md` says. Of several faults the one with the
-/// least place is told; of one place `NotText`, `NotWellFormed`, `Unsupported`, `NoRoot`, `MissingName`, `BadTime` and `TooDeep`, in
-/// this order. Takes time linear in the bytes, and n log n in the attributes of one element; room for the cases, for what is open, and
-/// for the attributes of one tag.
-pub fn read_report(alloc: Global, bytes: &[u8]) -> Result<Vec<Case>, JunitFault>
-    // What is read are the cases of the one tree that the report is a print of.
+/// Why reading a report stopped, as it is answered.
+fn fault_for(bytes: &[u8], stop: Stop) -> JunitFault
+    requires { IsFlawed (document_of bytes.now) stop }
+    ensures { result ≢ JunitFault.Memory → HasFault bytes.now result }
+{
+    match stop {
+        Stop::Memory => JunitFault::Memory,
+        Stop::Flawed(flaw) => fault_of(bytes, flaw),
+    }
+}
+
+/// What is answered of a report, by what was read of its document.
+pub fn answer_of(bytes: &[u8], read: Result<Vec<Case>, Stop>) -> Result<Vec<Case>, JunitFault>
+    requires document { IfOk read (λ v. IsDocument (document_of bytes.now) v.items) }
+    requires flawed { IfErr read (IsFlawed (document_of bytes.now)) }
     ensures ok { IfOk result (λ v. HasCases bytes.now v.items) }
-    // Every other report is refused by its first fault.
     ensures err { IfErr result (λ f. f ≢ JunitFault.Memory → HasFault bytes.now f) }
 {
-    match read_document(alloc, document_of(bytes)) {
+    match read {
         Ok(cases) => {
             let text = text_place(bytes);
             if text < bytes.len() {
@@ -147,7 +153,22 @@ pub fn read_report(alloc: Global, bytes: &[u8]) -> Result<Vec<Case>, JunitFault>
             }
             Ok(cases)
         }
-        Err(Stop::Memory) => Err(JunitFault::Memory),
-        Err(Stop::Flawed(flaw)) => Err(fault_of(bytes, flaw)),
+        Err(stop) => Err(fault_for(bytes, stop)),
     }
+}
+
+/// The cases of a JUnit XML report, or its first fault.
+///
+/// The bytes are UTF-8 of at most 64 MiB, in the profile of XML 1.0 that `docs/formats.md` says. Of
+/// several faults the one with the least place is told; of one place `NotText`, `NotWellFormed`,
+/// `Unsupported`, `NoRoot`, `MissingName`, `BadTime` and `TooDeep`, in this order. Takes time linear
+/// in the bytes, and n log n in the attributes of one element; room for the cases, for what is open,
+/// and for the attributes of one tag.
+pub fn read_report(alloc: Global, bytes: &[u8]) -> Result<Vec<Case>, JunitFault>
+    // What is read are the cases of the one tree that the report is a print of.
+    ensures ok { IfOk result (λ v. HasCases bytes.now v.items) }
+    // Every other report is refused by its first fault.
+    ensures err { IfErr result (λ f. f ≢ JunitFault.Memory → HasFault bytes.now f) }
+{
+    answer_of(bytes, read_document(alloc, document_of(bytes)))
 }

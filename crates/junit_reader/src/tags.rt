@@ -83,7 +83,8 @@ fn has_attribute(bytes: &[u8]) -> bool
 
 /// Reads the attributes of a tag.
 fn attributes(alloc: Global, bytes: &[u8]) -> Result<(Vec<Attribute<'_>>, &[u8]), Unread>
-    ensures read { Gives (λ r. (map attribute_text r.0.items, r.1.now)) result (attributes_from (length bytes.now) bytes.now) }
+    ensures read { Gives (λ r. (map attribute_text r.0.items, r.1.now)) result
+        (attributes_from (length bytes.now) bytes.now) }
     ensures within { IfOk result (λ r. length r.1.now ≤ length bytes.now) }
 {
     let mut attributes = Vec::new(alloc);
@@ -98,7 +99,8 @@ fn attributes(alloc: Global, bytes: &[u8]) -> Result<(Vec<Attribute<'_>>, &[u8])
 
 /// Whether no name stands twice, in the time that a sorted set takes.
 fn are_distinct(alloc: Global, attributes: &[Attribute<'_>]) -> Result<bool, AllocError>
-    ensures { IfOk result (λ distinct. distinct ≡ are_distinct (map (λ a. a.name) (map attribute_text attributes.now))) }
+    ensures { IfOk result (λ distinct. distinct
+        ≡ are_distinct (map (λ a. a.name) (map attribute_text attributes.now))) }
 {
     let mut behind: BTreeSet<&[u8]> = BTreeSet::new(alloc);
     let mut at = attributes.len();

@@ -143,7 +143,8 @@ fn microseconds(digits: &[u8], before: usize, moved: (usize, usize)) -> u64
 /// The microseconds of a time, or `TOO_LONG` where there are more.
 #[tactic(auto, unfolding(crate::specs::Times::duration_from))]
 fn duration(alloc: Global, text: &[u8]) -> Result<u64, Unread>
-    ensures { Gives (λ n. n) result (option_map (min 315_576_000_000_000_001) (duration_from text.now)) }
+    ensures { Gives (λ n. n) result
+        (option_map (min 315_576_000_000_000_001) (duration_from text.now)) }
 {
     let (whole, rest) = text.split_at(whole_len(text));
     let mut digits = without_commas(alloc, whole)?;
@@ -161,19 +162,18 @@ fn duration(alloc: Global, text: &[u8]) -> Result<u64, Unread>
 
 /// A span of so many microseconds, where there are not too many.
 fn fitting(micros: u64) -> Result<Option<Span>, Unread>
-    ensures { Gives (λ s. option_map (λ s. s.micros) s) result (fitting micros) }
+    ensures { Gives (λ s. s) result (fitting micros) }
 {
-    if micros <= 315_576_000_000_000_000 {
-        Ok(Some(Span { micros }))
-    } else {
-        Err(Unread::Broken)
+    match Span::from_micros(micros) {
+        Some(span) => Ok(Some(span)),
+        None => Err(Unread::Broken),
     }
 }
 
 /// What a time says.
 #[tactic(auto, unfolding(crate::specs::Times::time_from))]
 pub(crate) fn time(alloc: Global, text: &[u8]) -> Result<Option<Span>, Unread>
-    ensures { Gives (λ s. option_map (λ s. s.micros) s) result (time_from text.now) }
+    ensures { Gives (λ s. s) result (time_from text.now) }
 {
     match text {
         [] => Ok(None),

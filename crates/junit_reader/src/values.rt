@@ -1,11 +1,13 @@
 //! The texts of attributes.
 ghost use Rattle.std.specs.Prelude.{◌≡◌, ◌<◌, ◌≤◌, ◌++◌, length, IfOk, IfSome, OnOk, encode_utf8, map, option_map};
 ghost use Rattle.junit_reader.specs.Answers.{Tells};
+ghost use Rattle.junit_reader.specs.Fronts.{front_of};
 ghost use Rattle.junit_reader.specs.References.{reference_from};
 ghost use Rattle.junit_reader.specs.Tags.{attribute_text, tag_text};
 ghost use Rattle.junit_reader.specs.Values.{flaw_in, named_text, reference_at, seen_reference, value_named, value_of};
 
 use crate::faults::{Cause, Flaw, Stop, Unsupported};
+use crate::own_text::push_front;
 use crate::references::{Meaning, reference};
 use crate::tags::{Attribute, Tag};
 use std::alloc::{AllocError, Global};
@@ -59,6 +61,30 @@ fn value_of(alloc: Global, value: &[u8]) -> Result<Vec<u8>, Stop>
     Ok(text)
 }
 
+/// The front of the text of a value.
+pub(crate) fn value_front(alloc: Global, value: &[u8]) -> Result<Vec<u8>, Stop>
+    ensures { Tells (λ v. v.items) result (front_of (value_of value.now)) }
+{
+    let mut kept = Vec::new(alloc);
+    let mut rest = value;
+    while let Some((first, behind)) = rest.split_first() {
+        if *first != b'&' {
+            push_front(&mut kept, &[*first])?;
+            rest = behind;
+            continue;
+        }
+        let (c, next) = match reference_at(rest.len(), behind) {
+            Ok(read) => read,
+            Err(flaw) => return Err(Stop::Flawed(flaw)),
+        };
+        let mut buffer = [0u8; 4];
+        let encoded = c.encode_utf8(&mut buffer);
+        push_front(&mut kept, encoded.as_bytes())?;
+        rest = next;
+    }
+    Ok(kept)
+}
+
 /// The first faulty reference of a value.
 pub(crate) fn flaw_in(value: &[u8]) -> Option<Flaw>
     ensures { result ≡ flaw_in (value_of value.now) }
@@ -78,7 +104,7 @@ pub(crate) fn flaw_in(value: &[u8]) -> Option<Flaw>
 }
 
 /// The value of the attribute of this name.
-fn value_named<'a>(attributes: &[Attribute<'a>], name: &[u8]) -> Option<&'a [u8]>
+pub(crate) fn value_named<'a>(attributes: &[Attribute<'a>], name: &[u8]) -> Option<&'a [u8]>
     ensures { option_map (λ v. v.now) result ≡ value_named name.now (map attribute_text attributes.now) }
 {
     for attribute in attributes {

@@ -1,8 +1,8 @@
--- How the code keeps the ending of a case.
+-- The ending of a case, as the code keeps it.
 use Rattle.std.specs.Prelude.{◌≡◌}
 use Rattle.junit_reader.specs.Cases.{ending_of}
 use Rattle.junit_reader.specs.Tree.{Content}
-use Rattle.junit_tree.specs.declared.cases.Ending.{Ending}
+use Rattle.junit_reader.specs.declared.pending.Ending.{Ending}
 
 -- the ending of the case of this content
 pub record IsEndingOf (e : Ending) (own : Content) : Type 0 where

@@ -1,4 +1,5 @@
--- The code's own words: the place behind an unfinished tree, and what is wrong with a construct there.
+-- The code's own words: the place behind an unfinished tree, and what is wrong with a construct
+-- there.
 use Rattle.std.specs.Prelude.{◌≡◌, ℕ, if◌then◌else◌, List, Option, Some, None, option_map}
 use Rattle.std.specs.Str.{bytes_eq}
 use Rattle.junit_reader.specs.Cases.{role_of}
@@ -29,10 +30,12 @@ abbrev pub flaw_there : Spot → Option (List ℕ) → ℕ → Token → Option 
 flaw_there spot None left (Stands leaf) = outside_flaw left leaf
 flaw_there spot (Some name) left (Stands leaf) = None
 flaw_there spot None left (Closes other) = Some (flaw_at left cause.NotWellFormed)
-flaw_there spot (Some name) left (Closes other) = if bytes_eq name other then None else Some (flaw_at left cause.NotWellFormed)
+flaw_there spot (Some name) left (Closes other) =
+    if bytes_eq name other then None else Some (flaw_at left cause.NotWellFormed)
 flaw_there spot None left Entity = Some (flaw_at left cause.NotWellFormed)
 flaw_there spot (Some name) left Entity = Some (flaw_at left (cause.Unsupported unsupported.Entity))
 flaw_there spot element left Doctype = Some (flaw_at left (cause.Unsupported unsupported.Doctype))
-flaw_there spot element left Instruction = Some (flaw_at left (cause.Unsupported unsupported.Instruction))
+flaw_there spot element left Instruction =
+    Some (flaw_at left (cause.Unsupported unsupported.Instruction))
 flaw_there spot element left (Opens tag) = tag_flaw spot.outer spot.has_root spot.depth left tag
 flaw_there spot element left (Whole tag) = tag_flaw spot.outer spot.has_root spot.depth left tag

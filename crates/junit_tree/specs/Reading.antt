@@ -20,7 +20,8 @@ pub record IsReadTo (document : List ℕ) (u : Unfinished) (rest : List ℕ) : T
   pub printed : PrintsFront document u rest
   pub sound : IsSound u
 
--- The document is read up to the rest: the content is what stands in the innermost open element, and the place is behind it.
+-- The document is read up to the rest: the content is what stands in the innermost open element,
+-- and the place is behind it.
 pub record IsBehind (document : List ℕ) (u : Unfinished) (place : Place) (before : Content) (rest : List ℕ) : Type 0 where
   pub read : IsReadTo document u rest
   pub placed : IsPlaceOf place u
@@ -30,7 +31,9 @@ pub record IsBehind (document : List ℕ) (u : Unfinished) (place : Place) (befo
 abbrev pub EndsBy : List ℕ → Unfinished → Option End → Type 0
 EndsBy document u None = IsReadTo document u []
 EndsBy document u (Some end) =
-    (last : List ℕ) × IsReadTo document u last × IsAt last end.left (Closes end.name.now) end.rest.now × (token_flaw u end.left (Closes end.name.now) ≡ None)
+    (last : List ℕ) × IsReadTo document u last
+    × IsAt last end.left (Closes end.name.now) end.rest.now
+    × (token_flaw u end.left (Closes end.name.now) ≡ None)
 
 -- All of the content of the innermost open element, or the first flaw of the document.
 abbrev pub ReadsOn : List ℕ → Unfinished → Result Part Stop → Type 0
@@ -41,6 +44,7 @@ ReadsOn document u (Err (stop.Flawed flaw)) = HasFlaw document flaw
 -- A construct with which nothing is wrong there, or the first flaw of the document.
 abbrev pub ReadsToken : List ℕ → Unfinished → List ℕ → Result (CodeToken × Bor (List ℕ)) Stop → Type 0
 ReadsToken document u bytes (Ok read) =
-    (token_from bytes ≡ Some (token_seen read.0, read.1.now)) × (token_flaw u (length bytes) (token_seen read.0) ≡ None)
+    (token_from bytes ≡ Some (token_seen read.0, read.1.now))
+    × (token_flaw u (length bytes) (token_seen read.0) ≡ None)
 ReadsToken document u bytes (Err stop.Memory) = Unit {0}
 ReadsToken document u bytes (Err (stop.Flawed flaw)) = HasFlaw document flaw

@@ -33,4 +33,5 @@ end_seen (Some end) = Some (end.0, end.1.now)
 abbrev pub content_seen : CodeContent → Content
 content_seen content.Nothing = Nothing
 content_seen (content.Then' p before left leaf) = Then (content_seen before) left (leaf_seen leaf)
-content_seen (content.Element' p before left tag q own end) = Element (content_seen before) left (tag_text tag) (content_seen own) (end_seen end)
+content_seen (content.Element' p before left tag q own end) =
+    Element (content_seen before) left (tag_text tag) (content_seen own) (end_seen end)

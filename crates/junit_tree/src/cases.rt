@@ -1,14 +1,16 @@
 //! The cases of content, by recursion over it.
 ghost use Rattle.std.specs.Prelude.{◌≡◌, IfOk};
-ghost use Rattle.junit_reader.specs.Cases.{case_of, cases_in, ended_case, first_told, own_text, told_of};
+ghost use Rattle.junit_reader.specs.Cases.{case_of, cases_in, first_told, own_text, told_of};
 ghost use Rattle.junit_reader.specs.Tags.{tag_text};
 ghost use Rattle.junit_tree.specs.Endings.{IsEndingOf};
 ghost use Rattle.junit_tree.specs.Seen.{content_seen};
 
 use crate::content::Content;
 use crate::tokens::push_leaf;
-use junit_reader::parts::{Role, Tag, case_duration, case_name, role_in, text_named, told_by};
-use names_realms::{Bytes, Case, Span, Status};
+use junit_reader::parts::{
+    Ending, Role, Tag, case_duration, case_name, ended_case, role_in, text_named, told_by,
+};
+use names_realms::{Bytes, Case};
 use std::alloc::{AllocError, Global};
 
 /// Text, characters and CDATA sections directly in content.
@@ -59,14 +61,7 @@ fn first_told(
     }
 }
 
-/// How a case ended, by its first error, its first failure and its first skip.
-#[derive(Debug, Drop)]
-struct Ending {
-    error: Option<Bytes>,
-    failure: Option<Bytes>,
-    is_skipped: bool,
-}
-
+/// How a case ended.
 fn ending_of(alloc: Global, own: &Content<'_>) -> Result<Ending, AllocError>
     ensures { IfOk result (λ e. IsEndingOf e (content_seen own.now)) }
 {
@@ -78,25 +73,6 @@ fn ending_of(alloc: Global, own: &Content<'_>) -> Result<Ending, AllocError>
         failure,
         is_skipped: skipped.is_some(),
     })
-}
-
-/// A case by how it ended.
-fn ended_case(alloc: Global, name: Bytes, duration: Option<Span>, ending: Ending) -> Case
-    ensures { result ≡ ended_case name duration ending.error ending.failure ending.is_skipped }
-{
-    let (status, expected, message) = match (ending.error, ending.failure, ending.is_skipped) {
-        (Some(message), _, _) => (Status::Crash, false, message),
-        (None, Some(message), _) => (Status::Fail, false, message),
-        (None, None, true) => (Status::Skip, true, Bytes::new(Vec::new(alloc))),
-        (None, None, false) => (Status::Pass, true, Bytes::new(Vec::new(alloc))),
-    };
-    Case {
-        name,
-        status,
-        expected,
-        duration,
-        message,
-    }
 }
 
 /// The case of a `testcase`.

@@ -12,8 +12,9 @@ use crate::tokens::{Leaf, Token, token_for};
 use junit_reader::parts::{Cause, Flaw, Stop, Tag, Unread, read_construct};
 use std::alloc::{AllocError, Global};
 
-/// Content, from its end: nothing; content and a leaf behind it; content and an element behind it, with its tag, its own content, and
-/// its end tag where it has one. Each construct has its place, as the number of bytes from its first on.
+/// Content, from its end: nothing; content and a leaf behind it; content and an element behind it,
+/// with its tag, its own content, and its end tag where it has one. Each construct has its place, as
+/// the number of bytes from its first on.
 #[derive(Debug, Drop)]
 pub(crate) enum Content<'a> {
     Nothing,
@@ -43,7 +44,8 @@ fn then<'a>(
     left: usize,
     leaf: Leaf<'a>,
 ) -> Result<Content<'a>, AllocError>
-    ensures { IfOk result (λ c. content_seen c ≡ Then (content_seen before.entry) left (leaf_seen leaf.entry)) }
+    ensures { IfOk result (λ c. content_seen c
+        ≡ Then (content_seen before.entry) left (leaf_seen leaf.entry)) }
 {
     Ok(Content::Then(Box::new(alloc, before)?, left, leaf))
 }
@@ -56,7 +58,9 @@ fn element<'a>(
     own: Content<'a>,
     end: Option<(usize, &'a [u8])>,
 ) -> Result<Content<'a>, AllocError>
-    ensures { IfOk result (λ c. content_seen c ≡ Element (content_seen before.entry) start.entry.0 (tag_text start.entry.1) (content_seen own.entry) (end_seen end.entry)) }
+    ensures { IfOk result (λ c. content_seen c
+        ≡ Element (content_seen before.entry) start.entry.0 (tag_text start.entry.1)
+        (content_seen own.entry) (end_seen end.entry)) }
 {
     let (left, tag) = start;
     let before = Box::new(alloc, before)?;
@@ -78,8 +82,10 @@ fn next_token<'a>(
     bytes: &'a [u8],
 ) -> Result<(Token<'a>, &'a [u8]), Stop>
     requires { 0 < length bytes.now }
-    ensures read { (document : List ℕ) (u : Unfinished) → IsReadTo document u bytes.now → IsPlaceOf place.entry u → ReadsToken document u bytes.now result }
-    ensures right { IfOk result (λ r. flaw_there place.entry.spot (option_map (λ n. n.now) place.entry.element) (length bytes.now) (token_seen r.0) ≡ None) }
+    ensures read { (document : List ℕ) (u : Unfinished) → IsReadTo document u bytes.now
+        → IsPlaceOf place.entry u → ReadsToken document u bytes.now result }
+    ensures right { IfOk result (λ r. flaw_there place.entry.spot (option_map (λ n. n.now) place.entry.element)
+        (length bytes.now) (token_seen r.0) ≡ None) }
     ensures shorter { IfOk result (λ r. length r.1.now < length bytes.now) }
 {
     let left = bytes.len();
@@ -103,7 +109,9 @@ pub(crate) fn content_from<'a>(
     before: Content<'a>,
     bytes: &'a [u8],
 ) -> Result<Part<'a>, Stop>
-    ensures read { (document : List ℕ) (u : Unfinished) → IsBehind document u place.entry (content_seen before.entry) bytes.now → ReadsOn document u result }
+    ensures read { (document : List ℕ) (u : Unfinished)
+        → IsBehind document u place.entry (content_seen before.entry) bytes.now
+        → ReadsOn document u result }
     ensures within { IfOk result (λ p. IfSome p.end (λ e. length e.rest.now < length bytes.now)) }
 {
     if bytes.is_empty() {

@@ -66,7 +66,9 @@ impl<'a> Place<'a> {
         left: usize,
         token: &Token<'_>,
     ) -> Result<Option<Flaw>, AllocError>
-        ensures { IfOk result (λ o. o ≡ flaw_there self.entry.spot (option_map (λ n. n.now) self.entry.element) left (token_seen token.now)) }
+        ensures { IfOk result (λ o. o
+            ≡ flaw_there self.entry.spot (option_map (λ n. n.now) self.entry.element)
+            left (token_seen token.now)) }
     {
         match (token, self.element) {
             (Token::Stands(leaf), None) => Ok(outside_flaw(left, *leaf)),
@@ -84,7 +86,9 @@ impl<'a> Place<'a> {
 
     /// The place behind an element that stands here.
     pub(crate) fn behind_element(self) -> Place<'a>
-        ensures { (u : Unfinished) (left : ℕ) (tag : TagText) (own : Content) (end : Option (ℕ × List ℕ)) → IsPlaceOf self.entry u → IsPlaceOf result (closed u left tag own end) }
+        ensures { (u : Unfinished) (left : ℕ) (tag : TagText) (own : Content)
+            (end : Option (ℕ × List ℕ)) → IsPlaceOf self.entry u
+            → IsPlaceOf result (closed u left tag own end) }
     {
         Place {
             spot: Spot {
@@ -99,7 +103,8 @@ impl<'a> Place<'a> {
     /// The place where the content of an element of this name begins.
     pub(crate) fn within(self, name: &'a [u8]) -> Place<'a>
         requires { self.spot.depth < 32 }
-        ensures { (u : Unfinished) (left : ℕ) (tag : TagText) → tag.name ≡ name.now → IsPlaceOf self.entry u → IsPlaceOf result (Within u left tag Nothing) }
+        ensures { (u : Unfinished) (left : ℕ) (tag : TagText) → tag.name ≡ name.now
+            → IsPlaceOf self.entry u → IsPlaceOf result (Within u left tag Nothing) }
     {
         Place {
             spot: Spot {

@@ -9,7 +9,7 @@ use crate::cases::cases_in;
 use crate::content::{Content, content_from, has_element};
 use crate::places::Place;
 use junit_reader::JunitFault;
-use junit_reader::parts::{Cause, Flaw, Role, Stop, document_of, fault_of, text_place};
+use junit_reader::parts::{Cause, Flaw, Role, Stop, answer_of, document_of};
 use names_realms::Case;
 use std::alloc::Global;
 
@@ -46,25 +46,16 @@ fn cases_of(alloc: Global, document: &[u8]) -> Result<Vec<Case>, Stop>
     }
 }
 
-/// The cases of a JUnit XML report, or its first fault: what `junit_reader::read_report` answers, by way of a tree of elements.
+/// The cases of a JUnit XML report, or its first fault: what `junit_reader::read_report` answers, by
+/// way of a tree of elements.
 ///
-/// It is for small reports, and to be compared with. It recurses as deep as constructs stand side by side, and takes time quadratic in
-/// the bytes.
+/// It is for small reports, and to be compared with. It recurses as deep as constructs stand side by
+/// side, and takes time quadratic in the bytes.
 pub fn plain_report(alloc: Global, bytes: &[u8]) -> Result<Vec<Case>, JunitFault>
     // What is read are the cases of the one tree that the report is a print of.
     ensures ok { IfOk result (λ v. HasCases bytes.now v.items) }
     // Every other report is refused by its first fault.
     ensures err { IfErr result (λ f. f ≢ JunitFault.Memory → HasFault bytes.now f) }
 {
-    match cases_of(alloc, document_of(bytes)) {
-        Ok(cases) => {
-            let text = text_place(bytes);
-            if text < bytes.len() {
-                return Err(JunitFault::NotText { at: text });
-            }
-            Ok(cases)
-        }
-        Err(Stop::Memory) => Err(JunitFault::Memory),
-        Err(Stop::Flawed(flaw)) => Err(fault_of(bytes, flaw)),
-    }
+    answer_of(bytes, cases_of(alloc, document_of(bytes)))
 }
