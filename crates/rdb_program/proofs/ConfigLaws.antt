@@ -71,18 +71,3 @@ refused_told before fault after told r is = by_end r.whole
           size (omega (arith, full, ap length parts.2, length-append r.text parts.0)),
           ap refusal_line (only_size r.text fault (omega (arith, full)) r.first),
         )
-
--- ---- what reading it comes to
-
-pub at_its_end : (before : Incoming) (after : Incoming) (bytes : List ℕ) → IsEnd after.left ⊎ (length bytes ≡ most_read) → length bytes ≤ most_bytes
-    → IsEnd after.left
-at_its_end before after bytes (inl end) few = end
-at_its_end before after bytes (inr full) few = absurd (omega (arith, full, few))
-
-pub accepted_left : (before : Incoming) (book : PolicyTables) (after : Incoming) → Accepts before book after → Leaves before after
-accepted_left before book after a = record {
-  text = a.text;
-  gave = a.gave;
-  bounded = omega (arith, a.policy.size);
-  faults = a.faults;
-}

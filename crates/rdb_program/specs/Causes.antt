@@ -1,5 +1,6 @@
 -- Why a connection ends, and what that comes to: one row for each cause.
-use Rattle.std.specs.Prelude.{◌≡◌, ◌≢◌, ℕ, ◌≤◌, ◌⊎◌, List, [], ◌++◌, length, codes, decimal, true, Option, Some, None, Result, Ok, Err}
+use Rattle.std.specs.Prelude.{◌≡◌, ◌≢◌, ℕ, ◌≤◌, ◌⊎◌, List, [], ◌++◌, length, codes, decimal, true}
+use Rattle.std.specs.Prelude.{Option, Some, None, Result, Ok, Err}
 use Rattle.outside.specs.Bytes.{IsEnd}
 use Rattle.fault_counts.specs.Causes.{Rose}
 use Rattle.outside.specs.declared.whole.WriteEnd.{WriteEnd}
@@ -32,8 +33,8 @@ farewell_of fault = farewell_bytes fault
 abbrev pub error_line : List ℕ → List ℕ
 error_line text = codes "rdb: " ++ (text ++ codes "\n")
 
--- A cause's row: what is written behind the replies, the end of the stream where it was reached, the exit status, and the
--- line on the errors.
+-- A cause's row: what is written behind the replies, the end of the stream where it was reached,
+-- the exit status, and the line on the errors.
 pub record Row : Type 0 where
   pub closing : List ℕ
   pub end : Option End
@@ -51,8 +52,10 @@ row_of causes.WriteFault = row [] None 4 (error_line (codes "fault of output"))
 row_of causes.Memory = row closing_standin None 7 (error_line (codes "want of memory"))
 row_of (causes.Wire fault) =
     row (farewell_of fault) (Some (stream_ends.Fault fault)) 8
-    (error_line (codes "wire " ++ (decimal (fault_number fault) ++ (codes " " ++ fault_name fault))))
-row_of causes.SinkTakesNothing = row closing_standin None 9 (error_line (codes "output takes nothing"))
+    (error_line (codes "wire "
+    ++ (decimal (fault_number fault) ++ (codes " " ++ fault_name fault))))
+row_of causes.SinkTakesNothing =
+    row closing_standin None 9 (error_line (codes "output takes nothing"))
 
 -- why a connection ends whose reply wasn't written whole
 abbrev pub cause_of : WriteEnd → Cause
@@ -90,8 +93,8 @@ NothingLeft (stream_ends.Fault fault) left = Unit {0}
 abbrev pub ReachesEnd : End → List ℕ → Option (List ℕ) → Type 0
 ReachesEnd end rest left = HasEnd rest end × NothingLeft end left
 
--- What stands behind the messages in what was read. A read fails only where an end wasn't decided yet. Behind a message
--- that closes no more was read than a head may have.
+-- What stands behind the messages in what was read. A read fails only where an end wasn't decided
+-- yet. Behind a message that closes no more was read than a head may have.
 abbrev pub IsRest : Cause → List ℕ → Option (List ℕ) → Type 0
 IsRest causes.ReadFault rest left = IsUndecided rest
 IsRest causes.End rest left = ReachesEnd stream_ends.Finished rest left
@@ -101,8 +104,8 @@ IsRest causes.WriteFault rest left = Unit {0}
 IsRest causes.Memory rest left = Unit {0}
 IsRest causes.SinkTakesNothing rest left = Unit {0}
 
--- Which of the messages closes the connection: none; or the last one; or maybe the last one, whose reply wasn't written
--- whole.
+-- Which of the messages closes the connection: none; or the last one; or maybe the last one, whose
+-- reply wasn't written whole.
 abbrev pub AreOpen : Cause → List Message → Type 0
 AreOpen causes.End messages = StayOpen 0 messages
 AreOpen causes.Closed messages = LastCloses messages

@@ -18,18 +18,22 @@ WroteNothing result before after = (result ≡ Ok tt) × (after ≡ before)
 abbrev pub ClosesBy : WireFault → Cause → Result (Unit {0}) WriteEnd → Outgoing → Outgoing → Type 0
 ClosesBy (faults.CutShort have) cause result before after =
     (cause ≡ causes.Wire (faults.CutShort have)) × WroteNothing result before after
-ClosesBy faults.ReadFault cause result before after = (cause ≡ causes.ReadFault) × WroteNothing result before after
+ClosesBy faults.ReadFault cause result before after =
+    (cause ≡ causes.ReadFault) × WroteNothing result before after
 ClosesBy faults.Memory cause result before after =
     WritesWhole before closing_standin result after
     × (((cause ≡ causes.Memory) × (result ≢ Err write_ends.SinkTakesNothing))
     ⊎ ((cause ≡ causes.SinkTakesNothing) × (result ≡ Err write_ends.SinkTakesNothing)))
 ClosesBy fault cause result before after =
-    (cause ≡ causes.Wire fault) × WritesWhole before (row_of (causes.Wire fault)).closing result after
+    (cause ≡ causes.Wire fault)
+    × WritesWhole before (row_of (causes.Wire fault)).closing result after
 
 abbrev pub Closes : WireFault → Cause → Outgoing → Outgoing → Type 0
-Closes fault cause before after = (result : Result (Unit {0}) WriteEnd) × ClosesBy fault cause result before after
+Closes fault cause before after =
+    (result : Result (Unit {0}) WriteEnd) × ClosesBy fault cause result before after
 
--- A cause that the wire gave leaves it closed, so that want of memory is told only where the wire answered it.
+-- A cause that the wire gave leaves it closed, so that want of memory is told only where the wire
+-- answered it.
 abbrev pub LeavesWire : Cause → Bool → Type 0
 LeavesWire causes.Memory is_open = is_open ≡ false
 LeavesWire causes.ReadFault is_open = is_open ≡ false

@@ -7,7 +7,8 @@ use Rattle.policy_tables.specs.declared.tables.PolicyTables.{PolicyTables}
 use Rattle.permissions.specs.Faults.{IsPolicyOf, IsFirstFault}
 use Rattle.permissions.specs.declared.faults.PolicyFault.{PolicyFault}
 use Rattle.rdb_program.specs.declared.ending.Ending.{Ending}
-use Rattle.rdb_program.specs.declared.ending.Ending.TheVariants.{WordsRefused, Shown, ConfigFault, ConfigRefused, Unstarted, Served}
+use Rattle.rdb_program.specs.declared.ending.Ending.TheVariants.{WordsRefused, Shown, ConfigFault}
+use Rattle.rdb_program.specs.declared.ending.Ending.TheVariants.{ConfigRefused, Unstarted, Served}
 
 -- the most that is read of a configuration: one byte more than it may have
 abbrev pub most_read : ℕ
@@ -21,7 +22,8 @@ pub record Accepts (before : Incoming) (tables : PolicyTables) (after : Incoming
   pub faults : after.faults ≡ before.faults
   pub policy : IsPolicyOf text tables
 
--- Its text was read to its end, or as far as a text is read, no read failed, and this is the text's first fault.
+-- Its text was read to its end, or as far as a text is read, no read failed, and this is the text's
+-- first fault.
 pub record Refuses (before : Incoming) (fault : PolicyFault) (after : Incoming) : Type 0 where
   pub text : List ℕ
   pub gave : Gave before.left text after.left

@@ -9,12 +9,14 @@ use Rattle.call_forms.specs.declared.forms.Told.{Told}
 use Rattle.record_desk.specs.Exchange.{Exchange}
 use Rattle.http_wire.specs.Stream.{Spells, reply_limit, closes}
 use Rattle.rdb_program.specs.Turns.{Turn, messages_of, exchanges_of, replies}
-use Rattle.rdb_program.specs.Causes.{row_of, closing_standin, IsLastWrite, CountsReads, IsRest, AreOpen}
+use Rattle.rdb_program.specs.Causes.{row_of, closing_standin, IsLastWrite, CountsReads, IsRest}
+use Rattle.rdb_program.specs.Causes.{AreOpen}
 use Rattle.rdb_program.specs.declared.ending.Cause.{Cause}
 use Rattle.rdb_program.specs.declared.ending.Cause.TheVariants as causes
 
 -- The earlier bytes were written whole, and then the last ones, whose write ended so.
-pub record Sent (before : Outgoing) (earlier last : List ℕ) (result : Result (Unit {0}) WriteEnd) (after : Outgoing) : Type 0 where
+pub record Sent (before : Outgoing) (earlier last : List ℕ) (result : Result (Unit {0}) WriteEnd)
+    (after : Outgoing) : Type 0 where
   pub between : Outgoing
   pub whole : Took before.written earlier between.written
   pub faults : between.faults ≡ before.faults
@@ -44,8 +46,10 @@ IsLast causes.ReadFault turns earlier last = IsClosing causes.ReadFault turns ea
 IsLast causes.Memory turns earlier last = IsClosing causes.Memory turns earlier last
 IsLast (causes.Wire fault) turns earlier last = IsClosing (causes.Wire fault) turns earlier last
 
--- A connection that ended by this cause. `asked` says of exchanges that the teller was asked them, in order.
-pub record Connection (asked : List Exchange → Type 0) (before : Ends) (cause : Cause) (after : Ends) : Type 0 where
+-- A connection that ended by this cause. `asked` says of exchanges that the teller was asked them,
+-- in order.
+pub record Connection (asked : List Exchange → Type 0) (before : Ends) (cause : Cause)
+    (after : Ends) : Type 0 where
   pub turns : List Turn
   pub text : List ℕ
   pub rest : List ℕ
@@ -67,8 +71,8 @@ pub record Connection (asked : List Exchange → Type 0) (before : Ends) (cause 
   pub reads : CountsReads cause before.incoming.faults after.incoming.faults
 
 -- One message was asked, and what was told was written.
-pub record Answers (is_told : Told → Type 0) (close : Bool) (before : Outgoing) (result : Result (Unit {0}) WriteEnd)
-    (after : Outgoing) : Type 0 where
+pub record Answers (is_told : Told → Type 0) (close : Bool) (before : Outgoing)
+    (result : Result (Unit {0}) WriteEnd) (after : Outgoing) : Type 0 where
   pub told : Told
   pub tells : is_told told
   pub writes : WritesWhole before (told_bytes told close) result after

@@ -12,15 +12,19 @@ use Rattle.rdb_program.specs.declared.ending.Cause.{Cause}
 
 -- However the stream goes on, its first messages are these.
 abbrev pub AreFirst : List Message → List ℕ → Type 0
-AreFirst ms stream = (all : List Message) (end : End) → Framed stream all end → (others : List Message) × (all ≡ ms ++ others)
+AreFirst ms stream =
+    (all : List Message) (end : End) → Framed stream all end
+    → (others : List Message) × (all ≡ ms ++ others)
 
--- The messages are all of the stream's, and its end is this one; or where no end was reached, they are its first ones.
+-- The messages are all of the stream's, and its end is this one; or where no end was reached, they
+-- are its first ones.
 abbrev pub AreMessages : Option End → List Message → List ℕ → Type 0
 AreMessages (Some end) ms stream = Framed stream ms end
 AreMessages None ms stream = AreFirst ms stream
 
 -- A connection, whose messages are those of all that was left to read at its start.
-pub record Served (asked : List Exchange → Type 0) (before : Ends) (cause : Cause) (after : Ends) : Type 0 where
+pub record Served (asked : List Exchange → Type 0) (before : Ends) (cause : Cause)
+    (after : Ends) : Type 0 where
   pub connection : Connection asked before cause after
   pub framed : (stream : List ℕ) → before.incoming.left ≡ Some stream
       → AreMessages (row_of cause).end (messages_of connection.turns) stream

@@ -17,9 +17,11 @@ use Rattle.rdb_program.specs.Framing as framing
 use Rattle.rdb_program.specs.Configured.{Accepts, IsUnserved}
 use Rattle.rdb_program.specs.declared.ending.Cause.{Cause}
 use Rattle.rdb_program.specs.declared.ending.Ending.{Ending}
-use Rattle.rdb_program.specs.declared.ending.Ending.TheVariants.{WordsRefused, Shown, ConfigFault, ConfigRefused, Unstarted, Served}
+use Rattle.rdb_program.specs.declared.ending.Ending.TheVariants.{WordsRefused, Shown, ConfigFault}
+use Rattle.rdb_program.specs.declared.ending.Ending.TheVariants.{ConfigRefused, Unstarted, Served}
 
--- What the work of a run goes over at one moment, as far as it tells: the configuration, and the connection.
+-- What the work of a run goes over at one moment, as far as it tells: the configuration, and the
+-- connection.
 pub record Work : Type 0 where
   pub config : Incoming
   pub ends : Ends
@@ -38,7 +40,8 @@ outside config input output errors = record {
 -- the line that tells why a configuration is refused: a number and a name, and nothing of its text
 abbrev pub refusal_line : PolicyFault → List ℕ
 refusal_line fault =
-    error_line (codes "configuration refused: " ++ (decimal (fault_number fault) ++ (codes " " ++ fault_name fault)))
+    error_line (codes "configuration refused: "
+    ++ (decimal (fault_number fault) ++ (codes " " ++ fault_name fault)))
 
 abbrev pub status_of : Ending → ℕ
 status_of WordsRefused = 1
@@ -58,10 +61,10 @@ line_of (ConfigRefused fault) = refusal_line fault
 line_of Unstarted = error_line (codes "want of memory")
 line_of (Served cause) = (row_of cause).line
 
--- These were asked and told in one legal history from the empty world, under this policy, of one seat, at the moments that
--- the clock's answers make.
-pub record IsHistory (tables : PolicyTables) (tells_before : List ℤ → Type 0) (exchanges : List Exchange)
-    (tells_after : List ℤ → Type 0) : Type 0 where
+-- These were asked and told in one legal history from the empty world, under this policy, of one
+-- seat, at the moments that the clock's answers make.
+pub record IsHistory (tables : PolicyTables) (tells_before : List ℤ → Type 0)
+    (exchanges : List Exchange) (tells_after : List ℤ → Type 0) : Type 0 where
   pub first : CoreState
   pub last : CoreState
   pub policy : first.settings.policy ≡ tables
@@ -69,12 +72,14 @@ pub record IsHistory (tables : PolicyTables) (tells_before : List ℤ → Type 0
   pub moves : Moves first tells_before exchanges last tells_after
 
 -- The output got this text, as far as it took it, and nothing was read.
-pub record ShowsText (text : List ℕ) (before : Ends) (result : Result (Unit {0}) WriteEnd) (after : Ends) : Type 0 where
+pub record ShowsText (text : List ℕ) (before : Ends) (result : Result (Unit {0}) WriteEnd)
+    (after : Ends) : Type 0 where
   pub unread : after.incoming ≡ before.incoming
   pub writes : WritesWhole before.outgoing text result after.outgoing
 
 -- A run whose words ask for a text.
-pub record Shows (result : Result (Unit {0}) WriteEnd) (words : List (List ℕ)) (before : Work) (tells_before : List ℤ → Type 0)
+pub record Shows (result : Result (Unit {0}) WriteEnd) (words : List (List ℕ))
+    (before : Work) (tells_before : List ℤ → Type 0)
     (after : Work) (tells_after : List ℤ → Type 0) : Type 0 where
   pub text : List ℕ
   pub asked : AskForText words text
@@ -82,25 +87,31 @@ pub record Shows (result : Result (Unit {0}) WriteEnd) (words : List (List ℕ))
   pub ends : ShowsText text before.ends result after.ends
   pub clocked : IsClocked tells_before [] tells_after
 
--- A run whose words ask for a connection, and that ended by its configuration: nothing was read of the input, nothing was
--- written to the output, and the clock wasn't asked.
-pub record StopsAtConfig (ending : Ending) (words : List (List ℕ)) (before : Work) (tells_before : List ℤ → Type 0)
+-- A run whose words ask for a connection, and that ended by its configuration: nothing was read of
+-- the input, nothing was written to the output, and the clock wasn't asked.
+pub record StopsAtConfig (ending : Ending) (words : List (List ℕ))
+    (before : Work) (tells_before : List ℤ → Type 0)
     (after : Work) (tells_after : List ℤ → Type 0) : Type 0 where
   pub words_are : IsAnswerWords words
   pub config : IsUnserved ending before.config after.config
   pub ends : after.ends ≡ before.ends
   pub clocked : IsClocked tells_before [] tells_after
 
--- A run whose words ask for a connection, whose configuration is that of a policy, and that served the connection under it.
-pub record Serves (cause : Cause) (words : List (List ℕ)) (before : Work) (tells_before : List ℤ → Type 0)
+-- A run whose words ask for a connection, whose configuration is that of a policy, and that served
+-- the connection under it.
+pub record Serves (cause : Cause) (words : List (List ℕ))
+    (before : Work) (tells_before : List ℤ → Type 0)
     (after : Work) (tells_after : List ℤ → Type 0) : Type 0 where
   pub words_are : IsAnswerWords words
   pub tables : PolicyTables
   pub config : Accepts before.config tables after.config
-  pub served : framing.Served (λ exchanges. IsHistory tables tells_before exchanges tells_after) before.ends cause after.ends
+  pub served : framing.Served (λ exchanges. IsHistory tables tells_before exchanges tells_after)
+      before.ends cause after.ends
 
--- What a run did that ended so. For want of memory it may have ended at its words, of which nothing is said then.
-abbrev pub IsRun : Ending → List (List ℕ) → Work → (List ℤ → Type 0) → Work → (List ℤ → Type 0) → Type 0
+-- What a run did that ended so. For want of memory it may have ended at its words, of which nothing
+-- is said then.
+abbrev pub IsRun : Ending → List (List ℕ)
+    → Work → (List ℤ → Type 0) → Work → (List ℤ → Type 0) → Type 0
 IsRun WordsRefused words before tells_before after tells_after =
     SayNothing words × (after ≡ before) × IsClocked tells_before [] tells_after
 IsRun (Shown result) words before tells_before after tells_after =
@@ -117,10 +128,12 @@ IsRun (Served cause) words before tells_before after tells_after =
 
 -- The line was written, or a front of it where a write of it failed or took nothing.
 abbrev pub IsReported : List ℕ → Outgoing → Outgoing → Type 0
-IsReported line before after = (result : Result (Unit {0}) WriteEnd) × WritesWhole before line result after
+IsReported line before after =
+    (result : Result (Unit {0}) WriteEnd) × WritesWhole before line result after
 
 -- The status is that of how the run ended, and so is the line on the errors.
-pub record ProgramRun (status : ℕ) (words : List (List ℕ)) (before : Outside) (tells_before : List ℤ → Type 0)
+pub record ProgramRun (status : ℕ) (words : List (List ℕ))
+    (before : Outside) (tells_before : List ℤ → Type 0)
     (after : Outside) (tells_after : List ℤ → Type 0) : Type 0 where
   pub ending : Ending
   pub status_is : status ≡ status_of ending

@@ -19,12 +19,15 @@ use Rattle.rdb_program.specs.Run.{Work, Outside, IsReported, refusal_line}
 -- The stream that was to be read, where it is told, is messages to its end.
 abbrev pub IsWhole : Ends → Type 0
 IsWhole before =
-    (stream : List ℕ) → before.incoming.left ≡ Some stream → (messages : List Message) × Framed stream messages Finished
+    (stream : List ℕ) → before.incoming.left ≡ Some stream
+    → (messages : List Message) × Framed stream messages Finished
 
--- The stream that was to be read, where it is told, is messages of which the last one closes the connection.
+-- The stream that was to be read, where it is told, is messages of which the last one closes the
+-- connection.
 abbrev pub IsClosed : Ends → Type 0
 IsClosed before =
-    (stream : List ℕ) → before.incoming.left ≡ Some stream → (messages : List Message) × Framed stream messages Closed
+    (stream : List ℕ) → before.incoming.left ≡ Some stream
+    → (messages : List Message) × Framed stream messages Closed
 
 -- All was read, and it was messages to its end; or the connection was closed by a reply.
 abbrev pub IsDone : Ends → Ends → Type 0
@@ -42,7 +45,8 @@ pub record IsShown (text : List ℕ) (before after : Work) : Type 0 where
   pub unread : after.ends.incoming ≡ before.ends.incoming
   pub written : Took before.ends.outgoing.written text after.ends.outgoing.written
 
--- The text that the words ask for was shown, or the connection that they ask for was served to its end.
+-- The text that the words ask for was shown, or the connection that they ask for was served to its
+-- end.
 abbrev pub IsWorkDone : List (List ℕ) → Work → Work → Type 0
 IsWorkDone words before after =
     ((text : List ℕ) × AskForText words text × IsShown text before after)
@@ -56,10 +60,11 @@ pub record ConfigFailed (before after : Work) : Type 0 where
 -- A read of the input failed, or a write to the output did.
 abbrev pub EndsFailed : Ends → Ends → Type 0
 EndsFailed before after =
-    Rose before.incoming.faults after.incoming.faults ⊎ Rose before.outgoing.faults after.outgoing.faults
+    Rose before.incoming.faults after.incoming.faults
+    ⊎ Rose before.outgoing.faults after.outgoing.faults
 
--- A read of the configuration or of the input failed, or a write to the output did. A configuration of which a read failed
--- isn't served.
+-- A read of the configuration or of the input failed, or a write to the output did. A configuration
+-- of which a read failed isn't served.
 abbrev pub HasFailed : Work → Work → Type 0
 HasFailed before after = ConfigFailed before after ⊎ EndsFailed before.ends after.ends
 
@@ -67,11 +72,12 @@ HasFailed before after = ConfigFailed before after ⊎ EndsFailed before.ends af
 abbrev pub HasStalled : Work → Work → Type 0
 HasStalled before after = Rose before.ends.outgoing.stalls after.ends.outgoing.stalls
 
--- Over ends on which nothing fails and that take what they are given, a stream that has this end ends in this status, or
--- memory is wanting.
+-- Over ends on which nothing fails and that take what they are given, a stream that has this end
+-- ends in this status, or memory is wanting.
 abbrev pub EndsIn : End → ℕ → ℕ → Work → Work → Type 0
 EndsIn end status found before after =
-    (stream : List ℕ) (messages : List Message) → before.ends.incoming.left ≡ Some stream → Framed stream messages end
+    (stream : List ℕ) (messages : List Message)
+    → before.ends.incoming.left ≡ Some stream → Framed stream messages end
     → ¬ HasFailed before after → ¬ HasStalled before after
     → (found ≡ status) ⊎ (found ≡ 7)
 
@@ -80,11 +86,15 @@ abbrev pub IsConfigRead : ℕ → Work → Work → Type 0
 IsConfigRead status before after = status ≡ 4 → ¬ Rose before.config.faults after.config.faults
 
 -- What a status says of a configuration whose whole text is told.
-pub record ConfigSays (status : ℕ) (words : List (List ℕ)) (text : List ℕ) (before after : Outside) : Type 0 where
+pub record ConfigSays (status : ℕ) (words : List (List ℕ)) (text : List ℕ)
+    (before after : Outside) : Type 0 where
   -- 2: this is its first fault, whose number and name the errors got.
-  pub refused : status ≡ 2 → (fault : PolicyFault) × IsFirstFault text fault × IsReported (refusal_line fault) before.errors after.errors
+  pub refused : status ≡ 2
+      → (fault : PolicyFault) × IsFirstFault text fault
+      × IsReported (refusal_line fault) before.errors after.errors
   -- Where the connection was served, this is its policy.
-  pub served : IsAnswerWords words → status ≢ 2 → status ≢ 7 → IsConfigRead status before.work after.work
+  pub served : IsAnswerWords words → status ≢ 2 → status ≢ 7
+      → IsConfigRead status before.work after.work
       → (tables : PolicyTables) × IsPolicyOf text tables
   -- A text with a fault is refused by it, unless a read of it failed or memory is wanting.
   pub has_fault : IsAnswerWords words → IsConfigRead status before.work after.work
@@ -94,32 +104,40 @@ pub record ConfigSays (status : ℕ) (words : List (List ℕ)) (text : List ℕ)
 
 -- What a status says.
 pub record StatusSays (status : ℕ) (words : List (List ℕ)) (before after : Outside) : Type 0 where
-  -- 1 stands for words outside the grammar, and for nothing else, unless memory is wanting to read them. Then nothing was
-  -- read or written.
+  -- 1 stands for words outside the grammar, and for nothing else, unless memory is wanting to read
+  -- them. Then nothing was read or written.
   pub words_refused : status ≡ 1 → SayNothing words
   pub words_accepted : status ≢ 1 → status ≢ 7 → (command : Command) × Says words command
   pub untouched : status ≡ 1 → after.work ≡ before.work
   -- 2: the configuration is refused. Then the input and the output are untouched.
   pub asked_to_serve : (status ≡ 2) ⊎ (status ≡ 8) → IsAnswerWords words
   pub unserved : status ≡ 2 → after.work.ends ≡ before.work.ends
-  pub config : (text : List ℕ) → before.work.config.left ≡ Some text → ConfigSays status words text before after
-  -- 0: the work is done. 4: a call failed. 8: the input isn't messages to its end. 9: the output took nothing.
+  pub config : (text : List ℕ) → before.work.config.left ≡ Some text
+      → ConfigSays status words text before after
+  -- 0: the work is done. 4: a call failed. 8: the input isn't messages to its end. 9: the output
+  -- took nothing.
   pub done : status ≡ 0 → IsWorkDone words before.work after.work
   pub failed : status ≡ 4 → HasFailed before.work after.work
   pub broken : status ≡ 8 → IsBroken before.work.ends
   pub stalled : status ≡ 9 → HasStalled before.work after.work
   -- A count rises at the statuses that it stands for, or where closing bytes couldn't be written.
   pub no_config_fault : status ≢ 4 → after.work.config.faults ≡ before.work.config.faults
-  pub no_read_fault : status ≢ 4 → after.work.ends.incoming.faults ≡ before.work.ends.incoming.faults
+  pub no_read_fault : status ≢ 4
+      → after.work.ends.incoming.faults ≡ before.work.ends.incoming.faults
   pub no_write_fault : status ≢ 4 → status ≢ 7 → status ≢ 8
       → after.work.ends.outgoing.faults ≡ before.work.ends.outgoing.faults
-  pub no_stall : status ≢ 8 → status ≢ 9 → after.work.ends.outgoing.stalls ≡ before.work.ends.outgoing.stalls
+  pub no_stall : status ≢ 8 → status ≢ 9
+      → after.work.ends.outgoing.stalls ≡ before.work.ends.outgoing.stalls
   -- Only words that ask for a connection have the configuration read.
   pub config_unread : ¬ IsAnswerWords words → after.work.config ≡ before.work.config
-  -- Over ends that don't fail a text is shown, and a stream is answered as it deserves where its configuration isn't refused,
-  -- unless memory is wanting.
-  pub text_shown : (text : List ℕ) → AskForText words text → ¬ HasFailed before.work after.work → ¬ HasStalled before.work after.work
+  -- Over ends that don't fail a text is shown, and a stream is answered as it deserves where its
+  -- configuration isn't refused, unless memory is wanting.
+  pub text_shown : (text : List ℕ) → AskForText words text
+      → ¬ HasFailed before.work after.work → ¬ HasStalled before.work after.work
       → (status ≡ 0) ⊎ (status ≡ 7)
-  pub whole_stream : IsAnswerWords words → status ≢ 2 → EndsIn Finished 0 status before.work after.work
-  pub closed_stream : IsAnswerWords words → status ≢ 2 → EndsIn Closed 0 status before.work after.work
-  pub broken_stream : IsAnswerWords words → status ≢ 2 → (fault : WireFault) → EndsIn (Fault fault) 8 status before.work after.work
+  pub whole_stream : IsAnswerWords words → status ≢ 2
+      → EndsIn Finished 0 status before.work after.work
+  pub closed_stream : IsAnswerWords words → status ≢ 2
+      → EndsIn Closed 0 status before.work after.work
+  pub broken_stream : IsAnswerWords words → status ≢ 2 → (fault : WireFault)
+      → EndsIn (Fault fault) 8 status before.work after.work

@@ -38,7 +38,8 @@ pub record LastCloses (messages : List Message) : Type 0 where
 -- the replies of these turns, before which there were so many
 abbrev pub replies_from : ℕ → List Turn → List ℕ
 replies_from before [] = []
-replies_from before (t ∷ ts) = told_bytes t.told (closes before t.message) ++ replies_from (before + 1) ts
+replies_from before (t ∷ ts) =
+    told_bytes t.told (closes before t.message) ++ replies_from (before + 1) ts
 
 abbrev pub replies : List Turn → List ℕ
 replies turns = replies_from 0 turns

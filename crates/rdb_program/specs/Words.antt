@@ -15,4 +15,5 @@ IsAnswerWords words = (config : List ℕ) × (journal : List ℕ) × Says words 
 
 -- The words ask for this text: that of help, or that of the version.
 abbrev pub AskForText : List (List ℕ) → List ℕ → Type 0
-AskForText words text = (Says words Help × (text ≡ help_text)) ⊎ (Says words Version × (text ≡ version_text))
+AskForText words text =
+    (Says words Help × (text ≡ help_text)) ⊎ (Says words Version × (text ≡ version_text))

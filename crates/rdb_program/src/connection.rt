@@ -35,7 +35,8 @@ fn answer_message<T: Teller, L: Link>(
 ) -> Result<(), WriteEnd>
     ensures answers { Answers
         (λ told. (first : T) (before : List Exchange) → T.stands first teller.old before
-        → T.stands first teller.new (before ++ record { asked = message.now.asked; told = told } ∷ []))
+        → T.stands first teller.new
+        (before ++ record { asked = message.now.asked; told = told } ∷ []))
         close (L.ends link.old).outgoing result (L.ends link.new).outgoing }
     ensures only { OnlyWrites (L.ends link.old) (L.ends link.new) }
     ensures teller_holds { T.holds teller.new ≡ T.holds teller.old }
@@ -47,7 +48,8 @@ fn answer_message<T: Teller, L: Link>(
 
 /// Ends a connection on which memory was wanting to read a message.
 fn close_for_memory<L: Link>(link: &mut L) -> Cause
-    ensures closes { Closes WireFault.Memory result (L.ends link.old).outgoing (L.ends link.new).outgoing }
+    ensures closes { Closes WireFault.Memory result
+        (L.ends link.old).outgoing (L.ends link.new).outgoing }
     ensures only { OnlyWrites (L.ends link.old) (L.ends link.new) }
     ensures holds { L.holds link.new ≡ L.holds link.old }
 {
@@ -57,8 +59,8 @@ fn close_for_memory<L: Link>(link: &mut L) -> Cause
     }
 }
 
-/// Ends a connection from which no more is read: a fault of the stream gets a farewell, unless the stream ended itself,
-/// and want of memory gets a stand-in.
+/// Ends a connection from which no more is read: a fault of the stream gets a farewell, unless the
+/// stream ended itself, and want of memory gets a stand-in.
 fn close_after<L: Link>(link: &mut L, fault: WireFault) -> Cause
     ensures closes { Closes fault result (L.ends link.old).outgoing (L.ends link.new).outgoing }
     ensures only { OnlyWrites (L.ends link.old) (L.ends link.new) }
@@ -75,7 +77,8 @@ fn close_after<L: Link>(link: &mut L, fault: WireFault) -> Cause
     }
 }
 
-/// Answers message after message until the input ends, something fails, or the reply that closes the connection went out.
+/// Answers message after message until the input ends, something fails, or the reply that closes
+/// the connection went out.
 pub fn serve_connection<T: Teller, L: Link>(
     alloc: Global,
     teller: &mut T,

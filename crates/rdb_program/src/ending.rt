@@ -42,7 +42,8 @@ impl From<WriteEnd> for Cause {
     }
 }
 
-/// How a run ended. A fault of the configuration may hold a token, so nothing prints an ending whole.
+/// How a run ended. A fault of the configuration may hold a token, so nothing prints an ending
+/// whole.
 #[derive(Drop)]
 pub enum Ending {
     /// The words are outside the grammar.

@@ -4,7 +4,8 @@ ghost use Rattle.outside.specs.Ends.{Incoming};
 ghost use Rattle.permissions.specs.Faults.{IsSound};
 ghost use Rattle.rdb_program.specs.Words.{IsAnswerWords, AskForText};
 ghost use Rattle.rdb_program.specs.Configured.{Accepts, IsUnserved};
-ghost use Rattle.rdb_program.specs.Run.{outside, line_of, IsRun, Shows, StopsAtConfig, IsReported, ProgramRun};
+ghost use Rattle.rdb_program.specs.Run.{outside, line_of, IsRun, Shows, StopsAtConfig, IsReported};
+ghost use Rattle.rdb_program.specs.Run.{ProgramRun};
 ghost use Rattle.rdb_program.specs.Statuses.{StatusSays};
 
 use crate::connection::serve_connection;
@@ -73,8 +74,10 @@ fn serve<I: Source, L: Link, C: Clock>(
     link: &mut L,
 ) -> Ending
     ensures run { (words : List (List ℕ)) → IsAnswerWords words → IsRun result words
-        (record { config = I.ends config.old; ends = L.ends link.old }) (C.tells (C.state clock.old))
-        (record { config = I.ends config.new; ends = L.ends link.new }) (C.tells (C.state clock.new)) }
+        (record { config = I.ends config.old; ends = L.ends link.old })
+        (C.tells (C.state clock.old))
+        (record { config = I.ends config.new; ends = L.ends link.new })
+        (C.tells (C.state clock.new)) }
     ensures holds { L.holds link.new ≡ L.holds link.old }
 {
     match read_policy(alloc, config) {
@@ -92,8 +95,10 @@ fn run_words<I: Source, L: Link, C: Clock>(
     link: &mut L,
 ) -> Ending
     ensures run { IsRun result (map string_bytes words.now)
-        (record { config = I.ends config.old; ends = L.ends link.old }) (C.tells (C.state clock.old))
-        (record { config = I.ends config.new; ends = L.ends link.new }) (C.tells (C.state clock.new)) }
+        (record { config = I.ends config.old; ends = L.ends link.old })
+        (C.tells (C.state clock.old))
+        (record { config = I.ends config.new; ends = L.ends link.new })
+        (C.tells (C.state clock.new)) }
     ensures holds { L.holds link.new ≡ L.holds link.old }
 {
     match read_words(alloc, words) {
@@ -112,15 +117,15 @@ pub fn report<O: Sink>(ending: &Ending, errors: &mut O)
     let _ = put_whole(errors, ending.line().as_bytes());
 }
 
-/// Runs the command that the words say, and says on `errors` how it ended, unless the work is done. `words` are those
-/// behind the program's name.
+/// Runs the command that the words say, and says on `errors` how it ended, unless the work is done.
+/// `words` are those behind the program's name.
 ///
-/// `answer` reads the configuration, and then requests from `input`, and writes their replies to `output`. `--help` and
-/// `--version` write a text to `output`.
+/// `answer` reads the configuration, and then requests from `input`, and writes their replies to
+/// `output`. `--help` and `--version` write a text to `output`.
 ///
 /// | Status | |
 /// |---|---|
-/// | 0 | each message was answered, to the end of the input or to the reply that closes the connection; or the text was written |
+/// | 0 | each message was answered, to the end or the reply that closes; or the text was written |
 /// | 1 | the words are outside the grammar |
 /// | 2 | the configuration is refused |
 /// | 4 | a read of the configuration or of the input failed, or a write to the output did |
@@ -128,7 +133,8 @@ pub fn report<O: Sink>(ending: &Ending, errors: &mut O)
 /// | 8 | the input isn't messages to its end: it has a message with a fault, or ends inside one |
 /// | 9 | the output took nothing of bytes that it was given |
 ///
-/// Nothing is read from `input` and nothing is written to `output` before the words and the configuration are accepted.
+/// Nothing is read from `input` and nothing is written to `output` before the words and the
+/// configuration are accepted.
 pub fn run_program<R, I: Source, O: Sink, C: Clock>(
     _rt: &R,
     alloc: Global,
@@ -139,7 +145,8 @@ pub fn run_program<R, I: Source, O: Sink, C: Clock>(
     errors: &mut O,
     clock: C,
 ) -> Outcome<C>
-    // The whole run: the policy, which messages were answered, the history that they made, and the bytes that were written.
+    // The whole run: the policy, which messages were answered, the history that they made, and the
+    // bytes that were written.
     ensures run { ProgramRun result.status (map string_bytes words.now)
         (outside (I.ends config.old) (I.ends input.old) (O.ends output.old) (O.ends errors.old))
         (C.tells (C.state clock))
