@@ -9,11 +9,13 @@ use Rattle.json_fields.specs.declared.faults.FieldFault.{FieldFault}
 use Rattle.json_fields.specs.declared.faults.FaultKind.TheVariants.{Missing}
 use Rattle.json_fields.specs.declared.names.Step.TheVariants.{Member, Place}
 
--- The body is UTF-8 text, and the JSON text (RFC 8259) of this value. Of two members with one name the last counts.
+-- The body is UTF-8 text, and the JSON text (RFC 8259) of this value. Of two members with one name
+-- the last counts.
 abbrev pub IsJson : List ℕ → Data → Type 0
 IsJson body d = IsUtf8 body × (read body ≡ Some d)
 
--- the member under the lowerCamelCase name where that name is there at all, else the one under the proto's
+-- the member under the lowerCamelCase name where that name is there at all, else the one under the
+-- proto's
 abbrev pub or_else : {A : Type 0} → Option A → Option A → Option A
 or_else None b = b
 or_else (Some a) b = Some a
@@ -59,7 +61,8 @@ fault_optional n fault None = None
 fault_optional n fault (Some d) = moved (Member n) (fault d)
 
 -- A field that must be set: its name, what its kind calls empty, and what is a fault of its value.
-unfoldable pub required : NameForm → (Data → Bool) → (Data → Option FieldFault) → Data → Option FieldFault
+unfoldable pub required : NameForm → (Data → Bool) → (Data → Option FieldFault) → Data
+    → Option FieldFault
 required n empty fault d = fault_required n fault (filled_at n empty d)
 
 -- a field that may be unset

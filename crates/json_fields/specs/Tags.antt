@@ -23,7 +23,8 @@ key_fault text = part_fault PairKey text
 
 -- `{"key","value"}`, of which an unset one counts as the empty text; the key is judged first
 abbrev pub tag_fields : List (Data → Option FieldFault)
-tag_fields = an_object ∷ or_empty key_name (a_text key_fault) ∷ or_empty value_name (a_text pair_value_fault) ∷ []
+tag_fields = an_object ∷ or_empty key_name (a_text key_fault)
+    ∷ or_empty value_name (a_text pair_value_fault) ∷ []
 
 unfoldable pub a_tag : Data → Option FieldFault
 a_tag d = fault_of tag_fields d
@@ -38,4 +39,5 @@ put_filled n text ms = if length text == 0 then ms else put n.camel (string text
 
 -- what is written of a tag
 abbrev pub tag_data : Pair → Data
-tag_data tag = object (put key_name.camel (string tag.key) (put_filled value_name tag.value no_members))
+tag_data tag =
+    object (put key_name.camel (string tag.key) (put_filled value_name tag.value no_members))

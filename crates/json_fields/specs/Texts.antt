@@ -46,7 +46,8 @@ abbrev pub wrong_of : {A : Type 0} → Result A NameFault → Option NameFault
 wrong_of (Ok a) = None
 wrong_of (Err f) = Some f
 
--- What is wrong with a moment's text, and with a span's. That these are the faults of their grammars is proved in `specs/Laws.antt`.
+-- What is wrong with a moment's text, and with a span's. That these are the faults of their
+-- grammars is proved in `specs/Laws.antt`.
 unfoldable pub moment_fault : List ℕ → Option NameFault
 moment_fault text = wrong_of (moment_of text)
 

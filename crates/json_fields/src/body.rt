@@ -37,9 +37,11 @@ pub fn read_json(alloc: Global, body: &[u8]) -> Result<Value, BodyFault>
     }
 }
 
-/// What a body is, by the form: its value where it has no fault, else the first fault of its value, or `NotJson` where it has none.
+/// What a body is, by the form: its value where it has no fault, else the first fault of its value,
+/// or `NotJson` where it has none.
 pub fn read_body<T: Form>(alloc: Global, body: &[u8]) -> Result<T, BodyFault>
-    ensures ok { IfOk result (λ x. (d : Data) × IsJson body.now d × (T.fault d ≡ None) × T.means d x) }
+    ensures ok { IfOk result (λ x. (d : Data) × IsJson body.now d × (T.fault d ≡ None)
+        × T.means d x) }
     ensures not_json { result ≡ Err BodyFault.NotJson → (d : Data) → ¬ IsJson body.now d }
     ensures fault { (e : ReadFault) → e ≢ ReadFault.Memory → result ≡ Err (BodyFault.In e)
         → (d : Data) × IsJson body.now d × Says e (T.fault d) }

@@ -21,7 +21,8 @@ pub enum FaultKind {
     BadValue(Why),
 }
 
-/// What is wrong with a value, and the steps from the value to where it is wrong, the outermost first.
+/// What is wrong with a value, and the steps from the value to where it is wrong, the outermost
+/// first.
 #[derive(Debug, Drop)]
 pub struct FieldFault {
     pub kind: FaultKind,
@@ -114,7 +115,8 @@ fn first_text(alloc: Global, step: &Step) -> Result<String, AllocError>
     }
 }
 
-/// The text of a path, as `invocation.tags[0].key`, or `body` where it has no steps. `Err` where there is no memory for it.
+/// The text of a path, as `invocation.tags[0].key`, or `body` where it has no steps. `Err` where
+/// there is no memory for it.
 pub fn path_text(alloc: Global, path: &[Step]) -> Result<String, AllocError>
     ensures { IfOk result (λ text. string_bytes text ≡ path_text path.now) }
 {

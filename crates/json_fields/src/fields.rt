@@ -1,4 +1,5 @@
-//! Reading the fields of an object: those that must be set, those that may be unset, and those of which an unset one is empty.
+//! Reading the fields of an object: those that must be set, those that may be unset, and those of
+//! which an unset one is empty.
 ghost use Rattle.std.specs.Prelude.{◌≡◌, Bool, Option, None, IfOk, IfErr, option_map};
 ghost use Rattle.serde_json.specs.Data.{Data};
 ghost use Rattle.serde_json.specs.View.{view};
@@ -15,8 +16,8 @@ use std::alloc::Global;
 
 /// What is read from a JSON value: a text, a number, a list, or an object with fields.
 ///
-/// `fault` is what is wrong with a value, `means` which value of the program it means, and `empty` which values count as unset,
-/// besides null, where a field must be set.
+/// `fault` is what is wrong with a value, `means` which value of the program it means, and `empty`
+/// which values count as unset, besides null, where a field must be set.
 pub trait Form: Sized + Drop {
     ghost fault: { Data → Option FieldFault };
 

@@ -1,4 +1,5 @@
-//! Laws of the definitions that the contracts cite. These functions do nothing: what each of them ensures is the law.
+//! Laws of the definitions that the contracts cite. These functions do nothing: what each of them
+//! ensures is the law.
 ghost use Rattle.json_fields.specs.Laws.{MomentFaultIsOfGrammar, SpanFaultIsOfGrammar, MomentWithoutFault, SpanWithoutFault};
 
 /// The fault of a moment's text is the one that its grammar says.

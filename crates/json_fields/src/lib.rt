@@ -1,6 +1,8 @@
-//! The frame by which JSON bodies are read and written: a kind of values, a field of a kind, a list of fields.
+//! The frame by which JSON bodies are read and written: a kind of values, a field of a kind, a list
+//! of fields.
 //!
-//! A body's fault is the first fault in the list of its fields, and where there is none its value is what the fields say.
+//! A body's fault is the first fault in the list of its fields, and where there is none its value
+//! is what the fields say.
 #![tactic(auto)]
 
 mod body;

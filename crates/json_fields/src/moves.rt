@@ -1,4 +1,5 @@
-//! Lists of what a request says, as lists of what a row keeps: each value is moved, and none is copied.
+//! Lists of what a request says, as lists of what a row keeps: each value is moved, and none is
+//! copied.
 ghost use Rattle.std.specs.Prelude.{◌≡◌, IfOk};
 
 use crate::tags::Tag;

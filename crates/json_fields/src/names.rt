@@ -4,7 +4,8 @@ ghost use Rattle.json_fields.specs.Names.{named};
 
 use std::marker::Model;
 
-/// The two names of a member by the Proto3 mapping to JSON: in lowerCamelCase, and as the proto spells it.
+/// The two names of a member by the Proto3 mapping to JSON: in lowerCamelCase, and as the proto
+/// spells it.
 #[derive(Debug, Drop)]
 pub struct Name {
     camel: &'static str,

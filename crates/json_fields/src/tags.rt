@@ -17,7 +17,8 @@ use serde_json::{Map, Value};
 use std::alloc::{AllocError, Global};
 use std::marker::Model;
 
-/// The key of a tag, at most 64 bytes: words of lower-case letters, digits and `_` that begin with a letter, parted by `/`.
+/// The key of a tag, at most 64 bytes: words of lower-case letters, digits and `_` that begin with
+/// a letter, parted by `/`.
 #[derive(Debug, Drop)]
 pub struct TagKey {
     text: String,
@@ -131,7 +132,8 @@ impl Form for TagValue {
     }
 }
 
-/// A tag: a pair whose key and value are text of the grammar of pairs. Contracts see it as the pair.
+/// A tag: a pair whose key and value are text of the grammar of pairs. Contracts see it as the
+/// pair.
 #[derive(Debug, Drop)]
 pub struct Tag {
     key: TagKey,
@@ -147,11 +149,13 @@ impl Model for Tag {
 }
 
 impl Tag {
-    /// Reads a tag from its two texts. The key is judged first. `Memory` where there is none for the tag.
+    /// Reads a tag from its two texts. The key is judged first. `Memory` where there is none for
+    /// the tag.
     pub fn parse(alloc: Global, key: &[u8], value: &[u8]) -> Result<Tag, PairFault>
         ensures ok { IfOk result (λ t. (t.key ≡ key.now) × (t.value ≡ value.now)) }
         ensures grammar { IfOk result (λ _. IsPairKey key.now × IsPairValue value.now) }
-        ensures fault { IfErr result (λ f. f ≢ PairFault.Memory → pair_fault key.now value.now ≡ Some f) }
+        ensures fault { IfErr result (λ f. f ≢ PairFault.Memory
+            → pair_fault key.now value.now ≡ Some f) }
     {
         let key = match TagKey::parse_text(alloc, key) {
             Ok(key) => key,
@@ -254,7 +258,8 @@ pub fn put_filled(
     name: &Name,
     text: &str,
 ) -> Result<(), AllocError>
-    ensures { OnOk result (members_view map.new.entries ≡ put_filled name.now text.now (members_view map.old.entries)) }
+    ensures { OnOk result (members_view map.new.entries
+        ≡ put_filled name.now text.now (members_view map.old.entries)) }
 {
     if text.is_empty() {
         return Ok(());

@@ -21,7 +21,8 @@ use serde_json::Value;
 use std::alloc::{AllocError, Global};
 use std::marker::Model;
 
-/// What a text is read as by a grammar: `text_fault` is what is wrong with a text, and `spells` which value it spells.
+/// What a text is read as by a grammar: `text_fault` is what is wrong with a text, and `spells`
+/// which value it spells.
 pub trait Spelled: Sized + Drop {
     ghost text_fault: { List ℕ → Option NameFault };
 
@@ -562,7 +563,8 @@ impl Form for InvocationName {
 /// The JSON text of a value with one text.
 pub fn write_text<T: SpelledOut>(alloc: Global, x: &T) -> Result<Value, AllocError>
     ensures value { IfOk result (λ v. view v ≡ string (T.spelling x.now)) }
-    ensures again { IsWritten (a_text T.text_fault) (IsText T.spells) empty_text (λ _. false) x.now (string (T.spelling x.now)) }
+    ensures again { IsWritten (a_text T.text_fault) (IsText T.spells) empty_text (λ _. false) x.now
+        (string (T.spelling x.now)) }
 {
     let text = x.to_spelling(alloc)?;
     Ok(Value::String(text))

@@ -47,7 +47,8 @@ pub enum Why {
 }
 
 impl Why {
-    /// Why a text is refused by its grammar. `None` where memory was wanting, which is no fault of the text.
+    /// Why a text is refused by its grammar. `None` where memory was wanting, which is no fault of
+    /// the text.
     pub fn of(fault: NameFault) -> Option<Why>
         ensures { result ≡ why_of fault }
     {
@@ -99,7 +100,8 @@ impl Why {
         }
     }
 
-    /// Its name, and behind a space its number where it has one. `Err` where there is no memory for it.
+    /// Its name, and behind a space its number where it has one. `Err` where there is no memory for
+    /// it.
     pub fn to_text(self, alloc: Global) -> Result<String, AllocError>
         ensures { IfOk result (λ text. string_bytes text ≡ why_text self) }
     {

@@ -10,8 +10,8 @@ use lists::Listed;
 use serde_json::{Map, Value};
 use std::alloc::{AllocError, Global};
 
-/// What is written so that it is read again as the same value. `json` is the JSON value that is written, and `blank` says which
-/// values are written as empty ones.
+/// What is written so that it is read again as the same value. `json` is the JSON value that is
+/// written, and `blank` says which values are written as empty ones.
 pub trait Written: Form {
     ghost json: { Self → Data };
 
@@ -20,7 +20,8 @@ pub trait Written: Form {
     /// The JSON value, which means this one. `Err` where there is no memory for it.
     fn write(&self, alloc: Global) -> Result<Value, AllocError>
         ensures value { IfOk result (λ v. view v ≡ json self.now) }
-        ensures again { OnOk result (IsWritten Self.fault Self.means Self.empty blank self.now (json self.now)) };
+        ensures again { OnOk result
+            (IsWritten Self.fault Self.means Self.empty blank self.now (json self.now)) };
 }
 
 /// Puts a value under the lowerCamelCase name.
@@ -61,7 +62,8 @@ pub fn write_optional<T: Written>(
 ) -> Result<(), AllocError>
     ensures members { OnOk result (members_view map.new.entries
         ≡ put_optional name T.json x.now (members_view map.old.entries)) }
-    ensures again { OnOk result (IfSome x.now (λ a. IsWritten T.fault T.means T.empty T.blank a (T.json a))) }
+    ensures again { OnOk result (IfSome x.now (λ a.
+        IsWritten T.fault T.means T.empty T.blank a (T.json a))) }
 {
     match x {
         None => Ok(()),
@@ -74,7 +76,8 @@ pub fn write_optional<T: Written>(
 
 /// Appends what is written of a value.
 fn add_written<T: Written>(alloc: Global, list: &mut Vec<Value>, x: &T) -> Result<(), AllocError>
-    ensures values { OnOk result (map view list.new.items ≡ map view list.old.items ++ T.json x.now ∷ []) }
+    ensures values { OnOk result (map view list.new.items
+        ≡ map view list.old.items ++ T.json x.now ∷ []) }
     ensures again { OnOk result (IsWritten T.fault T.means T.empty T.blank x.now (T.json x.now)) }
 {
     let value = x.write(alloc)?;
