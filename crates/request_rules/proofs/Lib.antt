@@ -7,4 +7,5 @@ pub mod RuleFacts
 pub mod RuleChain
 pub mod RightLaws
 pub mod ReadLaws
+pub mod CauseLaws
 pub mod JudgeLaws

@@ -21,22 +21,6 @@ use Rattle.request_rules.specs.Breaches.{Finds}
 use Rattle.request_rules.proofs.OrderLaws.{first_in_front, first_in_more, none_alone, none_both}
 use Rattle.request_rules.proofs.RuleFacts.{first_lacks}
 
--- a caller who may create, but not this reserved id
-lacks_at : (s : Settings) (caller : ℕ) (id realm : List ℕ) (free : Bool) → is_free_id id ≡ free → free ≡ false
-    → Allows s.policy caller permission.CreateInvocation realm
-    → (¬ Allows s.policy caller permission.CreateWithReservedId realm)
-    → IsFirstOf (Lacks s caller)
-    (right permission.CreateInvocation realm ∷ (if free then [] else right permission.CreateWithReservedId realm ∷ []))
-    (right permission.CreateWithReservedId realm)
-lacks_at s caller id realm true is reserved may lacks = let never : true ≡ false = reserved in absurd cc
-lacks_at s caller id realm false is reserved may lacks = inr ((λ not. not may), inl (lacks, refl))
-
-pub lacks_reserved : (s : Settings) (caller : ℕ) (id realm : List ℕ) → is_free_id id ≡ false
-    → Allows s.policy caller permission.CreateInvocation realm
-    → (¬ Allows s.policy caller permission.CreateWithReservedId realm)
-    → IsFirstOf (Lacks s caller) (rights_to_create id realm) (right permission.CreateWithReservedId realm)
-lacks_reserved s caller id realm reserved may lacks = lacks_at s caller id realm (is_free_id id) refl reserved may lacks
-
 pub lacks_nothing : (s : Settings) (caller : ℕ) (xs : List Right) → IsNoneOf (Lacks s caller) xs → IsUnbroken (LacksOneOf s caller xs)
 lacks_nothing s caller xs none r is = none is.0 is.1
 
@@ -62,6 +46,51 @@ right_of_none p rows id e =
 -- where what was found of some rights is none of them, the caller has them
 pub none_lacking : (s : Settings) (caller : ℕ) (xs : List Right) → IsUnbroken (LacksOneOf s caller xs) → IsNoneOf (Lacks s caller) xs
 none_lacking s caller xs none x first = none (denied x) (x, first, refl)
+
+-- some rights before others: the first one that is lacking of the front, or of the others where none of the front is
+lacks_front : (s : Settings) (caller : ℕ) (xs ys : List Right) (r : Refusal) → IsFirst (LacksOneOf s caller xs) r
+    → IsFirst (LacksOneOf s caller (xs ++ ys)) r
+lacks_front s caller xs ys r is =
+    let here = is.broken in
+    subst (IsFirst (LacksOneOf s caller (xs ++ ys))) (sym here.2)
+    (first_lacks s caller (xs ++ ys) here.0 (first_in_front (Lacks s caller) xs ys here.0 here.1))
+
+lacks_behind : (s : Settings) (caller : ℕ) (xs ys : List Right) (found : Option Breach) → IsUnbroken (LacksOneOf s caller xs)
+    → Finds (LacksOneOf s caller ys) found → Finds (LacksOneOf s caller (xs ++ ys)) found
+lacks_behind s caller xs ys None none also =
+    lacks_nothing s caller (xs ++ ys)
+    (none_both (Lacks s caller) xs ys (none_lacking s caller xs none) (none_lacking s caller ys also))
+lacks_behind s caller xs ys (Some breach) none is =
+    let here = is.broken in
+    subst (IsFirst (LacksOneOf s caller (xs ++ ys))) (sym here.2)
+    (first_lacks s caller (xs ++ ys) here.0 (first_in_more (Lacks s caller) xs ys here.0 (none_lacking s caller xs none) here.1))
+
+-- the rights to a new invocation: the one to create comes first, and an id that is free asks for no other
+pub first_to_create : (s : Settings) (caller : ℕ) (id realm : List ℕ) (r : Refusal)
+    → IsFirst (LacksOneOf s caller (right permission.CreateInvocation realm ∷ [])) r
+    → IsFirst (LacksOneOf s caller (rights_to_create id realm)) r
+first_to_create s caller id realm r is =
+    lacks_front s caller (right permission.CreateInvocation realm ∷ [])
+    (if is_free_id id then [] else right permission.CreateWithReservedId realm ∷ []) r is
+
+pub free_to_create : (s : Settings) (caller : ℕ) (id realm : List ℕ) → is_free_id id ≡ true
+    → IsUnbroken (LacksOneOf s caller (right permission.CreateInvocation realm ∷ []))
+    → IsUnbroken (LacksOneOf s caller (rights_to_create id realm))
+free_to_create s caller id realm is none =
+    subst (λ (free : Bool). IsUnbroken (LacksOneOf s caller
+    (right permission.CreateInvocation realm ∷ (if free then [] else right permission.CreateWithReservedId realm ∷ []))))
+    (sym is) none
+
+pub reserved_to_create : (s : Settings) (caller : ℕ) (id realm : List ℕ) (found : Option Breach) → is_free_id id ≡ false
+    → IsUnbroken (LacksOneOf s caller (right permission.CreateInvocation realm ∷ []))
+    → Finds (LacksOneOf s caller (right permission.CreateWithReservedId realm ∷ [])) found
+    → Finds (LacksOneOf s caller (rights_to_create id realm)) found
+reserved_to_create s caller id realm found is none finds =
+    subst (λ (free : Bool). Finds (LacksOneOf s caller
+    (right permission.CreateInvocation realm ∷ (if free then [] else right permission.CreateWithReservedId realm ∷ []))) found)
+    (sym is)
+    (lacks_behind s caller (right permission.CreateInvocation realm ∷ []) (right permission.CreateWithReservedId realm ∷ []) found
+    none finds)
 
 -- the rights in the realm of an id that has no row, or of one that has
 pub found_in : (s : Settings) (caller : ℕ) (p : Permission) (rows : List Invocation) (id : List ℕ) (row : Invocation)

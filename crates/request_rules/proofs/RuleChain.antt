@@ -94,7 +94,7 @@ lies_rule s x asked caller request few_names = lies_too_many request
 lies_rule s x asked caller request name_free = lies_takes_name x.rows request
 lies_rule s x asked caller request room_left = lies_table_full x.rows x.inclusions request
 
-one_rule : (s : Settings) (x : Scene) (asked : Asked) (caller : ℕ) (request : Request) (k : Rule)
+pub one_rule : (s : Settings) (x : Scene) (asked : Asked) (caller : ℕ) (request : Request) (k : Rule)
     → IsOne (IsBroken s x asked caller request k)
 one_rule s x asked caller request all_there = one_names_none x.rows request
 one_rule s x asked caller request token_shown = one_no_token asked request

@@ -17,7 +17,8 @@ refusal_of (NotThere id) = of_invocation 8 id.now
 refusal_of (NoToken id) = of_invocation 9 id.now
 refusal_of (BadToken id) = of_invocation 10 id.now
 refusal_of (LacksRight permission realm) = denied (right permission realm.now)
-refusal_of (Inactive id state) = refusal 12 (invocation_name id.now ++ (codes " " ++ state_text state))
+refusal_of (Inactive id state) =
+    refusal 12 (invocation_name id.now ++ (codes " " ++ state_text state))
 refusal_of (BadDeadline deadline moment) = out_of_reach deadline moment
 refusal_of (Itself id) = of_invocation 14 id.now
 refusal_of (TooMany count) = refusal 15 (decimal count)

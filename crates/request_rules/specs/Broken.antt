@@ -32,7 +32,8 @@ refusal number subject = record { rule = number; subject = subject }
 abbrev pub of_invocation : ℕ → List ℕ → Refusal
 of_invocation number id = refusal number (invocation_name id)
 
--- What a request aims at: a request outside the route has no service, and its whole target as the method.
+-- What a request aims at: a request outside the route has no service, and its whole target as the
+-- method.
 abbrev pub target_of : Asked → List ℕ
 target_of asked =
     if length asked.service == 0 then asked.method
@@ -40,13 +41,15 @@ target_of asked =
 
 -- Rule 1: the method is one that is served.
 abbrev pub HasNoMethod : Asked → Refusal → Type 0
-HasNoMethod asked r = (method_of asked.service asked.method ≡ None) × (r ≡ refusal 1 (target_of asked))
+HasNoMethod asked r =
+    (method_of asked.service asked.method ≡ None) × (r ≡ refusal 1 (target_of asked))
 
 -- Rule 2: the bearer token is a user's.
 abbrev pub HasNoCaller : Settings → Asked → Refusal → Type 0
 HasNoCaller s asked r = (caller_of s asked.bearer ≡ None) × (r ≡ refusal 2 [])
 
--- Rules 3 to 6: the body is JSON, and each of its fields is of its kind, set where it must be, and in its form.
+-- Rules 3 to 6: the body is JSON, and each of its fields is of its kind, set where it must be, and
+-- in its form.
 pub record HasBadBody (asked : Asked) (r : Refusal) : Type 0 where
   pub method : Method
   pub named : method_of asked.service asked.method ≡ Some method
@@ -73,7 +76,8 @@ pub record HasNoToken (asked : Asked) (request : Request) (r : Refusal) : Type 0
   pub refusal_is : r ≡ of_invocation 9 id
 
 -- Rule 10: the token that it shows is the one of this invocation.
-pub record HasBadToken (s : Settings) (asked : Asked) (request : Request) (r : Refusal) : Type 0 where
+pub record HasBadToken (s : Settings) (asked : Asked) (request : Request) (r : Refusal)
+    : Type 0 where
   pub id : List ℕ
   pub changes : changed_id request ≡ Some id
   pub token : List ℕ
@@ -90,7 +94,8 @@ denied lacking = refusal 11 (permission_text lacking.permission ++ (codes " " ++
 
 -- The caller lacks one of these rights, and the first one is named.
 abbrev pub LacksOneOf : Settings → ℕ → List Right → Refusal → Type 0
-LacksOneOf s caller rights r = (lacking : Right) × IsFirstOf (Lacks s caller) rights lacking × (r ≡ denied lacking)
+LacksOneOf s caller rights r =
+    (lacking : Right) × IsFirstOf (Lacks s caller) rights lacking × (r ≡ denied lacking)
 
 -- Rule 11: the caller has each right that the request takes.
 abbrev pub LacksRight : Settings → List Invocation → ℕ → Request → Refusal → Type 0
@@ -151,18 +156,21 @@ abbrev pub table_full : List ℕ → ℕ → Refusal
 table_full table count = refusal 20 (table ++ (codes " " ++ decimal count))
 
 -- The new inclusions are more than there may be beside those that are there.
-pub record OverflowsInclusions (rows : List Invocation) (edges : List Edge) (including : List ℕ) (add : List (List ℕ)) (r : Refusal)
-    : Type 0 where
+pub record OverflowsInclusions (rows : List Invocation) (edges : List Edge)
+    (including : List ℕ) (add : List (List ℕ)) (r : Refusal) : Type 0 where
   pub place : ℕ
   pub stands : place_named rows including ≡ Some place
-  pub many : 262_144 < length edges + length (fresh (targets_of edges place) (places_named rows add))
+  pub many : 262_144
+      < length edges + length (fresh (targets_of edges place) (places_named rows add))
   pub refusal_is : r ≡ table_full (codes "inclusions") (length edges)
 
--- Rule 20: there are fewer than 65,536 invocations, and at most 262,144 inclusions with the new ones.
+-- Rule 20: there are fewer than 65,536 invocations, and at most 262,144 inclusions with the new
+-- ones.
 abbrev pub FindsTableFull : List Invocation → List Edge → Request → Refusal → Type 0
 FindsTableFull rows edges (CreateInvocation id realm deadline tags) r =
     (65_536 ≤ length rows) × (r ≡ table_full (codes "invocations") (length rows))
-FindsTableFull rows edges (UpdateIncludedInvocations including add) r = OverflowsInclusions rows edges including add r
+FindsTableFull rows edges (UpdateIncludedInvocations including add) r =
+    OverflowsInclusions rows edges including add r
 FindsTableFull rows edges (UpdateInvocation id deadline tags) r = ⊥
 FindsTableFull rows edges (FinalizeInvocation id) r = ⊥
 FindsTableFull rows edges (GetInvocation id) r = ⊥
@@ -171,7 +179,8 @@ FindsTableFull rows edges (GetInvocation id) r = ⊥
 abbrev pub BrokenAlone : Settings → Asked → Refusal → Type 0
 BrokenAlone s asked r = HasNoMethod asked r ⊎ (HasNoCaller s asked r ⊎ HasBadBody asked r)
 
--- What rules look at: the invocations and their inclusions that are there, and the moment of the call.
+-- What rules look at: the invocations and their inclusions that are there, and the moment of the
+-- call.
 pub record Scene : Type 0 where
   pub rows : List Invocation
   pub inclusions : List Edge
@@ -223,4 +232,5 @@ BrokenIn s x asked caller request r = (rule : Rule) × IsBroken s x asked caller
 abbrev pub Broken : Settings → Scene → Asked → Refusal → Type 0
 Broken s x asked r =
     BrokenAlone s asked r
-    ⊎ ((caller : ℕ) × (request : Request) × Wants s asked caller request × BrokenIn s x asked caller request r)
+    ⊎ ((caller : ℕ) × (request : Request) × Wants s asked caller request
+    × BrokenIn s x asked caller request r)

@@ -92,5 +92,6 @@ abbrev pub rights_asked : List Invocation → Request → List Right
 rights_asked rows (CreateInvocation id realm deadline tags) = rights_to_create id realm
 rights_asked rows (UpdateInvocation id deadline tags) = []
 rights_asked rows (FinalizeInvocation id) = []
-rights_asked rows (UpdateIncludedInvocations including add) = rights_in permission.IncludeInvocation rows add
+rights_asked rows (UpdateIncludedInvocations including add) =
+    rights_in permission.IncludeInvocation rows add
 rights_asked rows (GetInvocation id) = rights_in permission.GetInvocation rows (id ∷ [])

@@ -19,13 +19,16 @@ use Rattle.request_rules.specs.Broken.{Wants, BrokenAlone}
 abbrev pub token_for : Settings → List ℕ → List ℕ
 token_for s id = token_text (secret_of s) id
 
--- A request that changes an invocation shows no token, another one, or the right one. A request for a new invocation will hand
--- out its token. Of other requests none is asked.
+-- A request that changes an invocation shows no token, another one, or the right one. A request for
+-- a new invocation will hand out its token. Of other requests none is asked.
 abbrev pub IsChecked : Settings → Asked → Request → TokenCheck → Type 0
-IsChecked s asked request (New token) = (id : List ℕ) × (new_id request ≡ Some id) × (token ≡ token_for s id)
-IsChecked s asked request Missing = (id : List ℕ) × (changed_id request ≡ Some id) × (asked.update_token ≡ None)
+IsChecked s asked request (New token) =
+    (id : List ℕ) × (new_id request ≡ Some id) × (token ≡ token_for s id)
+IsChecked s asked request Missing =
+    (id : List ℕ) × (changed_id request ≡ Some id) × (asked.update_token ≡ None)
 IsChecked s asked request Wrong =
-    (id : List ℕ) × (token : List ℕ) × (changed_id request ≡ Some id) × (asked.update_token ≡ Some token) × (token ≢ token_for s id)
+    (id : List ℕ) × (token : List ℕ) × (changed_id request ≡ Some id)
+    × (asked.update_token ≡ Some token) × (token ≢ token_for s id)
 IsChecked s asked request Right =
     (id : List ℕ) × (changed_id request ≡ Some id) × (asked.update_token ≡ Some (token_for s id))
 IsChecked s asked request Unasked = (new_id request ≡ None) × (changed_id request ≡ None)
@@ -43,7 +46,9 @@ pub record IsCallOf (s : Settings) (asked : Asked) (call : Call) : Type 0 where
   pub wants : Wants s asked call.caller call.request
   pub token_is : IsChecked s asked call.request call.token
 
--- The request breaks a rule by itself, and this answers the first one; or a caller wants this, and so it breaks none.
+-- The request breaks a rule by itself, and this answers the first one; or a caller wants this, and
+-- so it breaks none.
 abbrev pub IsUnderstood : Settings → Asked → Understood → Type 0
-IsUnderstood s asked (Refused answer) = (r : Refusal) × IsFirst (BrokenAlone s asked) r × (answer ≡ refusal_answer r)
+IsUnderstood s asked (Refused answer) =
+    (r : Refusal) × IsFirst (BrokenAlone s asked) r × (answer ≡ refusal_answer r)
 IsUnderstood s asked (Wanted call) = IsCallOf s asked call

@@ -54,19 +54,13 @@ impl<'r> Asker<'r> {
         ensures { Finds (LacksOneOf (record { policy = self.now.policy.now }) self.now.caller
             (rights_to_create id.now realm.now)) result }
     {
-        if !self.may(Permission::CreateInvocation, realm) {
-            return Some(Breach::LacksRight {
-                permission: Permission::CreateInvocation,
-                realm,
-            });
+        if let Some(breach) = self.lacks(Permission::CreateInvocation, realm) {
+            return Some(breach);
         }
-        if is_free_id(id) || self.may(Permission::CreateWithReservedId, realm) {
+        if is_free_id(id) {
             return None;
         }
-        Some(Breach::LacksRight {
-            permission: Permission::CreateWithReservedId,
-            realm,
-        })
+        self.lacks(Permission::CreateWithReservedId, realm)
     }
 
     /// Whether the caller lacks a permission in the realm of the invocation with this id.

@@ -29,9 +29,8 @@ use Rattle.request_rules.specs.Named.{named, place_named, places_named}
 use Rattle.request_rules.specs.Order.{IsFirst, IsFirstOf, IsNoneOf, IsUnbroken}
 use Rattle.request_rules.specs.Broken.{BrokenAlone, BrokenIn, FindsTableFull, HasBadDeadline, HasBadToken, HasNoMethod, HasNoToken, IncludesItself, IsBroken, IsInReach, Lacks, LacksRight, MeetsInactive, NamesNone, NamesTooMany, OverflowsInclusions, Rule, Scene, TakesName, Wants, all_there, deadline_near, denied, few_names, greatest_lifetime, least_lifetime, name_free, not_itself, number_of, of_invocation, out_of_reach, refusal, rights_held, room_left, still_active, table_full, target_of, token_right, token_shown}
 use Rattle.request_rules.specs.Breaches.{BrokenBelow}
-use Rattle.request_rules.proofs.RuleOrder.{IsOne, first_alone}
-use Rattle.request_rules.proofs.RuleFacts.{one_bad_deadline, one_bad_token, one_inactive, one_itself, one_lacks, one_names_none, one_no_token, one_table_full, one_takes_name, one_too_many}
-use Rattle.request_rules.proofs.RuleChain.{first_bad_body, first_below, first_no_caller, first_no_method, first_of_below, none_below, none_in_gap, none_up_to, unbroken_in}
+use Rattle.request_rules.proofs.RuleOrder.{first_alone}
+use Rattle.request_rules.proofs.RuleChain.{first_bad_body, first_below, first_no_caller, first_no_method, first_of_below, none_below, none_in_gap, none_up_to, one_rule, unbroken_in}
 use Rattle.service_core.proofs.AllowLaws.{allows_or_not}
 
 -- a rule is broken, and this is its refusal, or it isn't
@@ -230,19 +229,6 @@ told s x asked caller request not_itself = itself_told request (changed_id reque
 told s x asked caller request few_names = many_told request
 told s x asked caller request name_free = name_told x.rows request (new_id request) refl
 told s x asked caller request room_left = room_told x.rows x.inclusions request
-
-one_rule : (s : Settings) (x : Scene) (asked : Asked) (caller : ℕ) (request : Request) (k : Rule)
-    → IsOne (IsBroken s x asked caller request k)
-one_rule s x asked caller request all_there = one_names_none x.rows request
-one_rule s x asked caller request token_shown = one_no_token asked request
-one_rule s x asked caller request token_right = one_bad_token s asked request
-one_rule s x asked caller request rights_held = one_lacks s caller (rights_asked x.rows request)
-one_rule s x asked caller request still_active = one_inactive x.rows request
-one_rule s x asked caller request deadline_near = one_bad_deadline x.moment request
-one_rule s x asked caller request not_itself = one_itself request
-one_rule s x asked caller request few_names = one_too_many request
-one_rule s x asked caller request name_free = one_takes_name x.rows request
-one_rule s x asked caller request room_left = one_table_full x.rows x.inclusions request
 
 -- ---- all rules in turn
 

@@ -37,6 +37,7 @@ use Rattle.service_core.specs.Finality.{CarriesInTime, EndsInTime, ToldInTime}
 use Rattle.service_core.specs.Step.{IsAccepted, Performs, Refuses, begun_from, changed, changed_at, with_end_begun}
 use Rattle.service_core.specs.History.{Entry, Leads, Tells}
 use Rattle.service_core.specs.Laws.{FinalInTime}
+use Rattle.service_core.proofs.ChangeLaws.{change_keeps}
 use Rattle.service_core.proofs.StayLaws.{advanced_rows}
 use Rattle.service_core.proofs.StepLaws.{active_at, unbroken_rule}
 use Rattle.service_core.proofs.HistoryLaws.{advanced_may, leads_valid}
@@ -203,52 +204,16 @@ added_was rows new active p row e is =
           absurd (active≢finalized no)
     ]
 
-update_was : (moment : ℤ) (w : World) (p : ℕ) (deadline : Option ℤ) (tags : Option (List Pair)) (o : Option Invocation)
-    → WasFinal w.invocations (with_row_updated moment p deadline tags w o).invocations
-update_was moment w p deadline tags None = all_was w.invocations
-update_was moment w p deadline tags (Some row) =
-    let moved : World = record {
-      invocations = with_changed (updated deadline tags) w.invocations p;
-      inclusions = w.inclusions;
-      last = moment;
-    } in
-    elim (cases_Bool (is_update deadline tags row)) [
-      | inl yes_ ↦ subst (λ (v : World). WasFinal w.invocations v.invocations) (sym (cond-true (is_update deadline tags row) moved w yes_))
-          (changed_was (updated deadline tags) (λ r is. is) w.invocations p)
-      | inr no_ ↦ subst (λ (v : World). WasFinal w.invocations v.invocations) (sym (cond-false (is_update deadline tags row) moved w no_))
-          (all_was w.invocations)
-    ]
-
-edges_was : (moment : ℤ) (edges : List Edge) (w : World) → WasFinal w.invocations (with_edges moment edges w).invocations
-edges_was moment [] w = all_was w.invocations
-edges_was moment (edge ∷ edges) w = all_was w.invocations
-
-end_was : (o : Option State) (b w : World) → WasFinal w.invocations b.invocations → WasFinal w.invocations (begun_from o b w).invocations
-end_was None b w h = all_was w.invocations
-end_was (Some Active) b w h = h
-end_was (Some Finalizing) b w h = all_was w.invocations
-end_was (Some Finalized) b w h = all_was w.invocations
-
-at_was : (w : World) (change : ℕ → World) (o : Option ℕ) → ((p : ℕ) → WasFinal w.invocations (change p).invocations)
-    → WasFinal w.invocations (changed_at w change o).invocations
-at_was w change None h = all_was w.invocations
-at_was w change (Some p) h = h p
-
 change_was : (s : Settings) (w : World) (moment : ℤ) (caller : ℕ) (request : Request)
     → WasFinal w.invocations (changed s w moment caller request).invocations
-change_was s w moment caller (CreateInvocation id realm deadline tags) =
-    added_was w.invocations (new_row moment (caller_name s caller) id realm deadline tags) refl
-change_was s w moment caller (UpdateInvocation id deadline tags) =
-    at_was w (λ p. with_update moment p deadline tags w) (place_named w.invocations id)
-    (λ p. update_was moment w p deadline tags (slice_get w.invocations p))
-change_was s w moment caller (FinalizeInvocation id) =
-    at_was w (λ p. with_end_begun moment p w) (place_named w.invocations id)
-    (λ p. end_was (slice_get (states_of w.invocations) p) (with_begun moment p w) w
-    (changed_was (begun moment) (λ r is. absurd (finalizing≢finalized is)) w.invocations p))
-change_was s w moment caller (UpdateIncludedInvocations including add) =
-    at_was w (λ p. with_inclusions moment p (places_named w.invocations add) w) (place_named w.invocations including)
-    (λ p. edges_was moment (edges_from p (fresh (targets_of w.inclusions p) (places_named w.invocations add))) w)
-change_was s w moment caller (GetInvocation id) = all_was w.invocations
+change_was s w moment caller request =
+    change_keeps WasFinal s w moment caller request
+    (record {
+      when_same = all_was w.invocations;
+      when_added = added_was w.invocations;
+      when_updated = λ deadline tags id p changes at. changed_was (updated deadline tags) (λ r is. is) w.invocations p;
+      when_begun = λ p active. changed_was (begun moment) (λ r is. absurd (finalizing≢finalized is)) w.invocations p;
+    })
 
 none_ended : (time : ℤ) (rows : List Invocation) → AreEndedAt time rows rows
 none_ended time rows p row e is not = absurd (not (state_is Finalized rows p row e is))
@@ -277,54 +242,18 @@ changed_waiting change rows p active q row e is =
 added_waiting : (rows : List Invocation) (new : Invocation) → WaitingStay rows (rows ++ new ∷ [])
 added_waiting rows new p row e is = at_front rows new row p e
 
-update_waiting : (moment : ℤ) (w : World) (p : ℕ) (deadline : Option ℤ) (tags : Option (List Pair)) (o : Option Invocation)
-    → IsInState Active w.invocations p → WaitingStay w.invocations (with_row_updated moment p deadline tags w o).invocations
-update_waiting moment w p deadline tags None active = all_waiting w.invocations
-update_waiting moment w p deadline tags (Some row) active =
-    let moved : World = record {
-      invocations = with_changed (updated deadline tags) w.invocations p;
-      inclusions = w.inclusions;
-      last = moment;
-    } in
-    elim (cases_Bool (is_update deadline tags row)) [
-      | inl yes_ ↦ subst (λ (v : World). WaitingStay w.invocations v.invocations) (sym (cond-true (is_update deadline tags row) moved w yes_))
-          (changed_waiting (updated deadline tags) w.invocations p active)
-      | inr no_ ↦ subst (λ (v : World). WaitingStay w.invocations v.invocations) (sym (cond-false (is_update deadline tags row) moved w no_))
-          (all_waiting w.invocations)
-    ]
-
-edges_waiting : (moment : ℤ) (edges : List Edge) (w : World) → WaitingStay w.invocations (with_edges moment edges w).invocations
-edges_waiting moment [] w = all_waiting w.invocations
-edges_waiting moment (edge ∷ edges) w = all_waiting w.invocations
-
-end_waiting : (moment : ℤ) (w : World) (p : ℕ) (o : Option State) → slice_get (states_of w.invocations) p ≡ o
-    → WaitingStay w.invocations (begun_from o (with_begun moment p w) w).invocations
-end_waiting moment w p None e = all_waiting w.invocations
-end_waiting moment w p (Some Active) e = changed_waiting (begun moment) w.invocations p e
-end_waiting moment w p (Some Finalizing) e = all_waiting w.invocations
-end_waiting moment w p (Some Finalized) e = all_waiting w.invocations
-
-at_waiting : (w : World) (change : ℕ → World) (o : Option ℕ) → ((p : ℕ) → o ≡ Some p → WaitingStay w.invocations (change p).invocations)
-    → WaitingStay w.invocations (changed_at w change o).invocations
-at_waiting w change None h = all_waiting w.invocations
-at_waiting w change (Some p) h = h p refl
-
 change_waiting : (s : Settings) (w : World) (moment : ℤ) (asked : Asked) (caller : ℕ) (request : Request)
     → IsAccepted s w moment asked caller request → WaitingStay w.invocations (changed s w moment caller request).invocations
-change_waiting s w moment asked caller (CreateInvocation id realm deadline tags) accepted =
-    added_waiting w.invocations (new_row moment (caller_name s caller) id realm deadline tags)
-change_waiting s w moment asked caller (UpdateInvocation id deadline tags) accepted =
-    at_waiting w (λ p. with_update moment p deadline tags w) (place_named w.invocations id)
-    (λ p at. update_waiting moment w p deadline tags (slice_get w.invocations p)
-    (active_at w.invocations (UpdateInvocation id deadline tags) id p
-    (unbroken_rule s w moment asked caller (UpdateInvocation id deadline tags) accepted still_active) refl at))
-change_waiting s w moment asked caller (FinalizeInvocation id) accepted =
-    at_waiting w (λ p. with_end_begun moment p w) (place_named w.invocations id)
-    (λ p at. end_waiting moment w p (slice_get (states_of w.invocations) p) refl)
-change_waiting s w moment asked caller (UpdateIncludedInvocations including add) accepted =
-    at_waiting w (λ p. with_inclusions moment p (places_named w.invocations add) w) (place_named w.invocations including)
-    (λ p at. edges_waiting moment (edges_from p (fresh (targets_of w.inclusions p) (places_named w.invocations add))) w)
-change_waiting s w moment asked caller (GetInvocation id) accepted = all_waiting w.invocations
+change_waiting s w moment asked caller request accepted =
+    let none = unbroken_rule s w moment asked caller request accepted still_active in
+    change_keeps WaitingStay s w moment caller request
+    (record {
+      when_same = all_waiting w.invocations;
+      when_added = λ new active. added_waiting w.invocations new;
+      when_updated = λ deadline tags id p changes at.
+          changed_waiting (updated deadline tags) w.invocations p (active_at w.invocations request id p none changes at);
+      when_begun = changed_waiting (begun moment) w.invocations;
+    })
 
 judged_kept : (s : Settings) (w : World) (moment : ℤ) (asked : Asked) (answer : Answer) (after : World)
     → Refuses s w moment asked after answer ⊎ Performs s w moment asked after answer → AreKept moment w.invocations after.invocations

@@ -1,6 +1,7 @@
 pub mod CoreLaws
 pub mod AskedForms
 pub mod UniqueLaws
+pub mod ChangeLaws
 pub mod StayLaws
 pub mod StepLaws
 pub mod HistoryLaws

@@ -30,6 +30,7 @@ use Rattle.request_rules.specs.Named.{place_named, places_named}
 use Rattle.service_core.specs.Step.{Acts, Performs, Refuses, begun_from, changed, changed_at, with_end_begun}
 use Rattle.service_core.specs.History.{Tells}
 use Rattle.service_core.specs.Laws.{IsSameInvocation, RowsStay}
+use Rattle.service_core.proofs.ChangeLaws.{change_keeps}
 
 -- each row stands at its place later, the same invocation
 abbrev pub AllStay : List Invocation → List Invocation → Type 0
@@ -125,55 +126,19 @@ update_kept deadline tags row = record { id = refl; realm = refl; creator = refl
 begun_kept : (moment : ℤ) → IsKept (begun moment)
 begun_kept moment row = record { id = refl; realm = refl; creator = refl; created = refl }
 
-update_stay_of : (moment : ℤ) (w : World) (p : ℕ) (deadline : Option ℤ) (tags : Option (List Pair)) (o : Option Invocation)
-    → AllStay w.invocations (with_row_updated moment p deadline tags w o).invocations
-update_stay_of moment w p deadline tags None = all_stay w.invocations
-update_stay_of moment w p deadline tags (Some row) =
-    let moved : World = record {
-      invocations = with_changed (updated deadline tags) w.invocations p;
-      inclusions = w.inclusions;
-      last = moment;
-    } in
-    elim (cases_Bool (is_update deadline tags row)) [
-      | inl yes_ ↦ subst (λ (v : World). AllStay w.invocations v.invocations) (sym (cond-true (is_update deadline tags row) moved w yes_))
-          (changed_stay (updated deadline tags) (update_kept deadline tags) w.invocations p)
-      | inr no_ ↦ subst (λ (v : World). AllStay w.invocations v.invocations) (sym (cond-false (is_update deadline tags row) moved w no_))
-          (all_stay w.invocations)
-    ]
-
 added_stay : (rows : List Invocation) (new : Invocation) → AllStay rows (rows ++ new ∷ [])
 added_stay rows new p row e = (row, at_front rows new row p e, itself row)
 
-edges_stay : (moment : ℤ) (edges : List Edge) (w : World) → AllStay w.invocations (with_edges moment edges w).invocations
-edges_stay moment [] w = all_stay w.invocations
-edges_stay moment (edge ∷ edges) w = all_stay w.invocations
-
-end_stay : (o : Option State) (b w : World) → AllStay w.invocations b.invocations → AllStay w.invocations (begun_from o b w).invocations
-end_stay None b w h = all_stay w.invocations
-end_stay (Some Active) b w h = h
-end_stay (Some Finalizing) b w h = all_stay w.invocations
-end_stay (Some Finalized) b w h = all_stay w.invocations
-
-at_stay : (w : World) (change : ℕ → World) (o : Option ℕ) → ((p : ℕ) → AllStay w.invocations (change p).invocations)
-    → AllStay w.invocations (changed_at w change o).invocations
-at_stay w change None h = all_stay w.invocations
-at_stay w change (Some p) h = h p
-
 change_stay : (s : Settings) (w : World) (moment : ℤ) (caller : ℕ) (request : Request)
     → AllStay w.invocations (changed s w moment caller request).invocations
-change_stay s w moment caller (CreateInvocation id realm deadline tags) =
-    added_stay w.invocations (new_row moment (caller_name s caller) id realm deadline tags)
-change_stay s w moment caller (UpdateInvocation id deadline tags) =
-    at_stay w (λ p. with_update moment p deadline tags w) (place_named w.invocations id)
-    (λ p. update_stay_of moment w p deadline tags (slice_get w.invocations p))
-change_stay s w moment caller (FinalizeInvocation id) =
-    at_stay w (λ p. with_end_begun moment p w) (place_named w.invocations id)
-    (λ p. end_stay (slice_get (states_of w.invocations) p) (with_begun moment p w) w
-    (changed_stay (begun moment) (begun_kept moment) w.invocations p))
-change_stay s w moment caller (UpdateIncludedInvocations including add) =
-    at_stay w (λ p. with_inclusions moment p (places_named w.invocations add) w) (place_named w.invocations including)
-    (λ p. edges_stay moment (edges_from p (fresh (targets_of w.inclusions p) (places_named w.invocations add))) w)
-change_stay s w moment caller (GetInvocation id) = all_stay w.invocations
+change_stay s w moment caller request =
+    change_keeps AllStay s w moment caller request
+    (record {
+      when_same = all_stay w.invocations;
+      when_added = λ new active. added_stay w.invocations new;
+      when_updated = λ deadline tags id p changes at. changed_stay (updated deadline tags) (update_kept deadline tags) w.invocations p;
+      when_begun = λ p active. changed_stay (begun moment) (begun_kept moment) w.invocations p;
+    })
 
 pub acted_stay : (s : Settings) (w : World) (moment : ℤ) (caller : ℕ) (request : Request) (after : World)
     → Acts s w moment caller request after → AllStay w.invocations after.invocations

@@ -44,16 +44,19 @@ abbrev pub done : Option (List ℕ) → Reply → Answer
 done token reply = record { status = 200; code = 0; token = token; body = reply_text reply }
 
 -- The answer shows the invocation with this id, as it stands in this world.
-pub record Shows (w : World) (id : List ℕ) (token : Option (List ℕ)) (answer : Answer) : Type 0 where
+pub record Shows (w : World) (id : List ℕ) (token : Option (List ℕ)) (answer : Answer)
+    : Type 0 where
   pub place : ℕ
   pub row : Invocation
   pub placed : place_named w.invocations id ≡ Some place
   pub stands : slice_get w.invocations place ≡ Some row
   pub answer_is : answer ≡ done token (reply.Invocation (shown w place row))
 
--- The reply to a request, in the world that it leaves: the invocation that it is about, with its update token where it is new.
+-- The reply to a request, in the world that it leaves: the invocation that it is about, with its
+-- update token where it is new.
 abbrev pub IsReplyTo : Settings → World → Request → Answer → Type 0
-IsReplyTo s w (CreateInvocation id realm deadline tags) answer = Shows w id (Some (token_for s id)) answer
+IsReplyTo s w (CreateInvocation id realm deadline tags) answer =
+    Shows w id (Some (token_for s id)) answer
 IsReplyTo s w (UpdateInvocation id deadline tags) answer = Shows w id None answer
 IsReplyTo s w (FinalizeInvocation id) answer = Shows w id None answer
 IsReplyTo s w (UpdateIncludedInvocations including add) answer = answer ≡ done None reply.Empty

@@ -21,7 +21,8 @@ held_by core = record {
   spare_inclusions = core.spare_inclusions;
 }
 
--- A plan: what it changes, and the answer that it gives. The plan that carries out due deadlines gives none.
+-- A plan: what it changes, and the answer that it gives. The plan that carries out due deadlines
+-- gives none.
 pub record PlanState : Type 0 where
   pub change : Change
   pub answer : Option Answer

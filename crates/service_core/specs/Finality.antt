@@ -12,29 +12,36 @@ use Rattle.invocation_world.specs.Advancing.{AreQuiet, IsLeast}
 use Rattle.request_rules.specs.Settings.{Settings}
 use Rattle.service_core.specs.History.{Entry, Leads}
 
--- One change, at this time. A row that was finalizing stays as it is, or it is ended at this time. Afterwards a finalizing row
--- reaches an active one, and a final row reaches none. So a row whose finalization began is final from the first change on after
--- which it reaches no active one, and not before. What the change made final has its time as the end, and what was final before
--- stays as it is.
-pub record EndsInTime (inclusions : List Edge) (time : ℤ) (before after : List Invocation) : Type 0 where
-  pub kept : (place : ℕ) (row : Invocation) → slice_get before place ≡ Some row → row.state ≡ Finalizing
+-- One change, at this time. A row that was finalizing stays as it is, or it is ended at this time.
+-- Afterwards a finalizing row reaches an active one, and a final row reaches none. So a row whose
+-- finalization began is final from the first change on after which it reaches no active one, and
+-- not before. What the change made final has its time as the end, and what was final before stays
+-- as it is.
+pub record EndsInTime (inclusions : List Edge) (time : ℤ) (before after : List Invocation)
+    : Type 0 where
+  pub kept : (place : ℕ) (row : Invocation) → slice_get before place ≡ Some row
+      → row.state ≡ Finalizing
       → (slice_get after place ≡ Some row) ⊎ (slice_get after place ≡ Some (ended time row))
-  pub waiting : (place : ℕ) → IsInState Finalizing after place → finaliser.ReachesActive inclusions (states_of after) place
-  pub ended : (place : ℕ) → IsInState Finalized after place → ¬ finaliser.ReachesActive inclusions (states_of after) place
-  pub in_time : (place : ℕ) (row : Invocation) → slice_get after place ≡ Some row → row.state ≡ Finalized
-      → (¬ IsInState Finalized before place) → row.finished ≡ Some time
-  pub stays : (place : ℕ) (row : Invocation) → slice_get before place ≡ Some row → row.state ≡ Finalized
-      → slice_get after place ≡ Some row
+  pub waiting : (place : ℕ) → IsInState Finalizing after place
+      → finaliser.ReachesActive inclusions (states_of after) place
+  pub ended : (place : ℕ) → IsInState Finalized after place
+      → ¬ finaliser.ReachesActive inclusions (states_of after) place
+  pub in_time : (place : ℕ) (row : Invocation) → slice_get after place ≡ Some row
+      → row.state ≡ Finalized → (¬ IsInState Finalized before place) → row.finished ≡ Some time
+  pub stays : (place : ℕ) (row : Invocation) → slice_get before place ≡ Some row
+      → row.state ≡ Finalized → slice_get after place ≡ Some row
 
--- Deadlines that are due at the moment are carried out one after the other, each the least of them, until nothing is due, and each
--- is a change at its own time.
+-- Deadlines that are due at the moment are carried out one after the other, each the least of them,
+-- until nothing is due, and each is a change at its own time.
 abbrev pub CarriesInTime : List Edge → ℤ → List ℤ → List Invocation → List Invocation → Type 0
 CarriesInTime inclusions moment [] before after = AreQuiet before moment × (after ≡ before)
 CarriesInTime inclusions moment (time ∷ times) before after =
     IsLeast before moment time
-    × ((between : List Invocation) × EndsInTime inclusions time before between × CarriesInTime inclusions moment times between after)
+    × ((between : List Invocation) × EndsInTime inclusions time before between
+    × CarriesInTime inclusions moment times between after)
 
--- An entry leads from one world to the next by all deadlines that are due, and then by what it asks for, at its moment.
+-- An entry leads from one world to the next by all deadlines that are due, and then by what it asks
+-- for, at its moment.
 pub record IsInTime (w : World) (e : Entry) (after : World) : Type 0 where
   pub deadlines : List ℤ
   pub between : List Invocation
@@ -49,4 +56,5 @@ ToldInTime w e (Instead standin) after = (after ≡ w) ⊎ IsInTime w e after
 -- So it is with each entry of a history.
 abbrev pub AllInTime : Settings → World → List Entry → World → Type 0
 AllInTime s w [] end = end ≡ w
-AllInTime s w (e ∷ h) end = (after : World) × Leads s w e after × ToldInTime w e e.told after × AllInTime s after h end
+AllInTime s w (e ∷ h) end =
+    (after : World) × Leads s w e after × ToldInTime w e e.told after × AllInTime s after h end

@@ -16,8 +16,8 @@ pub record Entry : Type 0 where
   pub asked : Asked
   pub told : Told
 
--- What a call may be told, and the world after it. Want of memory changes nothing but due deadlines. As there is no disk
--- and no turn to wait for, no call is told Unavailable or Spent.
+-- What a call may be told, and the world after it. Want of memory changes nothing but due
+-- deadlines. As there is no disk and no turn to wait for, no call is told Unavailable or Spent.
 abbrev pub Tells : Settings → World → ℤ → Asked → Told → World → Type 0
 Tells s w moment asked (Made answer) after = Step s w moment asked after answer
 Tells s w moment asked (Instead Memory) after = (after ≡ w) ⊎ Advances w moment after
@@ -46,4 +46,5 @@ IsTimed s w [] [] end = end ≡ w
 IsTimed s w [] (now ∷ answers) end = ⊥
 IsTimed s w (e ∷ h) [] end = ⊥
 IsTimed s w (e ∷ h) (now ∷ answers) end =
-    (after : World) × Leads s w e after × (e.moment ≡ moment_of w.last now) × IsTimed s after h answers end
+    (after : World) × Leads s w e after × (e.moment ≡ moment_of w.last now)
+    × IsTimed s after h answers end

@@ -1,4 +1,5 @@
--- The code's own words: a call that was judged, and what was told for a request at a moment at which nothing is due.
+-- The code's own words: a call that was judged, and what was told for a request at a moment at
+-- which nothing is due.
 use Rattle.std.specs.Prelude.{◌≡◌, ℤ}
 use Rattle.call_forms.specs.declared.asked.Asked.{Asked}
 use Rattle.call_forms.specs.declared.forms.Standin.TheVariants.{Unavailable, Memory, Spent}
@@ -17,11 +18,13 @@ use Rattle.service_core.specs.Step.{scene_of, Refuses, Performs}
 -- The call is of the request, and breaks no rule below the last one.
 pub record IsJudged (core : CoreState) (moment : ℤ) (asked : Asked) (call : Call) : Type 0 where
   pub call_is : IsCallOf core.settings asked call
-  pub none : IsUnbroken (BrokenBelow 20 core.settings (scene_of core.world moment) asked call.caller call.request)
+  pub none : IsUnbroken
+      (BrokenBelow 20 core.settings (scene_of core.world moment) asked call.caller call.request)
 
 -- The request is refused or performed, or want of memory was told and nothing changed.
 abbrev pub IsAnswered : Settings → World → ℤ → Asked → Told → World → Type 0
-IsAnswered s w moment asked (Made answer) after = Refuses s w moment asked after answer ⊎ Performs s w moment asked after answer
+IsAnswered s w moment asked (Made answer) after =
+    Refuses s w moment asked after answer ⊎ Performs s w moment asked after answer
 IsAnswered s w moment asked (Instead Memory) after = after ≡ w
 IsAnswered s w moment asked (Instead Unavailable) after = ⊥
 IsAnswered s w moment asked (Instead Spent) after = ⊥

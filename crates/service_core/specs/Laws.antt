@@ -23,11 +23,12 @@ HasSteps = (s : Settings) (w : World) (moment : ℤ) (asked : Asked) → HasStep
 -- And to one world alone, with one answer.
 abbrev pub StepsAreUnique : Type 0
 StepsAreUnique =
-    (s : Settings) (w : World) (moment : ℤ) (asked : Asked) (v : World) (r : Answer) (x : World) (q : Answer)
+    (s : Settings) (w : World) (moment : ℤ) (asked : Asked)
+    (v : World) (r : Answer) (x : World) (q : Answer)
     → Step s w moment asked v r → Step s w moment asked x q → (v ≡ x) × (r ≡ q)
 
--- A history from a valid world leads to a valid one, where the names of users have their form. So no two invocations ever
--- have one id.
+-- A history from a valid world leads to a valid one, where the names of users have their form. So
+-- no two invocations ever have one id.
 abbrev pub LegalKeepsValid : Type 0
 LegalKeepsValid =
     (s : Settings) (w : World) (h : List Entry) (v : World)
@@ -45,7 +46,8 @@ abbrev pub RowsStay : Type 0
 RowsStay =
     (s : Settings) (w : World) (h : List Entry) (v : World) → IsLegal s w h v
     → (place : ℕ) (row : Invocation) → slice_get w.invocations place ≡ Some row
-    → (later : Invocation) × (slice_get v.invocations place ≡ Some later) × IsSameInvocation row later
+    → (later : Invocation) × (slice_get v.invocations place ≡ Some later)
+    × IsSameInvocation row later
 
 -- What is final stays as it is, with all that it reaches.
 abbrev pub FinalStays : Type 0
@@ -53,7 +55,8 @@ FinalStays =
     (s : Settings) (w : World) (h : List Entry) (v : World)
     → HasNames s → IsValid w → IsLegal s w h v → KeepsFinal w v
 
--- In a history from a valid world each finalizing row becomes final with the first change after which it reaches no active one.
+-- In a history from a valid world each finalizing row becomes final with the first change after
+-- which it reaches no active one.
 abbrev pub FinalInTime : Type 0
 FinalInTime =
     (s : Settings) (w : World) (h : List Entry) (v : World)
@@ -68,6 +71,7 @@ TimedIsLegal =
 -- A history goes on by one call, at the moment that one more answer of the clock makes.
 abbrev pub TimedGoesOn : Type 0
 TimedGoesOn =
-    (s : Settings) (w : World) (h : List Entry) (answers : List ℤ) (v : World) (e : Entry) (now : ℤ) (x : World)
+    (s : Settings) (w : World) (h : List Entry) (answers : List ℤ) (v : World)
+    (e : Entry) (now : ℤ) (x : World)
     → IsTimed s w h answers v → Leads s v e x → e.moment ≡ moment_of v.last now
     → IsTimed s w (h ++ e ∷ []) (answers ++ now ∷ []) x

@@ -41,7 +41,8 @@ ended_if false moment row = row
 -- the table of rows is full, or the row can be added, and is shown
 abbrev pub IsRowPlanned : WorldState → Invocation → Option (List ℕ) → Prepared → Type 0
 IsRowPlanned held row token (prepared.Refused answer) =
-    (65_536 ≤ length held.world.invocations) × (answer ≡ full_answer (codes "invocations") (length held.world.invocations))
+    (65_536 ≤ length held.world.invocations)
+    × (answer ≡ full_answer (codes "invocations") (length held.world.invocations))
 IsRowPlanned held row token (prepared.Answered answer) = ⊥
 IsRowPlanned held row token (prepared.Change plan) =
     (plan ≡ plan_of (Add row) (done token (reply.Invocation (shown_with row []))))
@@ -56,25 +57,32 @@ IsUpdatePlanned w at deadline tags (prepared.Answered answer) =
 IsUpdatePlanned w at deadline tags (prepared.Change plan) =
     (row : Invocation) → slice_get w.invocations at.place ≡ Some row
     → (is_update deadline tags row ≡ true)
-    × (plan ≡ plan_of (Update at.moment at.place deadline tags) (showing w at.place (updated deadline tags row)))
+    × (plan ≡ plan_of (Update at.moment at.place deadline tags)
+    (showing w at.place (updated deadline tags row)))
 
--- a row that isn't active is shown as it stands; an active one with its finalization begun, and ended where nothing holds it up
+-- a row that isn't active is shown as it stands; an active one with its finalization begun, and
+-- ended where nothing holds it up
 abbrev pub IsEndPlanned : World → Place → Prepared → Type 0
 IsEndPlanned w at (prepared.Refused answer) = ⊥
 IsEndPlanned w at (prepared.Answered answer) =
     (¬ IsInState Active w.invocations at.place)
-    × ((row : Invocation) → slice_get w.invocations at.place ≡ Some row → answer ≡ showing w at.place row)
+    × ((row : Invocation) → slice_get w.invocations at.place ≡ Some row
+    → answer ≡ showing w at.place row)
 IsEndPlanned w at (prepared.Change plan) =
     IsInState Active w.invocations at.place
     × ((row : Invocation) → slice_get w.invocations at.place ≡ Some row
-    → (is_final : Bool) × (IsTrue is_final ↔ ¬ ReachesActive (with_begun at.moment at.place w) at.place)
-    × (plan ≡ plan_of (End at.moment at.place) (showing w at.place (ended_if is_final at.moment (begun at.moment row)))))
+    → (is_final : Bool)
+    × (IsTrue is_final ↔ ¬ ReachesActive (with_begun at.moment at.place w) at.place)
+    × (plan ≡ plan_of (End at.moment at.place)
+    (showing w at.place (ended_if is_final at.moment (begun at.moment row)))))
 
 -- some inclusions are planned: none at all, or these
 abbrev pub AreEdgesPlanned : ℤ → EdgePlanState → Prepared → Type 0
 AreEdgesPlanned moment edges (prepared.Refused answer) = ⊥
-AreEdgesPlanned moment edges (prepared.Answered answer) = (edges.targets ≡ []) × (answer ≡ done None reply.Empty)
-AreEdgesPlanned moment edges (prepared.Change plan) = plan ≡ plan_of (Include moment edges) (done None reply.Empty)
+AreEdgesPlanned moment edges (prepared.Answered answer) =
+    (edges.targets ≡ []) × (answer ≡ done None reply.Empty)
+AreEdgesPlanned moment edges (prepared.Change plan) =
+    plan ≡ plan_of (Include moment edges) (done None reply.Empty)
 
 abbrev pub targets_new : WorldState → ℕ → List ℕ → List ℕ
 targets_new held place targets = fresh (targets_of held.world.inclusions place) targets

@@ -24,14 +24,17 @@ use Rattle.service_core.specs.CoreState.{CoreState, PlanState, held_by}
 use Rattle.service_core.specs.Step.{IsAccepted, Acts, Refuses, Performs}
 use Rattle.service_core.specs.Answers.{IsReplyTo}
 
--- What a planned change makes of a world: due deadlines are carried out at a moment; or a row is added, updated, or begins to
--- end, or includes others, and then what reaches no active row becomes final.
+-- What a planned change makes of a world: due deadlines are carried out at a moment; or a row is
+-- added, updated, or begins to end, or includes others, and then what reaches no active row becomes
+-- final.
 abbrev pub Carries : World → Change → World → Type 0
 Carries w (Tick moment) after = Advances w moment after
 Carries w (Add row) after = Settles row.created (with_row w row) after
-Carries w (Update moment place deadline tags) after = Settles moment (with_update moment place deadline tags w) after
+Carries w (Update moment place deadline tags) after =
+    Settles moment (with_update moment place deadline tags w) after
 Carries w (End moment place) after = Settles moment (with_begun moment place w) after
-Carries w (Include moment plan) after = Settles moment (with_edges moment (edges_from plan.from plan.targets) w) after
+Carries w (Include moment plan) after =
+    Settles moment (with_edges moment (edges_from plan.from plan.targets) w) after
 
 -- Nothing is due in a valid world at the moment of a call that isn't before its last change.
 pub record IsTimely (w : World) (moment : ℤ) : Type 0 where
@@ -49,7 +52,8 @@ pub record IsNew (core : CoreState) (row : Invocation) : Type 0 where
   pub room : 0 < core.spare_rows
 
 -- The row at the place can be updated so.
-pub record IsUpdatable (w : World) (moment : ℤ) (place : ℕ) (deadline : Option ℤ) (tags : Option (List Pair)) : Type 0 where
+pub record IsUpdatable (w : World) (moment : ℤ) (place : ℕ) (deadline : Option ℤ)
+    (tags : Option (List Pair)) : Type 0 where
   pub timely : IsTimely w moment
   pub active : IsInState Active w.invocations place
   pub ahead : ForSome deadline (λ given. (moment <ℤ given) × (given ≤ℤ latest_deadline))
@@ -60,22 +64,27 @@ abbrev pub Fits : CoreState → Change → Type 0
 Fits core (Tick moment) = IsCallMoment moment × (core.world.last ≤ℤ moment)
 Fits core (Add row) = IsNew core row
 Fits core (Update moment place deadline tags) = IsUpdatable core.world moment place deadline tags
-Fits core (End moment place) = IsTimely core.world moment × IsInState Active core.world.invocations place
+Fits core (End moment place) =
+    IsTimely core.world moment × IsInState Active core.world.invocations place
 Fits core (Include moment plan) = IsTimely core.world moment × states.Fits (held_by core) plan
 
 -- The plan does what a caller asks for and is granted, and gives the reply to it.
-pub record IsPlanOf (s : Settings) (w : World) (moment : ℤ) (asked : Asked) (plan : PlanState) : Type 0 where
+pub record IsPlanOf (s : Settings) (w : World) (moment : ℤ) (asked : Asked) (plan : PlanState)
+    : Type 0 where
   pub caller : ℕ
   pub request : Request
   pub accepted : IsAccepted s w moment asked caller request
   pub answer : Answer
   pub answer_is : plan.answer ≡ Some answer
-  pub acts : (after : World) → Carries w plan.change after → Acts s w moment caller request after × IsReplyTo s after request answer
+  pub acts : (after : World) → Carries w plan.change after
+      → Acts s w moment caller request after × IsReplyTo s after request answer
 
--- A request is refused by the answer of the rule that it breaks; or it is accepted, and answered without a change; or it is
--- accepted, and its plan can be carried out.
+-- A request is refused by the answer of the rule that it breaks; or it is accepted, and answered
+-- without a change; or it is accepted, and its plan can be carried out.
 abbrev pub IsPrepared : CoreState → ℤ → Asked → Prepared → Type 0
-IsPrepared core moment asked (prepared.Refused answer) = Refuses core.settings core.world moment asked core.world answer
-IsPrepared core moment asked (prepared.Answered answer) = Performs core.settings core.world moment asked core.world answer
+IsPrepared core moment asked (prepared.Refused answer) =
+    Refuses core.settings core.world moment asked core.world answer
+IsPrepared core moment asked (prepared.Answered answer) =
+    Performs core.settings core.world moment asked core.world answer
 IsPrepared core moment asked (prepared.Change plan) =
     IsPlanOf core.settings core.world moment asked plan × Fits core plan.change

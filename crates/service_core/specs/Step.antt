@@ -20,7 +20,8 @@ use Rattle.request_rules.specs.Order.{IsFirst, IsUnbroken}
 use Rattle.request_rules.specs.Broken.{Scene, Wants, Broken}
 use Rattle.service_core.specs.Answers.{IsReplyTo}
 
--- The moment of a call: what the clock says, brought into the years from 1970 to 9998, and no earlier than the last change.
+-- The moment of a call: what the clock says, brought into the years from 1970 to 9998, and no
+-- earlier than the last change.
 abbrev pub moment_of : ℤ → ℤ → ℤ
 moment_of last now = int_max last (int_max (pos 0) (int_min now latest_call))
 
@@ -33,7 +34,8 @@ abbrev pub IsRefusal : Settings → World → ℤ → Asked → Refusal → Type
 IsRefusal s w moment asked r = IsFirst (Broken s (scene_of w moment) asked) r
 
 -- The request breaks no rule, and this caller asks for this.
-pub record IsAccepted (s : Settings) (w : World) (moment : ℤ) (asked : Asked) (caller : ℕ) (request : Request) : Type 0 where
+pub record IsAccepted (s : Settings) (w : World) (moment : ℤ) (asked : Asked)
+    (caller : ℕ) (request : Request) : Type 0 where
   pub wants : Wants s asked caller request
   pub unbroken : IsUnbroken (Broken s (scene_of w moment) asked)
 
@@ -53,8 +55,9 @@ abbrev pub with_end_begun : ℤ → ℕ → World → World
 with_end_begun moment place w =
     begun_from (slice_get (states_of w.invocations) place) (with_begun moment place w) w
 
--- What a request changes: it adds an active invocation of its caller's; it gives one another deadline or other tags; it begins
--- the finalization of an active one; it adds the inclusions that aren't there yet; or it only reads.
+-- What a request changes: it adds an active invocation of its caller's; it gives one another
+-- deadline or other tags; it begins the finalization of an active one; it adds the inclusions that
+-- aren't there yet; or it only reads.
 abbrev pub changed : Settings → World → ℤ → ℕ → Request → World
 changed s w moment caller (CreateInvocation id realm deadline tags) =
     with_row w (new_row moment (caller_name s caller) id realm deadline tags)
@@ -67,28 +70,33 @@ changed s w moment caller (UpdateIncludedInvocations including add) =
     (place_named w.invocations including)
 changed s w moment caller (GetInvocation id) = w
 
--- An accepted request is acted on: what it changes is changed, and what then reaches no active invocation becomes final.
+-- An accepted request is acted on: what it changes is changed, and what then reaches no active
+-- invocation becomes final.
 abbrev pub Acts : Settings → World → ℤ → ℕ → Request → World → Type 0
 Acts s w moment caller request after = Settles moment (changed s w moment caller request) after
 
 -- A refused request changes nothing.
-pub record Refuses (s : Settings) (w : World) (moment : ℤ) (asked : Asked) (after : World) (answer : Answer) : Type 0 where
+pub record Refuses (s : Settings) (w : World) (moment : ℤ) (asked : Asked)
+    (after : World) (answer : Answer) : Type 0 where
   pub refusal : Refusal
   pub is_refusal : IsRefusal s w moment asked refusal
   pub same : after ≡ w
   pub answer_is : answer ≡ refusal_answer refusal
 
 -- An accepted request is acted on, and answered.
-pub record Performs (s : Settings) (w : World) (moment : ℤ) (asked : Asked) (after : World) (answer : Answer) : Type 0 where
+pub record Performs (s : Settings) (w : World) (moment : ℤ) (asked : Asked)
+    (after : World) (answer : Answer) : Type 0 where
   pub caller : ℕ
   pub request : Request
   pub accepted : IsAccepted s w moment asked caller request
   pub acts : Acts s w moment caller request after
   pub replied : IsReplyTo s after request answer
 
--- At this moment this request leads from the world w to the world after, with this answer: first due deadlines are carried
--- out, and then the request is judged in the world between.
-pub record Step (s : Settings) (w : World) (moment : ℤ) (asked : Asked) (after : World) (answer : Answer) : Type 0 where
+-- At this moment this request leads from the world w to the world after, with this answer: first
+-- due deadlines are carried out, and then the request is judged in the world between.
+pub record Step (s : Settings) (w : World) (moment : ℤ) (asked : Asked)
+    (after : World) (answer : Answer) : Type 0 where
   pub between : World
   pub advances : Advances w moment between
-  pub judged : Refuses s between moment asked after answer ⊎ Performs s between moment asked after answer
+  pub judged : Refuses s between moment asked after answer
+      ⊎ Performs s between moment asked after answer

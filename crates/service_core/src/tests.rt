@@ -12,41 +12,58 @@ use std::test::Fail;
 /// 2023-11-14T22:13:20Z
 const NOW: i64 = 1_700_000_000_000_000;
 
-const SAMPLE: &str = "secret = \"0b0b0b0b0b0b0b0b0b0b0b0b0b0b0b0b0b0b0b0b\"
+const SAMPLE: &str = r#"secret = "0b0b0b0b0b0b0b0b0b0b0b0b0b0b0b0b0b0b0b0b"
 [user.alice]
-token = \"tok-a\"
+token = "tok-a"
 [user.bob]
-token = \"tok-b\"
+token = "tok-b"
 [user.carol]
-token = \"tok-c\"
+token = "tok-c"
 [user.dana]
-token = \"tok-d\"
+token = "tok-d"
 [group.farm]
-members = [\"dana\"]
+members = ["dana"]
 [role.writer]
-permissions = [\"resultdb.invocations.create\", \"resultdb.invocations.get\", \"resultdb.invocations.include\", \"resultdb.testResults.get\", \"resultdb.testResults.list\", \"resultdb.testExonerations.get\", \"resultdb.testExonerations.list\", \"resultdb.artifacts.get\", \"resultdb.artifacts.list\"]
+permissions = [
+    "resultdb.invocations.create", "resultdb.invocations.get", "resultdb.invocations.include",
+    "resultdb.testResults.get", "resultdb.testResults.list", "resultdb.testExonerations.get",
+    "resultdb.testExonerations.list", "resultdb.artifacts.get", "resultdb.artifacts.list",
+]
 [role.reserved]
-permissions = [\"resultdb.invocations.createWithReservedID\"]
+permissions = ["resultdb.invocations.createWithReservedID"]
 [role.reader]
-permissions = [\"resultdb.invocations.get\", \"resultdb.testResults.get\", \"resultdb.testResults.list\", \"resultdb.testExonerations.get\", \"resultdb.testExonerations.list\", \"resultdb.artifacts.get\", \"resultdb.artifacts.list\"]
+permissions = [
+    "resultdb.invocations.get", "resultdb.testResults.get", "resultdb.testResults.list",
+    "resultdb.testExonerations.get", "resultdb.testExonerations.list",
+    "resultdb.artifacts.get", "resultdb.artifacts.list",
+]
 [role.limited]
-permissions = [\"resultdb.invocations.get\", \"resultdb.testResults.listLimited\", \"resultdb.testExonerations.listLimited\"]
-[realm.\"proj:@root\"]
-bindings = [{ role = \"writer\", principals = [\"user:alice\", \"group:farm\"] }, { role = \"reserved\", principals = [\"group:farm\"] }]
-[realm.\"proj:ci\"]
-bindings = [{ role = \"reader\", principals = [\"user:bob\"] }, { role = \"limited\", principals = [\"user:carol\"] }]
-[realm.\"proj:priv\"]
+permissions = [
+    "resultdb.invocations.get", "resultdb.testResults.listLimited",
+    "resultdb.testExonerations.listLimited",
+]
+[realm."proj:@root"]
+bindings = [
+    { role = "writer", principals = ["user:alice", "group:farm"] },
+    { role = "reserved", principals = ["group:farm"] },
+]
+[realm."proj:ci"]
+bindings = [
+    { role = "reader", principals = ["user:bob"] },
+    { role = "limited", principals = ["user:carol"] },
+]
+[realm."proj:priv"]
 extends = []
-bindings = [{ role = \"limited\", principals = [\"user:bob\"] }]
-";
+bindings = [{ role = "limited", principals = ["user:bob"] }]
+"#;
 
 /// HMAC-SHA256 under 20 bytes 0x0b, over `rdb-update/u-a`, computed by another program.
 const TOKEN: &[u8] = b"3f2f1bb18f734f22cd9d2ed809e69a8bf5d841332e29a79572c3c0a2f8f94d18";
 
 const SERVICE: &str = "luci.resultdb.v1.Recorder";
 
-/// Whose request, by his token ("" is nobody's), of which service, method and body; and what it is told: the status, the
-/// gRPC code and the text.
+/// Whose request, by his token ("" is nobody's), of which service, method and body; and what it is
+/// told: the status, the gRPC code and the text.
 type Turn = (
     &'static str,
     &'static str,
@@ -62,16 +79,18 @@ const TURNS: [Turn; 21] = [
         "tok-a",
         SERVICE,
         "CreateInvocation",
-        "{\"invocationId\":\"u-a\",\"invocation\":{\"realm\":\"proj:ci\"}}",
+        r#"{"invocationId":"u-a","invocation":{"realm":"proj:ci"}}"#,
         200,
         0,
-        ")]}'\n{\"createTime\":\"2023-11-14T22:13:20Z\",\"createdBy\":\"user:alice\",\"deadline\":\"2023-11-16T22:13:20Z\",\"name\":\"invocations/u-a\",\"realm\":\"proj:ci\",\"state\":\"ACTIVE\"}",
+        ")]}'\n{\"createTime\":\"2023-11-14T22:13:20Z\",\"createdBy\":\"user:alice\",\
+            \"deadline\":\"2023-11-16T22:13:20Z\",\"name\":\"invocations/u-a\",\
+            \"realm\":\"proj:ci\",\"state\":\"ACTIVE\"}",
     ),
     (
         "tok-a",
         SERVICE,
         "CreateInvocation",
-        "{\"invocationId\":\"u-a\",\"invocation\":{\"realm\":\"proj:ci\"}}",
+        r#"{"invocationId":"u-a","invocation":{"realm":"proj:ci"}}"#,
         409,
         6,
         "19 Taken: invocations/u-a\n",
@@ -80,7 +99,7 @@ const TURNS: [Turn; 21] = [
         "",
         SERVICE,
         "CreateInvocation",
-        "{\"invocationId\":\"u-b\",\"invocation\":{\"realm\":\"proj:ci\"}}",
+        r#"{"invocationId":"u-b","invocation":{"realm":"proj:ci"}}"#,
         401,
         16,
         "2 NoCaller\n",
@@ -89,7 +108,7 @@ const TURNS: [Turn; 21] = [
         "tok-x",
         SERVICE,
         "CreateInvocation",
-        "{\"invocationId\":\"u-b\",\"invocation\":{\"realm\":\"proj:ci\"}}",
+        r#"{"invocationId":"u-b","invocation":{"realm":"proj:ci"}}"#,
         401,
         16,
         "2 NoCaller\n",
@@ -134,7 +153,7 @@ const TURNS: [Turn; 21] = [
         "tok-a",
         SERVICE,
         "CreateInvocation",
-        "{\"invocationId\":\"A\",\"invocation\":{\"realm\":\"proj:ci\"}}",
+        r#"{"invocationId":"A","invocation":{"realm":"proj:ci"}}"#,
         400,
         3,
         "6 BadValue: invocationId BadByte 0\n",
@@ -143,7 +162,7 @@ const TURNS: [Turn; 21] = [
         "tok-c",
         SERVICE,
         "CreateInvocation",
-        "{\"invocationId\":\"u-b\",\"invocation\":{\"realm\":\"proj:ci\"}}",
+        r#"{"invocationId":"u-b","invocation":{"realm":"proj:ci"}}"#,
         403,
         7,
         "11 Denied: resultdb.invocations.create proj:ci\n",
@@ -152,7 +171,7 @@ const TURNS: [Turn; 21] = [
         "tok-a",
         SERVICE,
         "CreateInvocation",
-        "{\"invocationId\":\"build-1\",\"invocation\":{\"realm\":\"proj:ci\"}}",
+        r#"{"invocationId":"build-1","invocation":{"realm":"proj:ci"}}"#,
         403,
         7,
         "11 Denied: resultdb.invocations.createWithReservedID proj:ci\n",
@@ -161,16 +180,19 @@ const TURNS: [Turn; 21] = [
         "tok-d",
         SERVICE,
         "CreateInvocation",
-        "{\"invocationId\":\"build-1\",\"invocation\":{\"realm\":\"proj:ci\"}}",
+        r#"{"invocationId":"build-1","invocation":{"realm":"proj:ci"}}"#,
         200,
         0,
-        ")]}'\n{\"createTime\":\"2023-11-14T22:13:20Z\",\"createdBy\":\"user:dana\",\"deadline\":\"2023-11-16T22:13:20Z\",\"name\":\"invocations/build-1\",\"realm\":\"proj:ci\",\"state\":\"ACTIVE\"}",
+        ")]}'\n{\"createTime\":\"2023-11-14T22:13:20Z\",\"createdBy\":\"user:dana\",\
+            \"deadline\":\"2023-11-16T22:13:20Z\",\"name\":\"invocations/build-1\",\
+            \"realm\":\"proj:ci\",\"state\":\"ACTIVE\"}",
     ),
     (
         "tok-a",
         SERVICE,
         "CreateInvocation",
-        "{\"invocationId\":\"u-b\",\"invocation\":{\"realm\":\"proj:ci\",\"deadline\":\"2023-11-14T22:13:29.999999Z\"}}",
+        r#"{"invocationId":"u-b","invocation":{"realm":"proj:ci",
+            "deadline":"2023-11-14T22:13:29.999999Z"}}"#,
         400,
         3,
         "13 DeadlineRange: 2023-11-14T22:13:29.999999Z 2023-11-14T22:13:20Z\n",
@@ -179,16 +201,20 @@ const TURNS: [Turn; 21] = [
         "tok-a",
         SERVICE,
         "CreateInvocation",
-        "{\"invocationId\":\"u-b\",\"invocation\":{\"realm\":\"proj:ci\",\"deadline\":\"2023-11-14T22:13:30Z\"}}",
+        r#"{"invocationId":"u-b","invocation":{"realm":"proj:ci",
+            "deadline":"2023-11-14T22:13:30Z"}}"#,
         200,
         0,
-        ")]}'\n{\"createTime\":\"2023-11-14T22:13:20Z\",\"createdBy\":\"user:alice\",\"deadline\":\"2023-11-14T22:13:30Z\",\"name\":\"invocations/u-b\",\"realm\":\"proj:ci\",\"state\":\"ACTIVE\"}",
+        ")]}'\n{\"createTime\":\"2023-11-14T22:13:20Z\",\"createdBy\":\"user:alice\",\
+            \"deadline\":\"2023-11-14T22:13:30Z\",\"name\":\"invocations/u-b\",\
+            \"realm\":\"proj:ci\",\"state\":\"ACTIVE\"}",
     ),
     (
         "tok-a",
         SERVICE,
         "CreateInvocation",
-        "{\"invocationId\":\"u-c\",\"invocation\":{\"realm\":\"proj:ci\",\"deadline\":\"2023-11-19T22:13:20.000001Z\"}}",
+        r#"{"invocationId":"u-c","invocation":{"realm":"proj:ci",
+            "deadline":"2023-11-19T22:13:20.000001Z"}}"#,
         400,
         3,
         "13 DeadlineRange: 2023-11-19T22:13:20.000001Z 2023-11-14T22:13:20Z\n",
@@ -197,16 +223,20 @@ const TURNS: [Turn; 21] = [
         "tok-a",
         SERVICE,
         "CreateInvocation",
-        "{\"invocationId\":\"u-c\",\"invocation\":{\"realm\":\"proj:ci\",\"deadline\":\"2023-11-19T22:13:20Z\"}}",
+        r#"{"invocationId":"u-c","invocation":{"realm":"proj:ci",
+            "deadline":"2023-11-19T22:13:20Z"}}"#,
         200,
         0,
-        ")]}'\n{\"createTime\":\"2023-11-14T22:13:20Z\",\"createdBy\":\"user:alice\",\"deadline\":\"2023-11-19T22:13:20Z\",\"name\":\"invocations/u-c\",\"realm\":\"proj:ci\",\"state\":\"ACTIVE\"}",
+        ")]}'\n{\"createTime\":\"2023-11-14T22:13:20Z\",\"createdBy\":\"user:alice\",\
+            \"deadline\":\"2023-11-19T22:13:20Z\",\"name\":\"invocations/u-c\",\
+            \"realm\":\"proj:ci\",\"state\":\"ACTIVE\"}",
     ),
     (
         "tok-a",
         SERVICE,
         "CreateInvocation",
-        "{\"invocationId\":\"u-a\",\"invocation\":{\"realm\":\"proj:ci\",\"deadline\":\"2023-11-14T22:13:20Z\"}}",
+        r#"{"invocationId":"u-a","invocation":{"realm":"proj:ci",
+            "deadline":"2023-11-14T22:13:20Z"}}"#,
         400,
         3,
         "13 DeadlineRange: 2023-11-14T22:13:20Z 2023-11-14T22:13:20Z\n",
@@ -215,7 +245,8 @@ const TURNS: [Turn; 21] = [
         "tok-c",
         SERVICE,
         "CreateInvocation",
-        "{\"invocationId\":\"u-a\",\"invocation\":{\"realm\":\"proj:ci\",\"deadline\":\"2023-11-14T22:13:20Z\"}}",
+        r#"{"invocationId":"u-a","invocation":{"realm":"proj:ci",
+            "deadline":"2023-11-14T22:13:20Z"}}"#,
         403,
         7,
         "11 Denied: resultdb.invocations.create proj:ci\n",
@@ -224,10 +255,13 @@ const TURNS: [Turn; 21] = [
         "tok-a",
         SERVICE,
         "CreateInvocation",
-        "{\"invocationId\":\"u-t\",\"invocation\":{\"realm\":\"proj:ci\",\"tags\":[{\"key\":\"k\",\"value\":\"v\"}]}}",
+        r#"{"invocationId":"u-t","invocation":{"realm":"proj:ci","tags":[{"key":"k",
+            "value":"v"}]}}"#,
         200,
         0,
-        ")]}'\n{\"createTime\":\"2023-11-14T22:13:20Z\",\"createdBy\":\"user:alice\",\"deadline\":\"2023-11-16T22:13:20Z\",\"name\":\"invocations/u-t\",\"realm\":\"proj:ci\",\"state\":\"ACTIVE\",\"tags\":[{\"key\":\"k\",\"value\":\"v\"}]}",
+        ")]}'\n{\"createTime\":\"2023-11-14T22:13:20Z\",\"createdBy\":\"user:alice\",\
+            \"deadline\":\"2023-11-16T22:13:20Z\",\"name\":\"invocations/u-t\",\
+            \"realm\":\"proj:ci\",\"state\":\"ACTIVE\",\"tags\":[{\"key\":\"k\",\"value\":\"v\"}]}",
     ),
     (
         "",

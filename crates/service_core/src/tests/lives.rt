@@ -13,7 +13,8 @@ use std::test::Fail;
 const SECRET: [u8; 20] = [0x0b; 20];
 
 /// A request: so many seconds after 2023-11-14T22:13:20Z, by whose bearer token, with the update
-/// token of which invocation ("" shows none), by which method, with which body; and what it is told.
+/// token of which invocation ("" shows none), by which method, with which body; and what it is
+/// told.
 struct Turn {
     at: u32,
     bearer: &'static str,
@@ -32,37 +33,43 @@ const CYCLE: [Turn; 12] = [
         bearer: "tok-a",
         token_of: "",
         method: "CreateInvocation",
-        body: "{\"invocationId\":\"u-a\",\"invocation\":{\"realm\":\"proj:ci\"}}",
+        body: r#"{"invocationId":"u-a","invocation":{"realm":"proj:ci"}}"#,
         status: 200,
         code: 0,
-        text: ")]}'\n{\"createTime\":\"2023-11-14T22:13:20Z\",\"createdBy\":\"user:alice\",\"deadline\":\"2023-11-16T22:13:20Z\",\"name\":\"invocations/u-a\",\"realm\":\"proj:ci\",\"state\":\"ACTIVE\"}",
+        text: ")]}'\n{\"createTime\":\"2023-11-14T22:13:20Z\",\"createdBy\":\"user:alice\",\
+            \"deadline\":\"2023-11-16T22:13:20Z\",\"name\":\"invocations/u-a\",\
+            \"realm\":\"proj:ci\",\"state\":\"ACTIVE\"}",
     },
     Turn {
         at: 0,
         bearer: "tok-a",
         token_of: "",
         method: "CreateInvocation",
-        body: "{\"invocationId\":\"u-b\",\"invocation\":{\"realm\":\"proj:ci\"}}",
+        body: r#"{"invocationId":"u-b","invocation":{"realm":"proj:ci"}}"#,
         status: 200,
         code: 0,
-        text: ")]}'\n{\"createTime\":\"2023-11-14T22:13:20Z\",\"createdBy\":\"user:alice\",\"deadline\":\"2023-11-16T22:13:20Z\",\"name\":\"invocations/u-b\",\"realm\":\"proj:ci\",\"state\":\"ACTIVE\"}",
+        text: ")]}'\n{\"createTime\":\"2023-11-14T22:13:20Z\",\"createdBy\":\"user:alice\",\
+            \"deadline\":\"2023-11-16T22:13:20Z\",\"name\":\"invocations/u-b\",\
+            \"realm\":\"proj:ci\",\"state\":\"ACTIVE\"}",
     },
     Turn {
         at: 0,
         bearer: "tok-a",
         token_of: "",
         method: "CreateInvocation",
-        body: "{\"invocationId\":\"u-c\",\"invocation\":{\"realm\":\"proj:ci\"}}",
+        body: r#"{"invocationId":"u-c","invocation":{"realm":"proj:ci"}}"#,
         status: 200,
         code: 0,
-        text: ")]}'\n{\"createTime\":\"2023-11-14T22:13:20Z\",\"createdBy\":\"user:alice\",\"deadline\":\"2023-11-16T22:13:20Z\",\"name\":\"invocations/u-c\",\"realm\":\"proj:ci\",\"state\":\"ACTIVE\"}",
+        text: ")]}'\n{\"createTime\":\"2023-11-14T22:13:20Z\",\"createdBy\":\"user:alice\",\
+            \"deadline\":\"2023-11-16T22:13:20Z\",\"name\":\"invocations/u-c\",\
+            \"realm\":\"proj:ci\",\"state\":\"ACTIVE\"}",
     },
     Turn {
         at: 0,
         bearer: "tok-a",
         token_of: "u-a",
         method: "UpdateIncludedInvocations",
-        body: "{\"includingInvocation\":\"invocations/u-a\",\"addInvocations\":[\"invocations/u-b\"]}",
+        body: r#"{"includingInvocation":"invocations/u-a","addInvocations":["invocations/u-b"]}"#,
         status: 200,
         code: 0,
         text: ")]}'\n{}",
@@ -72,7 +79,7 @@ const CYCLE: [Turn; 12] = [
         bearer: "tok-a",
         token_of: "u-b",
         method: "UpdateIncludedInvocations",
-        body: "{\"includingInvocation\":\"invocations/u-b\",\"addInvocations\":[\"invocations/u-c\"]}",
+        body: r#"{"includingInvocation":"invocations/u-b","addInvocations":["invocations/u-c"]}"#,
         status: 200,
         code: 0,
         text: ")]}'\n{}",
@@ -82,7 +89,7 @@ const CYCLE: [Turn; 12] = [
         bearer: "tok-a",
         token_of: "u-c",
         method: "UpdateIncludedInvocations",
-        body: "{\"includingInvocation\":\"invocations/u-c\",\"addInvocations\":[\"invocations/u-a\"]}",
+        body: r#"{"includingInvocation":"invocations/u-c","addInvocations":["invocations/u-a"]}"#,
         status: 200,
         code: 0,
         text: ")]}'\n{}",
@@ -92,60 +99,82 @@ const CYCLE: [Turn; 12] = [
         bearer: "tok-a",
         token_of: "u-a",
         method: "FinalizeInvocation",
-        body: "{\"name\":\"invocations/u-a\"}",
+        body: r#"{"name":"invocations/u-a"}"#,
         status: 200,
         code: 0,
-        text: ")]}'\n{\"createTime\":\"2023-11-14T22:13:20Z\",\"createdBy\":\"user:alice\",\"deadline\":\"2023-11-16T22:13:20Z\",\"finalizeStartTime\":\"2023-11-14T22:13:20Z\",\"includedInvocations\":[\"invocations/u-b\"],\"name\":\"invocations/u-a\",\"realm\":\"proj:ci\",\"state\":\"FINALIZING\"}",
+        text: ")]}'\n{\"createTime\":\"2023-11-14T22:13:20Z\",\"createdBy\":\"user:alice\",\
+            \"deadline\":\"2023-11-16T22:13:20Z\",\"finalizeStartTime\":\"2023-11-14T22:13:20Z\",\
+            \"includedInvocations\":[\"invocations/u-b\"],\"name\":\"invocations/u-a\",\
+            \"realm\":\"proj:ci\",\"state\":\"FINALIZING\"}",
     },
     Turn {
         at: 1,
         bearer: "tok-a",
         token_of: "u-b",
         method: "FinalizeInvocation",
-        body: "{\"name\":\"invocations/u-b\"}",
+        body: r#"{"name":"invocations/u-b"}"#,
         status: 200,
         code: 0,
-        text: ")]}'\n{\"createTime\":\"2023-11-14T22:13:20Z\",\"createdBy\":\"user:alice\",\"deadline\":\"2023-11-16T22:13:20Z\",\"finalizeStartTime\":\"2023-11-14T22:13:21Z\",\"includedInvocations\":[\"invocations/u-c\"],\"name\":\"invocations/u-b\",\"realm\":\"proj:ci\",\"state\":\"FINALIZING\"}",
+        text: ")]}'\n{\"createTime\":\"2023-11-14T22:13:20Z\",\"createdBy\":\"user:alice\",\
+            \"deadline\":\"2023-11-16T22:13:20Z\",\"finalizeStartTime\":\"2023-11-14T22:13:21Z\",\
+            \"includedInvocations\":[\"invocations/u-c\"],\"name\":\"invocations/u-b\",\
+            \"realm\":\"proj:ci\",\"state\":\"FINALIZING\"}",
     },
     Turn {
         at: 2,
         bearer: "tok-a",
         token_of: "u-c",
         method: "FinalizeInvocation",
-        body: "{\"name\":\"invocations/u-c\"}",
+        body: r#"{"name":"invocations/u-c"}"#,
         status: 200,
         code: 0,
-        text: ")]}'\n{\"createTime\":\"2023-11-14T22:13:20Z\",\"createdBy\":\"user:alice\",\"deadline\":\"2023-11-16T22:13:20Z\",\"finalizeStartTime\":\"2023-11-14T22:13:22Z\",\"finalizeTime\":\"2023-11-14T22:13:22Z\",\"includedInvocations\":[\"invocations/u-a\"],\"name\":\"invocations/u-c\",\"realm\":\"proj:ci\",\"state\":\"FINALIZED\"}",
+        text: ")]}'\n{\"createTime\":\"2023-11-14T22:13:20Z\",\"createdBy\":\"user:alice\",\
+            \"deadline\":\"2023-11-16T22:13:20Z\",\"finalizeStartTime\":\"2023-11-14T22:13:22Z\",\
+            \"finalizeTime\":\"2023-11-14T22:13:22Z\",\
+            \"includedInvocations\":[\"invocations/u-a\"],\"name\":\"invocations/u-c\",\
+            \"realm\":\"proj:ci\",\"state\":\"FINALIZED\"}",
     },
     Turn {
         at: 3,
         bearer: "tok-a",
         token_of: "",
         method: "GetInvocation",
-        body: "{\"name\":\"invocations/u-a\"}",
+        body: r#"{"name":"invocations/u-a"}"#,
         status: 200,
         code: 0,
-        text: ")]}'\n{\"createTime\":\"2023-11-14T22:13:20Z\",\"createdBy\":\"user:alice\",\"deadline\":\"2023-11-16T22:13:20Z\",\"finalizeStartTime\":\"2023-11-14T22:13:20Z\",\"finalizeTime\":\"2023-11-14T22:13:22Z\",\"includedInvocations\":[\"invocations/u-b\"],\"name\":\"invocations/u-a\",\"realm\":\"proj:ci\",\"state\":\"FINALIZED\"}",
+        text: ")]}'\n{\"createTime\":\"2023-11-14T22:13:20Z\",\"createdBy\":\"user:alice\",\
+            \"deadline\":\"2023-11-16T22:13:20Z\",\"finalizeStartTime\":\"2023-11-14T22:13:20Z\",\
+            \"finalizeTime\":\"2023-11-14T22:13:22Z\",\
+            \"includedInvocations\":[\"invocations/u-b\"],\"name\":\"invocations/u-a\",\
+            \"realm\":\"proj:ci\",\"state\":\"FINALIZED\"}",
     },
     Turn {
         at: 3,
         bearer: "tok-a",
         token_of: "",
         method: "GetInvocation",
-        body: "{\"name\":\"invocations/u-b\"}",
+        body: r#"{"name":"invocations/u-b"}"#,
         status: 200,
         code: 0,
-        text: ")]}'\n{\"createTime\":\"2023-11-14T22:13:20Z\",\"createdBy\":\"user:alice\",\"deadline\":\"2023-11-16T22:13:20Z\",\"finalizeStartTime\":\"2023-11-14T22:13:21Z\",\"finalizeTime\":\"2023-11-14T22:13:22Z\",\"includedInvocations\":[\"invocations/u-c\"],\"name\":\"invocations/u-b\",\"realm\":\"proj:ci\",\"state\":\"FINALIZED\"}",
+        text: ")]}'\n{\"createTime\":\"2023-11-14T22:13:20Z\",\"createdBy\":\"user:alice\",\
+            \"deadline\":\"2023-11-16T22:13:20Z\",\"finalizeStartTime\":\"2023-11-14T22:13:21Z\",\
+            \"finalizeTime\":\"2023-11-14T22:13:22Z\",\
+            \"includedInvocations\":[\"invocations/u-c\"],\"name\":\"invocations/u-b\",\
+            \"realm\":\"proj:ci\",\"state\":\"FINALIZED\"}",
     },
     Turn {
         at: 4,
         bearer: "tok-a",
         token_of: "u-a",
         method: "FinalizeInvocation",
-        body: "{\"name\":\"invocations/u-a\"}",
+        body: r#"{"name":"invocations/u-a"}"#,
         status: 200,
         code: 0,
-        text: ")]}'\n{\"createTime\":\"2023-11-14T22:13:20Z\",\"createdBy\":\"user:alice\",\"deadline\":\"2023-11-16T22:13:20Z\",\"finalizeStartTime\":\"2023-11-14T22:13:20Z\",\"finalizeTime\":\"2023-11-14T22:13:22Z\",\"includedInvocations\":[\"invocations/u-b\"],\"name\":\"invocations/u-a\",\"realm\":\"proj:ci\",\"state\":\"FINALIZED\"}",
+        text: ")]}'\n{\"createTime\":\"2023-11-14T22:13:20Z\",\"createdBy\":\"user:alice\",\
+            \"deadline\":\"2023-11-16T22:13:20Z\",\"finalizeStartTime\":\"2023-11-14T22:13:20Z\",\
+            \"finalizeTime\":\"2023-11-14T22:13:22Z\",\
+            \"includedInvocations\":[\"invocations/u-b\"],\"name\":\"invocations/u-a\",\
+            \"realm\":\"proj:ci\",\"state\":\"FINALIZED\"}",
     },
 ];
 
@@ -156,37 +185,43 @@ const CHAIN: [Turn; 13] = [
         bearer: "tok-a",
         token_of: "",
         method: "CreateInvocation",
-        body: "{\"invocationId\":\"u-f\",\"invocation\":{\"realm\":\"proj:ci\"}}",
+        body: r#"{"invocationId":"u-f","invocation":{"realm":"proj:ci"}}"#,
         status: 200,
         code: 0,
-        text: ")]}'\n{\"createTime\":\"2023-11-14T22:13:20Z\",\"createdBy\":\"user:alice\",\"deadline\":\"2023-11-16T22:13:20Z\",\"name\":\"invocations/u-f\",\"realm\":\"proj:ci\",\"state\":\"ACTIVE\"}",
+        text: ")]}'\n{\"createTime\":\"2023-11-14T22:13:20Z\",\"createdBy\":\"user:alice\",\
+            \"deadline\":\"2023-11-16T22:13:20Z\",\"name\":\"invocations/u-f\",\
+            \"realm\":\"proj:ci\",\"state\":\"ACTIVE\"}",
     },
     Turn {
         at: 0,
         bearer: "tok-a",
         token_of: "",
         method: "CreateInvocation",
-        body: "{\"invocationId\":\"u-g\",\"invocation\":{\"realm\":\"proj:ci\"}}",
+        body: r#"{"invocationId":"u-g","invocation":{"realm":"proj:ci"}}"#,
         status: 200,
         code: 0,
-        text: ")]}'\n{\"createTime\":\"2023-11-14T22:13:20Z\",\"createdBy\":\"user:alice\",\"deadline\":\"2023-11-16T22:13:20Z\",\"name\":\"invocations/u-g\",\"realm\":\"proj:ci\",\"state\":\"ACTIVE\"}",
+        text: ")]}'\n{\"createTime\":\"2023-11-14T22:13:20Z\",\"createdBy\":\"user:alice\",\
+            \"deadline\":\"2023-11-16T22:13:20Z\",\"name\":\"invocations/u-g\",\
+            \"realm\":\"proj:ci\",\"state\":\"ACTIVE\"}",
     },
     Turn {
         at: 0,
         bearer: "tok-a",
         token_of: "",
         method: "CreateInvocation",
-        body: "{\"invocationId\":\"u-h\",\"invocation\":{\"realm\":\"proj:ci\"}}",
+        body: r#"{"invocationId":"u-h","invocation":{"realm":"proj:ci"}}"#,
         status: 200,
         code: 0,
-        text: ")]}'\n{\"createTime\":\"2023-11-14T22:13:20Z\",\"createdBy\":\"user:alice\",\"deadline\":\"2023-11-16T22:13:20Z\",\"name\":\"invocations/u-h\",\"realm\":\"proj:ci\",\"state\":\"ACTIVE\"}",
+        text: ")]}'\n{\"createTime\":\"2023-11-14T22:13:20Z\",\"createdBy\":\"user:alice\",\
+            \"deadline\":\"2023-11-16T22:13:20Z\",\"name\":\"invocations/u-h\",\
+            \"realm\":\"proj:ci\",\"state\":\"ACTIVE\"}",
     },
     Turn {
         at: 0,
         bearer: "tok-a",
         token_of: "u-f",
         method: "UpdateIncludedInvocations",
-        body: "{\"includingInvocation\":\"invocations/u-f\",\"addInvocations\":[\"invocations/u-g\"]}",
+        body: r#"{"includingInvocation":"invocations/u-f","addInvocations":["invocations/u-g"]}"#,
         status: 200,
         code: 0,
         text: ")]}'\n{}",
@@ -196,17 +231,20 @@ const CHAIN: [Turn; 13] = [
         bearer: "tok-a",
         token_of: "u-f",
         method: "FinalizeInvocation",
-        body: "{\"name\":\"invocations/u-f\"}",
+        body: r#"{"name":"invocations/u-f"}"#,
         status: 200,
         code: 0,
-        text: ")]}'\n{\"createTime\":\"2023-11-14T22:13:20Z\",\"createdBy\":\"user:alice\",\"deadline\":\"2023-11-16T22:13:20Z\",\"finalizeStartTime\":\"2023-11-14T22:13:20Z\",\"includedInvocations\":[\"invocations/u-g\"],\"name\":\"invocations/u-f\",\"realm\":\"proj:ci\",\"state\":\"FINALIZING\"}",
+        text: ")]}'\n{\"createTime\":\"2023-11-14T22:13:20Z\",\"createdBy\":\"user:alice\",\
+            \"deadline\":\"2023-11-16T22:13:20Z\",\"finalizeStartTime\":\"2023-11-14T22:13:20Z\",\
+            \"includedInvocations\":[\"invocations/u-g\"],\"name\":\"invocations/u-f\",\
+            \"realm\":\"proj:ci\",\"state\":\"FINALIZING\"}",
     },
     Turn {
         at: 1,
         bearer: "tok-a",
         token_of: "u-g",
         method: "UpdateIncludedInvocations",
-        body: "{\"includingInvocation\":\"invocations/u-g\",\"addInvocations\":[\"invocations/u-h\"]}",
+        body: r#"{"includingInvocation":"invocations/u-g","addInvocations":["invocations/u-h"]}"#,
         status: 200,
         code: 0,
         text: ")]}'\n{}",
@@ -216,57 +254,74 @@ const CHAIN: [Turn; 13] = [
         bearer: "tok-a",
         token_of: "u-g",
         method: "FinalizeInvocation",
-        body: "{\"name\":\"invocations/u-g\"}",
+        body: r#"{"name":"invocations/u-g"}"#,
         status: 200,
         code: 0,
-        text: ")]}'\n{\"createTime\":\"2023-11-14T22:13:20Z\",\"createdBy\":\"user:alice\",\"deadline\":\"2023-11-16T22:13:20Z\",\"finalizeStartTime\":\"2023-11-14T22:13:21Z\",\"includedInvocations\":[\"invocations/u-h\"],\"name\":\"invocations/u-g\",\"realm\":\"proj:ci\",\"state\":\"FINALIZING\"}",
+        text: ")]}'\n{\"createTime\":\"2023-11-14T22:13:20Z\",\"createdBy\":\"user:alice\",\
+            \"deadline\":\"2023-11-16T22:13:20Z\",\"finalizeStartTime\":\"2023-11-14T22:13:21Z\",\
+            \"includedInvocations\":[\"invocations/u-h\"],\"name\":\"invocations/u-g\",\
+            \"realm\":\"proj:ci\",\"state\":\"FINALIZING\"}",
     },
     Turn {
         at: 1,
         bearer: "tok-a",
         token_of: "",
         method: "GetInvocation",
-        body: "{\"name\":\"invocations/u-f\"}",
+        body: r#"{"name":"invocations/u-f"}"#,
         status: 200,
         code: 0,
-        text: ")]}'\n{\"createTime\":\"2023-11-14T22:13:20Z\",\"createdBy\":\"user:alice\",\"deadline\":\"2023-11-16T22:13:20Z\",\"finalizeStartTime\":\"2023-11-14T22:13:20Z\",\"includedInvocations\":[\"invocations/u-g\"],\"name\":\"invocations/u-f\",\"realm\":\"proj:ci\",\"state\":\"FINALIZING\"}",
+        text: ")]}'\n{\"createTime\":\"2023-11-14T22:13:20Z\",\"createdBy\":\"user:alice\",\
+            \"deadline\":\"2023-11-16T22:13:20Z\",\"finalizeStartTime\":\"2023-11-14T22:13:20Z\",\
+            \"includedInvocations\":[\"invocations/u-g\"],\"name\":\"invocations/u-f\",\
+            \"realm\":\"proj:ci\",\"state\":\"FINALIZING\"}",
     },
     Turn {
         at: 2,
         bearer: "tok-a",
         token_of: "u-h",
         method: "FinalizeInvocation",
-        body: "{\"name\":\"invocations/u-h\"}",
+        body: r#"{"name":"invocations/u-h"}"#,
         status: 200,
         code: 0,
-        text: ")]}'\n{\"createTime\":\"2023-11-14T22:13:20Z\",\"createdBy\":\"user:alice\",\"deadline\":\"2023-11-16T22:13:20Z\",\"finalizeStartTime\":\"2023-11-14T22:13:22Z\",\"finalizeTime\":\"2023-11-14T22:13:22Z\",\"name\":\"invocations/u-h\",\"realm\":\"proj:ci\",\"state\":\"FINALIZED\"}",
+        text: ")]}'\n{\"createTime\":\"2023-11-14T22:13:20Z\",\"createdBy\":\"user:alice\",\
+            \"deadline\":\"2023-11-16T22:13:20Z\",\"finalizeStartTime\":\"2023-11-14T22:13:22Z\",\
+            \"finalizeTime\":\"2023-11-14T22:13:22Z\",\"name\":\"invocations/u-h\",\
+            \"realm\":\"proj:ci\",\"state\":\"FINALIZED\"}",
     },
     Turn {
         at: 2,
         bearer: "tok-a",
         token_of: "",
         method: "GetInvocation",
-        body: "{\"name\":\"invocations/u-f\"}",
+        body: r#"{"name":"invocations/u-f"}"#,
         status: 200,
         code: 0,
-        text: ")]}'\n{\"createTime\":\"2023-11-14T22:13:20Z\",\"createdBy\":\"user:alice\",\"deadline\":\"2023-11-16T22:13:20Z\",\"finalizeStartTime\":\"2023-11-14T22:13:20Z\",\"finalizeTime\":\"2023-11-14T22:13:22Z\",\"includedInvocations\":[\"invocations/u-g\"],\"name\":\"invocations/u-f\",\"realm\":\"proj:ci\",\"state\":\"FINALIZED\"}",
+        text: ")]}'\n{\"createTime\":\"2023-11-14T22:13:20Z\",\"createdBy\":\"user:alice\",\
+            \"deadline\":\"2023-11-16T22:13:20Z\",\"finalizeStartTime\":\"2023-11-14T22:13:20Z\",\
+            \"finalizeTime\":\"2023-11-14T22:13:22Z\",\
+            \"includedInvocations\":[\"invocations/u-g\"],\"name\":\"invocations/u-f\",\
+            \"realm\":\"proj:ci\",\"state\":\"FINALIZED\"}",
     },
     Turn {
         at: 2,
         bearer: "tok-a",
         token_of: "",
         method: "GetInvocation",
-        body: "{\"name\":\"invocations/u-g\"}",
+        body: r#"{"name":"invocations/u-g"}"#,
         status: 200,
         code: 0,
-        text: ")]}'\n{\"createTime\":\"2023-11-14T22:13:20Z\",\"createdBy\":\"user:alice\",\"deadline\":\"2023-11-16T22:13:20Z\",\"finalizeStartTime\":\"2023-11-14T22:13:21Z\",\"finalizeTime\":\"2023-11-14T22:13:22Z\",\"includedInvocations\":[\"invocations/u-h\"],\"name\":\"invocations/u-g\",\"realm\":\"proj:ci\",\"state\":\"FINALIZED\"}",
+        text: ")]}'\n{\"createTime\":\"2023-11-14T22:13:20Z\",\"createdBy\":\"user:alice\",\
+            \"deadline\":\"2023-11-16T22:13:20Z\",\"finalizeStartTime\":\"2023-11-14T22:13:21Z\",\
+            \"finalizeTime\":\"2023-11-14T22:13:22Z\",\
+            \"includedInvocations\":[\"invocations/u-h\"],\"name\":\"invocations/u-g\",\
+            \"realm\":\"proj:ci\",\"state\":\"FINALIZED\"}",
     },
     Turn {
         at: 3,
         bearer: "tok-a",
         token_of: "u-f",
         method: "UpdateIncludedInvocations",
-        body: "{\"includingInvocation\":\"invocations/u-f\",\"addInvocations\":[\"invocations/u-h\"]}",
+        body: r#"{"includingInvocation":"invocations/u-f","addInvocations":["invocations/u-h"]}"#,
         status: 400,
         code: 9,
         text: "12 NotActive: invocations/u-f FINALIZED\n",
@@ -276,7 +331,7 @@ const CHAIN: [Turn; 13] = [
         bearer: "tok-a",
         token_of: "u-f",
         method: "UpdateInvocation",
-        body: "{\"invocation\":{\"name\":\"invocations/u-f\",\"tags\":[]},\"updateMask\":\"tags\"}",
+        body: r#"{"invocation":{"name":"invocations/u-f","tags":[]},"updateMask":"tags"}"#,
         status: 400,
         code: 9,
         text: "12 NotActive: invocations/u-f FINALIZED\n",
@@ -290,37 +345,46 @@ const DEADLINES: [Turn; 8] = [
         bearer: "tok-a",
         token_of: "",
         method: "CreateInvocation",
-        body: "{\"invocationId\":\"u-a\",\"invocation\":{\"realm\":\"proj:ci\",\"deadline\":\"2023-11-14T22:13:30Z\"}}",
+        body: r#"{"invocationId":"u-a","invocation":{"realm":"proj:ci",
+            "deadline":"2023-11-14T22:13:30Z"}}"#,
         status: 200,
         code: 0,
-        text: ")]}'\n{\"createTime\":\"2023-11-14T22:13:20Z\",\"createdBy\":\"user:alice\",\"deadline\":\"2023-11-14T22:13:30Z\",\"name\":\"invocations/u-a\",\"realm\":\"proj:ci\",\"state\":\"ACTIVE\"}",
+        text: ")]}'\n{\"createTime\":\"2023-11-14T22:13:20Z\",\"createdBy\":\"user:alice\",\
+            \"deadline\":\"2023-11-14T22:13:30Z\",\"name\":\"invocations/u-a\",\
+            \"realm\":\"proj:ci\",\"state\":\"ACTIVE\"}",
     },
     Turn {
         at: 0,
         bearer: "tok-a",
         token_of: "",
         method: "CreateInvocation",
-        body: "{\"invocationId\":\"u-x\",\"invocation\":{\"realm\":\"proj:ci\",\"deadline\":\"2023-11-14T22:13:30Z\"}}",
+        body: r#"{"invocationId":"u-x","invocation":{"realm":"proj:ci",
+            "deadline":"2023-11-14T22:13:30Z"}}"#,
         status: 200,
         code: 0,
-        text: ")]}'\n{\"createTime\":\"2023-11-14T22:13:20Z\",\"createdBy\":\"user:alice\",\"deadline\":\"2023-11-14T22:13:30Z\",\"name\":\"invocations/u-x\",\"realm\":\"proj:ci\",\"state\":\"ACTIVE\"}",
+        text: ")]}'\n{\"createTime\":\"2023-11-14T22:13:20Z\",\"createdBy\":\"user:alice\",\
+            \"deadline\":\"2023-11-14T22:13:30Z\",\"name\":\"invocations/u-x\",\
+            \"realm\":\"proj:ci\",\"state\":\"ACTIVE\"}",
     },
     Turn {
         at: 0,
         bearer: "tok-a",
         token_of: "",
         method: "CreateInvocation",
-        body: "{\"invocationId\":\"u-y\",\"invocation\":{\"realm\":\"proj:ci\",\"deadline\":\"2023-11-14T22:13:40Z\"}}",
+        body: r#"{"invocationId":"u-y","invocation":{"realm":"proj:ci",
+            "deadline":"2023-11-14T22:13:40Z"}}"#,
         status: 200,
         code: 0,
-        text: ")]}'\n{\"createTime\":\"2023-11-14T22:13:20Z\",\"createdBy\":\"user:alice\",\"deadline\":\"2023-11-14T22:13:40Z\",\"name\":\"invocations/u-y\",\"realm\":\"proj:ci\",\"state\":\"ACTIVE\"}",
+        text: ")]}'\n{\"createTime\":\"2023-11-14T22:13:20Z\",\"createdBy\":\"user:alice\",\
+            \"deadline\":\"2023-11-14T22:13:40Z\",\"name\":\"invocations/u-y\",\
+            \"realm\":\"proj:ci\",\"state\":\"ACTIVE\"}",
     },
     Turn {
         at: 0,
         bearer: "tok-a",
         token_of: "u-x",
         method: "UpdateIncludedInvocations",
-        body: "{\"includingInvocation\":\"invocations/u-x\",\"addInvocations\":[\"invocations/u-y\"]}",
+        body: r#"{"includingInvocation":"invocations/u-x","addInvocations":["invocations/u-y"]}"#,
         status: 200,
         code: 0,
         text: ")]}'\n{}",
@@ -330,40 +394,52 @@ const DEADLINES: [Turn; 8] = [
         bearer: "tok-a",
         token_of: "",
         method: "GetInvocation",
-        body: "{\"name\":\"invocations/u-a\"}",
+        body: r#"{"name":"invocations/u-a"}"#,
         status: 200,
         code: 0,
-        text: ")]}'\n{\"createTime\":\"2023-11-14T22:13:20Z\",\"createdBy\":\"user:alice\",\"deadline\":\"2023-11-14T22:13:30Z\",\"name\":\"invocations/u-a\",\"realm\":\"proj:ci\",\"state\":\"ACTIVE\"}",
+        text: ")]}'\n{\"createTime\":\"2023-11-14T22:13:20Z\",\"createdBy\":\"user:alice\",\
+            \"deadline\":\"2023-11-14T22:13:30Z\",\"name\":\"invocations/u-a\",\
+            \"realm\":\"proj:ci\",\"state\":\"ACTIVE\"}",
     },
     Turn {
         at: 10,
         bearer: "tok-a",
         token_of: "",
         method: "GetInvocation",
-        body: "{\"name\":\"invocations/u-a\"}",
+        body: r#"{"name":"invocations/u-a"}"#,
         status: 200,
         code: 0,
-        text: ")]}'\n{\"createTime\":\"2023-11-14T22:13:20Z\",\"createdBy\":\"user:alice\",\"deadline\":\"2023-11-14T22:13:30Z\",\"finalizeStartTime\":\"2023-11-14T22:13:30Z\",\"finalizeTime\":\"2023-11-14T22:13:30Z\",\"name\":\"invocations/u-a\",\"realm\":\"proj:ci\",\"state\":\"FINALIZED\"}",
+        text: ")]}'\n{\"createTime\":\"2023-11-14T22:13:20Z\",\"createdBy\":\"user:alice\",\
+            \"deadline\":\"2023-11-14T22:13:30Z\",\"finalizeStartTime\":\"2023-11-14T22:13:30Z\",\
+            \"finalizeTime\":\"2023-11-14T22:13:30Z\",\"name\":\"invocations/u-a\",\
+            \"realm\":\"proj:ci\",\"state\":\"FINALIZED\"}",
     },
     Turn {
         at: 30,
         bearer: "tok-a",
         token_of: "",
         method: "GetInvocation",
-        body: "{\"name\":\"invocations/u-x\"}",
+        body: r#"{"name":"invocations/u-x"}"#,
         status: 200,
         code: 0,
-        text: ")]}'\n{\"createTime\":\"2023-11-14T22:13:20Z\",\"createdBy\":\"user:alice\",\"deadline\":\"2023-11-14T22:13:30Z\",\"finalizeStartTime\":\"2023-11-14T22:13:30Z\",\"finalizeTime\":\"2023-11-14T22:13:40Z\",\"includedInvocations\":[\"invocations/u-y\"],\"name\":\"invocations/u-x\",\"realm\":\"proj:ci\",\"state\":\"FINALIZED\"}",
+        text: ")]}'\n{\"createTime\":\"2023-11-14T22:13:20Z\",\"createdBy\":\"user:alice\",\
+            \"deadline\":\"2023-11-14T22:13:30Z\",\"finalizeStartTime\":\"2023-11-14T22:13:30Z\",\
+            \"finalizeTime\":\"2023-11-14T22:13:40Z\",\
+            \"includedInvocations\":[\"invocations/u-y\"],\"name\":\"invocations/u-x\",\
+            \"realm\":\"proj:ci\",\"state\":\"FINALIZED\"}",
     },
     Turn {
         at: 30,
         bearer: "tok-a",
         token_of: "",
         method: "GetInvocation",
-        body: "{\"name\":\"invocations/u-y\"}",
+        body: r#"{"name":"invocations/u-y"}"#,
         status: 200,
         code: 0,
-        text: ")]}'\n{\"createTime\":\"2023-11-14T22:13:20Z\",\"createdBy\":\"user:alice\",\"deadline\":\"2023-11-14T22:13:40Z\",\"finalizeStartTime\":\"2023-11-14T22:13:40Z\",\"finalizeTime\":\"2023-11-14T22:13:40Z\",\"name\":\"invocations/u-y\",\"realm\":\"proj:ci\",\"state\":\"FINALIZED\"}",
+        text: ")]}'\n{\"createTime\":\"2023-11-14T22:13:20Z\",\"createdBy\":\"user:alice\",\
+            \"deadline\":\"2023-11-14T22:13:40Z\",\"finalizeStartTime\":\"2023-11-14T22:13:40Z\",\
+            \"finalizeTime\":\"2023-11-14T22:13:40Z\",\"name\":\"invocations/u-y\",\
+            \"realm\":\"proj:ci\",\"state\":\"FINALIZED\"}",
     },
 ];
 
@@ -374,37 +450,43 @@ const REFUSALS: [Turn; 24] = [
         bearer: "tok-a",
         token_of: "",
         method: "CreateInvocation",
-        body: "{\"invocationId\":\"u-a\",\"invocation\":{\"realm\":\"proj:ci\"}}",
+        body: r#"{"invocationId":"u-a","invocation":{"realm":"proj:ci"}}"#,
         status: 200,
         code: 0,
-        text: ")]}'\n{\"createTime\":\"2023-11-14T22:13:20Z\",\"createdBy\":\"user:alice\",\"deadline\":\"2023-11-16T22:13:20Z\",\"name\":\"invocations/u-a\",\"realm\":\"proj:ci\",\"state\":\"ACTIVE\"}",
+        text: ")]}'\n{\"createTime\":\"2023-11-14T22:13:20Z\",\"createdBy\":\"user:alice\",\
+            \"deadline\":\"2023-11-16T22:13:20Z\",\"name\":\"invocations/u-a\",\
+            \"realm\":\"proj:ci\",\"state\":\"ACTIVE\"}",
     },
     Turn {
         at: 0,
         bearer: "tok-a",
         token_of: "",
         method: "CreateInvocation",
-        body: "{\"invocationId\":\"u-b\",\"invocation\":{\"realm\":\"proj:ci\"}}",
+        body: r#"{"invocationId":"u-b","invocation":{"realm":"proj:ci"}}"#,
         status: 200,
         code: 0,
-        text: ")]}'\n{\"createTime\":\"2023-11-14T22:13:20Z\",\"createdBy\":\"user:alice\",\"deadline\":\"2023-11-16T22:13:20Z\",\"name\":\"invocations/u-b\",\"realm\":\"proj:ci\",\"state\":\"ACTIVE\"}",
+        text: ")]}'\n{\"createTime\":\"2023-11-14T22:13:20Z\",\"createdBy\":\"user:alice\",\
+            \"deadline\":\"2023-11-16T22:13:20Z\",\"name\":\"invocations/u-b\",\
+            \"realm\":\"proj:ci\",\"state\":\"ACTIVE\"}",
     },
     Turn {
         at: 0,
         bearer: "tok-a",
         token_of: "",
         method: "CreateInvocation",
-        body: "{\"invocationId\":\"u-p\",\"invocation\":{\"realm\":\"proj:priv\"}}",
+        body: r#"{"invocationId":"u-p","invocation":{"realm":"proj:priv"}}"#,
         status: 200,
         code: 0,
-        text: ")]}'\n{\"createTime\":\"2023-11-14T22:13:20Z\",\"createdBy\":\"user:alice\",\"deadline\":\"2023-11-16T22:13:20Z\",\"name\":\"invocations/u-p\",\"realm\":\"proj:priv\",\"state\":\"ACTIVE\"}",
+        text: ")]}'\n{\"createTime\":\"2023-11-14T22:13:20Z\",\"createdBy\":\"user:alice\",\
+            \"deadline\":\"2023-11-16T22:13:20Z\",\"name\":\"invocations/u-p\",\
+            \"realm\":\"proj:priv\",\"state\":\"ACTIVE\"}",
     },
     Turn {
         at: 0,
         bearer: "tok-a",
         token_of: "",
         method: "FinalizeInvocation",
-        body: "{\"name\":\"invocations/u-a\"}",
+        body: r#"{"name":"invocations/u-a"}"#,
         status: 401,
         code: 16,
         text: "9 NoUpdateToken: invocations/u-a\n",
@@ -414,7 +496,7 @@ const REFUSALS: [Turn; 24] = [
         bearer: "tok-a",
         token_of: "u-b",
         method: "FinalizeInvocation",
-        body: "{\"name\":\"invocations/u-a\"}",
+        body: r#"{"name":"invocations/u-a"}"#,
         status: 403,
         code: 7,
         text: "10 BadUpdateToken: invocations/u-a\n",
@@ -424,7 +506,7 @@ const REFUSALS: [Turn; 24] = [
         bearer: "tok-a",
         token_of: "",
         method: "FinalizeInvocation",
-        body: "{\"name\":\"invocations/u-z\"}",
+        body: r#"{"name":"invocations/u-z"}"#,
         status: 404,
         code: 5,
         text: "8 NotFound: invocations/u-z\n",
@@ -434,7 +516,7 @@ const REFUSALS: [Turn; 24] = [
         bearer: "tok-a",
         token_of: "",
         method: "GetInvocation",
-        body: "{\"name\":\"invocations/u-z\"}",
+        body: r#"{"name":"invocations/u-z"}"#,
         status: 404,
         code: 5,
         text: "8 NotFound: invocations/u-z\n",
@@ -444,7 +526,8 @@ const REFUSALS: [Turn; 24] = [
         bearer: "tok-a",
         token_of: "u-a",
         method: "UpdateIncludedInvocations",
-        body: "{\"includingInvocation\":\"invocations/u-a\",\"addInvocations\":[\"invocations/u-b\",\"invocations/u-y\",\"invocations/u-z\"]}",
+        body: r#"{"includingInvocation":"invocations/u-a","addInvocations":["invocations/u-b",
+            "invocations/u-y","invocations/u-z"]}"#,
         status: 404,
         code: 5,
         text: "8 NotFound: invocations/u-y\n",
@@ -454,7 +537,7 @@ const REFUSALS: [Turn; 24] = [
         bearer: "tok-c",
         token_of: "u-a",
         method: "UpdateIncludedInvocations",
-        body: "{\"includingInvocation\":\"invocations/u-a\",\"addInvocations\":[\"invocations/u-b\"]}",
+        body: r#"{"includingInvocation":"invocations/u-a","addInvocations":["invocations/u-b"]}"#,
         status: 403,
         code: 7,
         text: "11 Denied: resultdb.invocations.include proj:ci\n",
@@ -464,7 +547,8 @@ const REFUSALS: [Turn; 24] = [
         bearer: "tok-b",
         token_of: "u-a",
         method: "UpdateIncludedInvocations",
-        body: "{\"includingInvocation\":\"invocations/u-a\",\"addInvocations\":[\"invocations/u-p\",\"invocations/u-b\"]}",
+        body: r#"{"includingInvocation":"invocations/u-a","addInvocations":["invocations/u-p",
+            "invocations/u-b"]}"#,
         status: 403,
         code: 7,
         text: "11 Denied: resultdb.invocations.include proj:priv\n",
@@ -474,7 +558,8 @@ const REFUSALS: [Turn; 24] = [
         bearer: "tok-a",
         token_of: "u-a",
         method: "UpdateIncludedInvocations",
-        body: "{\"includingInvocation\":\"invocations/u-a\",\"addInvocations\":[\"invocations/u-b\",\"invocations/u-a\"]}",
+        body: r#"{"includingInvocation":"invocations/u-a","addInvocations":["invocations/u-b",
+            "invocations/u-a"]}"#,
         status: 400,
         code: 3,
         text: "14 Itself: invocations/u-a\n",
@@ -484,7 +569,8 @@ const REFUSALS: [Turn; 24] = [
         bearer: "tok-a",
         token_of: "u-a",
         method: "UpdateIncludedInvocations",
-        body: "{\"includingInvocation\":\"invocations/u-a\",\"addInvocations\":[\"invocations/u-p\",\"invocations/u-b\",\"invocations/u-p\"]}",
+        body: r#"{"includingInvocation":"invocations/u-a","addInvocations":["invocations/u-p",
+            "invocations/u-b","invocations/u-p"]}"#,
         status: 200,
         code: 0,
         text: ")]}'\n{}",
@@ -494,7 +580,7 @@ const REFUSALS: [Turn; 24] = [
         bearer: "tok-a",
         token_of: "u-a",
         method: "UpdateIncludedInvocations",
-        body: "{\"includingInvocation\":\"invocations/u-a\",\"addInvocations\":[\"invocations/u-b\"]}",
+        body: r#"{"includingInvocation":"invocations/u-a","addInvocations":["invocations/u-b"]}"#,
         status: 200,
         code: 0,
         text: ")]}'\n{}",
@@ -504,27 +590,32 @@ const REFUSALS: [Turn; 24] = [
         bearer: "tok-a",
         token_of: "",
         method: "GetInvocation",
-        body: "{\"name\":\"invocations/u-a\"}",
+        body: r#"{"name":"invocations/u-a"}"#,
         status: 200,
         code: 0,
-        text: ")]}'\n{\"createTime\":\"2023-11-14T22:13:20Z\",\"createdBy\":\"user:alice\",\"deadline\":\"2023-11-16T22:13:20Z\",\"includedInvocations\":[\"invocations/u-p\",\"invocations/u-b\"],\"name\":\"invocations/u-a\",\"realm\":\"proj:ci\",\"state\":\"ACTIVE\"}",
+        text: ")]}'\n{\"createTime\":\"2023-11-14T22:13:20Z\",\"createdBy\":\"user:alice\",\
+            \"deadline\":\"2023-11-16T22:13:20Z\",\"includedInvocations\":[\"invocations/u-p\",\
+            \"invocations/u-b\"],\"name\":\"invocations/u-a\",\"realm\":\"proj:ci\",\
+            \"state\":\"ACTIVE\"}",
     },
     Turn {
         at: 0,
         bearer: "tok-b",
         token_of: "",
         method: "GetInvocation",
-        body: "{\"name\":\"invocations/u-p\"}",
+        body: r#"{"name":"invocations/u-p"}"#,
         status: 200,
         code: 0,
-        text: ")]}'\n{\"createTime\":\"2023-11-14T22:13:20Z\",\"createdBy\":\"user:alice\",\"deadline\":\"2023-11-16T22:13:20Z\",\"name\":\"invocations/u-p\",\"realm\":\"proj:priv\",\"state\":\"ACTIVE\"}",
+        text: ")]}'\n{\"createTime\":\"2023-11-14T22:13:20Z\",\"createdBy\":\"user:alice\",\
+            \"deadline\":\"2023-11-16T22:13:20Z\",\"name\":\"invocations/u-p\",\
+            \"realm\":\"proj:priv\",\"state\":\"ACTIVE\"}",
     },
     Turn {
         at: 0,
         bearer: "tok-c",
         token_of: "",
         method: "GetInvocation",
-        body: "{\"name\":\"invocations/u-p\"}",
+        body: r#"{"name":"invocations/u-p"}"#,
         status: 403,
         code: 7,
         text: "11 Denied: resultdb.invocations.get proj:priv\n",
@@ -534,7 +625,7 @@ const REFUSALS: [Turn; 24] = [
         bearer: "tok-a",
         token_of: "u-b",
         method: "UpdateInvocation",
-        body: "{\"invocation\":{\"name\":\"invocations/u-b\"},\"updateMask\":\"state\"}",
+        body: r#"{"invocation":{"name":"invocations/u-b"},"updateMask":"state"}"#,
         status: 400,
         code: 3,
         text: "6 BadValue: updateMask NotUpdatable\n",
@@ -544,7 +635,7 @@ const REFUSALS: [Turn; 24] = [
         bearer: "tok-a",
         token_of: "u-b",
         method: "UpdateInvocation",
-        body: "{\"invocation\":{\"name\":\"invocations/u-b\"},\"updateMask\":\"deadline\"}",
+        body: r#"{"invocation":{"name":"invocations/u-b"},"updateMask":"deadline"}"#,
         status: 400,
         code: 3,
         text: "5 Missing: invocation.deadline\n",
@@ -554,7 +645,8 @@ const REFUSALS: [Turn; 24] = [
         bearer: "tok-a",
         token_of: "u-b",
         method: "UpdateInvocation",
-        body: "{\"invocation\":{\"name\":\"invocations/u-b\",\"deadline\":\"2023-11-14T22:13:29Z\"},\"updateMask\":\"deadline\"}",
+        body: r#"{"invocation":{"name":"invocations/u-b","deadline":"2023-11-14T22:13:29Z"},
+            "updateMask":"deadline"}"#,
         status: 400,
         code: 3,
         text: "13 DeadlineRange: 2023-11-14T22:13:29Z 2023-11-14T22:13:20Z\n",
@@ -564,47 +656,58 @@ const REFUSALS: [Turn; 24] = [
         bearer: "tok-a",
         token_of: "u-b",
         method: "UpdateInvocation",
-        body: "{\"invocation\":{\"name\":\"invocations/u-b\",\"deadline\":\"2023-11-14T22:14:20Z\",\"tags\":[{\"key\":\"k\",\"value\":\"v\"}]},\"updateMask\":\"deadline\"}",
+        body: r#"{"invocation":{"name":"invocations/u-b","deadline":"2023-11-14T22:14:20Z",
+            "tags":[{"key":"k","value":"v"}]},"updateMask":"deadline"}"#,
         status: 200,
         code: 0,
-        text: ")]}'\n{\"createTime\":\"2023-11-14T22:13:20Z\",\"createdBy\":\"user:alice\",\"deadline\":\"2023-11-14T22:14:20Z\",\"name\":\"invocations/u-b\",\"realm\":\"proj:ci\",\"state\":\"ACTIVE\"}",
+        text: ")]}'\n{\"createTime\":\"2023-11-14T22:13:20Z\",\"createdBy\":\"user:alice\",\
+            \"deadline\":\"2023-11-14T22:14:20Z\",\"name\":\"invocations/u-b\",\
+            \"realm\":\"proj:ci\",\"state\":\"ACTIVE\"}",
     },
     Turn {
         at: 0,
         bearer: "tok-a",
         token_of: "u-b",
         method: "UpdateInvocation",
-        body: "{\"invocation\":{\"name\":\"invocations/u-b\",\"deadline\":\"2023-11-14T22:14:30Z\",\"tags\":[{\"key\":\"k\",\"value\":\"v\"}]},\"updateMask\":\"tags,deadline\"}",
+        body: r#"{"invocation":{"name":"invocations/u-b","deadline":"2023-11-14T22:14:30Z",
+            "tags":[{"key":"k","value":"v"}]},"updateMask":"tags,deadline"}"#,
         status: 200,
         code: 0,
-        text: ")]}'\n{\"createTime\":\"2023-11-14T22:13:20Z\",\"createdBy\":\"user:alice\",\"deadline\":\"2023-11-14T22:14:30Z\",\"name\":\"invocations/u-b\",\"realm\":\"proj:ci\",\"state\":\"ACTIVE\",\"tags\":[{\"key\":\"k\",\"value\":\"v\"}]}",
+        text: ")]}'\n{\"createTime\":\"2023-11-14T22:13:20Z\",\"createdBy\":\"user:alice\",\
+            \"deadline\":\"2023-11-14T22:14:30Z\",\"name\":\"invocations/u-b\",\
+            \"realm\":\"proj:ci\",\"state\":\"ACTIVE\",\"tags\":[{\"key\":\"k\",\"value\":\"v\"}]}",
     },
     Turn {
         at: 0,
         bearer: "tok-a",
         token_of: "u-b",
         method: "UpdateInvocation",
-        body: "{\"invocation\":{\"name\":\"invocations/u-b\",\"deadline\":\"never\"},\"updateMask\":\"tags\"}",
+        body: r#"{"invocation":{"name":"invocations/u-b","deadline":"never"},"updateMask":"tags"}"#,
         status: 200,
         code: 0,
-        text: ")]}'\n{\"createTime\":\"2023-11-14T22:13:20Z\",\"createdBy\":\"user:alice\",\"deadline\":\"2023-11-14T22:14:30Z\",\"name\":\"invocations/u-b\",\"realm\":\"proj:ci\",\"state\":\"ACTIVE\"}",
+        text: ")]}'\n{\"createTime\":\"2023-11-14T22:13:20Z\",\"createdBy\":\"user:alice\",\
+            \"deadline\":\"2023-11-14T22:14:30Z\",\"name\":\"invocations/u-b\",\
+            \"realm\":\"proj:ci\",\"state\":\"ACTIVE\"}",
     },
     Turn {
         at: 0,
         bearer: "tok-a",
         token_of: "u-b",
         method: "UpdateInvocation",
-        body: "{\"invocation\":{\"name\":\"invocations/u-b\"},\"updateMask\":\"tags\"}",
+        body: r#"{"invocation":{"name":"invocations/u-b"},"updateMask":"tags"}"#,
         status: 200,
         code: 0,
-        text: ")]}'\n{\"createTime\":\"2023-11-14T22:13:20Z\",\"createdBy\":\"user:alice\",\"deadline\":\"2023-11-14T22:14:30Z\",\"name\":\"invocations/u-b\",\"realm\":\"proj:ci\",\"state\":\"ACTIVE\"}",
+        text: ")]}'\n{\"createTime\":\"2023-11-14T22:13:20Z\",\"createdBy\":\"user:alice\",\
+            \"deadline\":\"2023-11-14T22:14:30Z\",\"name\":\"invocations/u-b\",\
+            \"realm\":\"proj:ci\",\"state\":\"ACTIVE\"}",
     },
     Turn {
         at: 0,
         bearer: "tok-a",
         token_of: "u-a",
         method: "UpdateIncludedInvocations",
-        body: "{\"includingInvocation\":\"invocations/u-a\",\"removeInvocations\":[\"invocations/u-b\"]}",
+        body: r#"{"includingInvocation":"invocations/u-a",
+            "removeInvocations":["invocations/u-b"]}"#,
         status: 400,
         code: 3,
         text: "6 BadValue: removeInvocations NotBuilt\n",
