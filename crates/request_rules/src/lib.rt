@@ -7,8 +7,6 @@ mod locating;
 mod reading;
 mod refusals;
 mod rights;
-#[cfg(test)]
-mod tests;
 
 pub use breaches::{Breach, inclusions_full, rows_full};
 pub use judging::Situation;
