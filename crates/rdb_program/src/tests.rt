@@ -223,13 +223,18 @@ const ANSWER: &str = "answer --config farm.toml --journal farm.journal";
 
 /// The moments at which messages are asked, the last one for all others: 2023-11-14T22:13:20Z, and
 /// so many seconds later.
-const SECONDS: &[i64] = &[0, 0, 0, 1, 2, 3, 4, 10, 30];
-
 fn clock(alloc: Global) -> Result<ListClock, AllocError> {
-    let mut moments = Vec::new(alloc);
-    for seconds in SECONDS {
-        moments.push(1_700_000_000_000_000 + 1_000_000 * *seconds)?;
-    }
+    let moments = vec![in alloc;
+        1_700_000_000_000_000,
+        1_700_000_000_000_000,
+        1_700_000_000_000_000,
+        1_700_000_001_000_000,
+        1_700_000_002_000_000,
+        1_700_000_003_000_000,
+        1_700_000_004_000_000,
+        1_700_000_010_000_000,
+        1_700_000_030_000_000,
+    ]?;
     ListClock::new(alloc, moments)
 }
 
