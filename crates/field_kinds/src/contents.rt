@@ -12,7 +12,7 @@ ghost use Rattle.field_kinds.specs.Contents.{contents_why, contents_why_of, Enco
 
 use base64::DecodeAllocError;
 use base64::engine::general_purpose::STANDARD;
-use json_fields::{FaultKind, Form, ReadFault, Why, Written};
+use json_fields::{FaultKind, Form, ReadFault, Why, Written, is_empty_text};
 use lists::Bytes;
 use serde_json::Value;
 use std::alloc::{AllocError, Global};
@@ -113,10 +113,7 @@ impl Form for Contents {
     ghost empty = { empty_text };
 
     fn is_empty(value: &Value) -> bool {
-        match value {
-            Value::String(text) => text.is_empty(),
-            _ => false,
-        }
+        is_empty_text(value)
     }
 
     fn read(alloc: Global, value: &Value) -> Result<Contents, ReadFault> {

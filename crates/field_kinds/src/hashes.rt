@@ -5,7 +5,7 @@ ghost use Rattle.json_fields.specs.Faults.{Says};
 ghost use Rattle.json_fields.specs.Texts.{bad_value};
 ghost use Rattle.field_kinds.specs.Hashes.{is_lower_hex, digit_place, end_place, wrong_place, hash_why};
 
-use json_fields::{FaultKind, Form, ReadFault, Why, Written};
+use json_fields::{FaultKind, Form, ReadFault, Why, Written, is_empty_text};
 use name_parts::bad_in_literal;
 use serde_json::Value;
 use std::alloc::{AllocError, Global};
@@ -126,10 +126,7 @@ impl Form for HashText {
     ghost empty = { empty_text };
 
     fn is_empty(value: &Value) -> bool {
-        match value {
-            Value::String(text) => text.is_empty(),
-            _ => false,
-        }
+        is_empty_text(value)
     }
 
     fn read(alloc: Global, value: &Value) -> Result<HashText, ReadFault> {

@@ -5,7 +5,7 @@ ghost use Rattle.json_fields.specs.Faults.{Says};
 ghost use Rattle.json_fields.specs.Texts.{bad_value};
 ghost use Rattle.field_kinds.specs.Texts.{limited_why, any_byte, printed, inked, most_of_html, most_of_message, most_of_content_type, most_of_request_id};
 
-use json_fields::{FaultKind, Form, ReadFault, Why, Written};
+use json_fields::{FaultKind, Form, ReadFault, Why, Written, is_empty_text};
 use serde_json::Value;
 use std::alloc::{AllocError, Global};
 use std::marker::{Model, PhantomData};
@@ -176,10 +176,7 @@ impl<R: TextRule> Form for LimitedText<R> {
     ghost empty = { empty_text };
 
     fn is_empty(value: &Value) -> bool {
-        match value {
-            Value::String(text) => text.is_empty(),
-            _ => false,
-        }
+        is_empty_text(value)
     }
 
     fn read(alloc: Global, value: &Value) -> Result<LimitedText<R>, ReadFault> {

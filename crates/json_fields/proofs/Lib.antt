@@ -5,3 +5,4 @@ pub mod TextLaws
 pub mod MeaningLaws
 pub mod PlainLaws
 pub mod NameTextLaws
+pub mod SpellLaws

@@ -55,21 +55,21 @@ escaped-utf8 bs = IsUtf8-from_ascii (escaped bs) (escaped-ascii bs)
 literal-utf8 : (text : List ℕ) → list_all (λ b. nat_lt b 128) text ≡ true → IsUtf8 text
 literal-utf8 text e = IsUtf8-from_ascii text (ascii_literal text e)
 
-pub result_name_utf8 : (r : ResultName) (text : List ℕ) → IsResultName r text → IsUtf8 (result_name r)
+pub result_name_utf8 : (r : ResultName) → IsResultName r (result_name r) → IsUtf8 (result_name r)
 unfolding result_name
-result_name_utf8 r text is =
+result_name_utf8 r is =
     let id : IsUtf8 r.result = IsPart-utf8 _ _ is.result in
     let tail = IsUtf8-append (codes "/results/") r.result (literal-utf8 (codes "/results/") refl) id in
     let test = IsUtf8-append (escaped r.test) _ (escaped-utf8 r.test) tail in
     let tests = IsUtf8-append (codes "/tests/") _ (literal-utf8 (codes "/tests/") refl) test in
     IsUtf8-append (codes "invocations/") _ (literal-utf8 (codes "invocations/") refl) (IsUtf8-append r.invocation _ (IsPart-utf8 _ _ is.invocation) tests)
 
-pub parent_name_utf8 : (p : Parent) (text : List ℕ) → IsParentName p text → IsUtf8 (parent_name p)
-parent_name_utf8 (Invocation id) text is = IsUtf8-append (codes "invocations/") _ (literal-utf8 (codes "invocations/") refl) (IsPart-utf8 _ _ is.1)
-parent_name_utf8 (Result name) text is = result_name_utf8 name text is
+pub parent_name_utf8 : (p : Parent) → IsParentName p (parent_name p) → IsUtf8 (parent_name p)
+parent_name_utf8 (Invocation id) is = IsUtf8-append (codes "invocations/") _ (literal-utf8 (codes "invocations/") refl) (IsPart-utf8 _ _ is.1)
+parent_name_utf8 (Result name) is = result_name_utf8 name is
 
-pub artifact_name_utf8 : (a : ArtifactName) (text : List ℕ) → IsArtifactName a text → IsUtf8 (artifact_name a)
+pub artifact_name_utf8 : (a : ArtifactName) → IsArtifactName a (artifact_name a) → IsUtf8 (artifact_name a)
 unfolding artifact_name
-artifact_name_utf8 a text is =
+artifact_name_utf8 a is =
     let tail = IsUtf8-append (codes "/artifacts/") _ (literal-utf8 (codes "/artifacts/") refl) (escaped-utf8 a.artifact) in
-    IsUtf8-append (parent_name a.parent) _ (parent_name_utf8 a.parent _ is.parent) tail
+    IsUtf8-append (parent_name a.parent) _ (parent_name_utf8 a.parent is.parent) tail

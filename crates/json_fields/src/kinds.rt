@@ -7,6 +7,7 @@ ghost use Rattle.json_fields.specs.Kinds.{an_object};
 use crate::elements::is_empty_list;
 use crate::faults::{FaultKind, ReadFault};
 use crate::fields::Form;
+use crate::texts::is_empty_text;
 use crate::whys::Why;
 use serde_json::Value;
 use std::alloc::Global;
@@ -37,10 +38,7 @@ impl Form for UnbuiltText {
     ghost empty = { empty_text };
 
     fn is_empty(value: &Value) -> bool {
-        match value {
-            Value::String(text) => text.is_empty(),
-            _ => false,
-        }
+        is_empty_text(value)
     }
 
     fn read(alloc: Global, value: &Value) -> Result<UnbuiltText, ReadFault> {

@@ -27,6 +27,6 @@ pub use kinds::{UnbuiltList, UnbuiltText, object};
 pub use moves::{ids_from, pairs_from};
 pub use names::{Name, Step};
 pub use tags::{Tag, TagKey, TagValue, tag_value};
-pub use texts::{InvocationName, Spelled, SpelledOut, read_text, write_text};
+pub use texts::{InvocationName, Spelled, SpelledOut, is_empty_text, read_text, write_text};
 pub use whys::Why;
 pub use writing::{Written, put, write_list, write_optional, write_required};

@@ -8,7 +8,7 @@ use crate::faults::ReadFault;
 use crate::fields::{Form, or_empty_text};
 use crate::kinds::object;
 use crate::names::Name;
-use crate::texts::{Spelled, is_empty_text, read_text};
+use crate::texts::Spelled;
 use crate::writing::{Written, put};
 use lists::Bytes;
 use name_parts::{PartForm, limited, owned_text, read_part, utf8_len};
@@ -46,26 +46,6 @@ impl Spelled for TagKey {
     fn parse_text(alloc: Global, text: &[u8]) -> Result<TagKey, NameFault> {
         let text = read_part(alloc, PartForm::PairKey, text)?;
         Ok(TagKey { text })
-    }
-}
-
-impl Form for TagKey {
-    ghost use Rattle.json_fields.specs.Kinds.{empty_text};
-    ghost use Rattle.json_fields.specs.Tags.{key_fault};
-    ghost use Rattle.json_fields.specs.Texts.{a_text, IsText, IsSame};
-
-    ghost fault = { a_text key_fault };
-
-    ghost means = { IsText IsSame };
-
-    ghost empty = { empty_text };
-
-    fn is_empty(value: &Value) -> bool {
-        is_empty_text(value)
-    }
-
-    fn read(alloc: Global, value: &Value) -> Result<TagKey, ReadFault> {
-        read_text(alloc, value)
     }
 }
 
@@ -109,26 +89,6 @@ impl Spelled for TagValue {
         }
         let text = owned_text(alloc, text)?;
         Ok(TagValue { text })
-    }
-}
-
-impl Form for TagValue {
-    ghost use Rattle.names_realms.specs.Pairs.{pair_value_fault};
-    ghost use Rattle.json_fields.specs.Kinds.{empty_text};
-    ghost use Rattle.json_fields.specs.Texts.{a_text, IsText, IsSame};
-
-    ghost fault = { a_text pair_value_fault };
-
-    ghost means = { IsText IsSame };
-
-    ghost empty = { empty_text };
-
-    fn is_empty(value: &Value) -> bool {
-        is_empty_text(value)
-    }
-
-    fn read(alloc: Global, value: &Value) -> Result<TagValue, ReadFault> {
-        read_text(alloc, value)
     }
 }
 
@@ -242,7 +202,7 @@ impl Form for Tag {
         false
     }
 
-    #[tactic(auto, unfolding(crate::specs::Tags::a_tag))]
+    #[tactic(auto, unfolding(crate::specs::Tags::a_tag, crate::specs::Fields::or_empty))]
     fn read(alloc: Global, value: &Value) -> Result<Tag, ReadFault> {
         object(alloc, value)?;
         let key = or_empty_text(alloc, value, key_name())?;

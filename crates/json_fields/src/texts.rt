@@ -1,4 +1,6 @@
 //! Texts that are read by a grammar: ids, realms, names, moments and spans.
+#![tactic(auto, using(crate::proofs::SpellLaws::spellings))]
+
 ghost use Rattle.std.specs.Prelude.{◌≡◌, ◌≢◌, false, ℕ, List, Option, None, Some, IfOk, IfErr, string_bytes};
 ghost use Rattle.serde_json.specs.Data.{string};
 ghost use Rattle.serde_json.specs.View.{view};
@@ -45,7 +47,7 @@ pub trait SpelledOut: Spelled {
 }
 
 /// Whether a value is the empty text.
-pub(crate) fn is_empty_text(value: &Value) -> bool
+pub fn is_empty_text(value: &Value) -> bool
     ensures { result ≡ empty_text (view value.now) }
 {
     match value {
@@ -79,6 +81,44 @@ pub fn read_text<T: Spelled>(alloc: Global, value: &Value) -> Result<T, ReadFaul
     }
 }
 
+/// Each text is of a kind that reads it by its grammar.
+impl<T: Spelled> Form for T {
+    ghost fault = { a_text T.text_fault };
+
+    ghost means = { IsText T.spells };
+
+    ghost empty = { empty_text };
+
+    fn is_empty(value: &Value) -> bool {
+        is_empty_text(value)
+    }
+
+    fn read(alloc: Global, value: &Value) -> Result<T, ReadFault> {
+        read_text(alloc, value)
+    }
+}
+
+/// The JSON text of a value with one text.
+pub fn write_text<T: SpelledOut>(alloc: Global, x: &T) -> Result<Value, AllocError>
+    ensures value { IfOk result (λ v. view v ≡ string (T.spelling x.now)) }
+    ensures again { IsWritten (a_text T.text_fault) (IsText T.spells) empty_text (λ _. false) x.now
+        (string (T.spelling x.now)) }
+{
+    let text = x.to_spelling(alloc)?;
+    Ok(Value::String(text))
+}
+
+/// Each value with one text is written as that text.
+impl<T: SpelledOut> Written for T {
+    ghost json = { λ x. string (T.spelling x) };
+
+    ghost blank = { λ _. false };
+
+    fn write(&self, alloc: Global) -> Result<Value, AllocError> {
+        write_text(alloc, self)
+    }
+}
+
 impl Spelled for InvocationId {
     ghost use Rattle.json_fields.specs.Texts.{IsSame};
     ghost use Rattle.names_realms.specs.Names.{invocation_id_fault};
@@ -89,25 +129,6 @@ impl Spelled for InvocationId {
 
     fn parse_text(alloc: Global, text: &[u8]) -> Result<InvocationId, NameFault> {
         InvocationId::parse(alloc, text)
-    }
-}
-
-impl Form for InvocationId {
-    ghost use Rattle.json_fields.specs.Texts.{IsSame};
-    ghost use Rattle.names_realms.specs.Names.{invocation_id_fault};
-
-    ghost fault = { a_text invocation_id_fault };
-
-    ghost means = { IsText IsSame };
-
-    ghost empty = { empty_text };
-
-    fn is_empty(value: &Value) -> bool {
-        is_empty_text(value)
-    }
-
-    fn read(alloc: Global, value: &Value) -> Result<InvocationId, ReadFault> {
-        read_text(alloc, value)
     }
 }
 
@@ -132,25 +153,6 @@ impl Spelled for Realm {
     }
 }
 
-impl Form for Realm {
-    ghost use Rattle.json_fields.specs.Texts.{IsSame};
-    ghost use Rattle.names_realms.specs.Realms.{realm_fault};
-
-    ghost fault = { a_text realm_fault };
-
-    ghost means = { IsText IsSame };
-
-    ghost empty = { empty_text };
-
-    fn is_empty(value: &Value) -> bool {
-        is_empty_text(value)
-    }
-
-    fn read(alloc: Global, value: &Value) -> Result<Realm, ReadFault> {
-        read_text(alloc, value)
-    }
-}
-
 impl SpelledOut for Realm {
     ghost spelling = { λ x. x };
 
@@ -169,25 +171,6 @@ impl Spelled for TestId {
 
     fn parse_text(alloc: Global, text: &[u8]) -> Result<TestId, NameFault> {
         TestId::parse(alloc, text)
-    }
-}
-
-impl Form for TestId {
-    ghost use Rattle.json_fields.specs.Texts.{IsSame};
-    ghost use Rattle.names_realms.specs.Names.{test_id_fault};
-
-    ghost fault = { a_text test_id_fault };
-
-    ghost means = { IsText IsSame };
-
-    ghost empty = { empty_text };
-
-    fn is_empty(value: &Value) -> bool {
-        is_empty_text(value)
-    }
-
-    fn read(alloc: Global, value: &Value) -> Result<TestId, ReadFault> {
-        read_text(alloc, value)
     }
 }
 
@@ -212,25 +195,6 @@ impl Spelled for ResultId {
     }
 }
 
-impl Form for ResultId {
-    ghost use Rattle.json_fields.specs.Texts.{IsSame};
-    ghost use Rattle.names_realms.specs.Names.{result_id_fault};
-
-    ghost fault = { a_text result_id_fault };
-
-    ghost means = { IsText IsSame };
-
-    ghost empty = { empty_text };
-
-    fn is_empty(value: &Value) -> bool {
-        is_empty_text(value)
-    }
-
-    fn read(alloc: Global, value: &Value) -> Result<ResultId, ReadFault> {
-        read_text(alloc, value)
-    }
-}
-
 impl SpelledOut for ResultId {
     ghost spelling = { λ x. x };
 
@@ -252,25 +216,6 @@ impl Spelled for ArtifactId {
     }
 }
 
-impl Form for ArtifactId {
-    ghost use Rattle.json_fields.specs.Texts.{IsSame};
-    ghost use Rattle.names_realms.specs.Names.{artifact_id_fault};
-
-    ghost fault = { a_text artifact_id_fault };
-
-    ghost means = { IsText IsSame };
-
-    ghost empty = { empty_text };
-
-    fn is_empty(value: &Value) -> bool {
-        is_empty_text(value)
-    }
-
-    fn read(alloc: Global, value: &Value) -> Result<ArtifactId, ReadFault> {
-        read_text(alloc, value)
-    }
-}
-
 impl SpelledOut for ArtifactId {
     ghost spelling = { λ x. x };
 
@@ -288,24 +233,6 @@ impl Spelled for ResultName {
 
     fn parse_text(alloc: Global, text: &[u8]) -> Result<ResultName, NameFault> {
         ResultName::parse(alloc, text)
-    }
-}
-
-impl Form for ResultName {
-    ghost use Rattle.names_realms.specs.ResultNames.{result_name_fault, IsResultName};
-
-    ghost fault = { a_text result_name_fault };
-
-    ghost means = { IsText (λ text x. IsResultName x text) };
-
-    ghost empty = { empty_text };
-
-    fn is_empty(value: &Value) -> bool {
-        is_empty_text(value)
-    }
-
-    fn read(alloc: Global, value: &Value) -> Result<ResultName, ReadFault> {
-        read_text(alloc, value)
     }
 }
 
@@ -333,24 +260,6 @@ impl Spelled for ArtifactName {
     }
 }
 
-impl Form for ArtifactName {
-    ghost use Rattle.names_realms.specs.ArtifactNames.{artifact_name_fault, IsArtifactName};
-
-    ghost fault = { a_text artifact_name_fault };
-
-    ghost means = { IsText (λ text x. IsArtifactName x text) };
-
-    ghost empty = { empty_text };
-
-    fn is_empty(value: &Value) -> bool {
-        is_empty_text(value)
-    }
-
-    fn read(alloc: Global, value: &Value) -> Result<ArtifactName, ReadFault> {
-        read_text(alloc, value)
-    }
-}
-
 impl SpelledOut for ArtifactName {
     ghost use Rattle.names_realms.specs.ArtifactNames.{artifact_name};
 
@@ -372,24 +281,6 @@ impl Spelled for Parent {
 
     fn parse_text(alloc: Global, text: &[u8]) -> Result<Parent, NameFault> {
         Parent::parse(alloc, text)
-    }
-}
-
-impl Form for Parent {
-    ghost use Rattle.names_realms.specs.Parents.{parent_fault, IsParentName};
-
-    ghost fault = { a_text parent_fault };
-
-    ghost means = { IsText (λ text x. IsParentName x text) };
-
-    ghost empty = { empty_text };
-
-    fn is_empty(value: &Value) -> bool {
-        is_empty_text(value)
-    }
-
-    fn read(alloc: Global, value: &Value) -> Result<Parent, ReadFault> {
-        read_text(alloc, value)
     }
 }
 
@@ -424,25 +315,6 @@ impl Spelled for Moment {
     }
 }
 
-impl Form for Moment {
-    ghost use Rattle.json_fields.specs.Texts.{moment_fault};
-    ghost use Rattle.moments_spans.specs.MomentGrammar.{IsMomentText};
-
-    ghost fault = { a_text moment_fault };
-
-    ghost means = { IsText IsMomentText };
-
-    ghost empty = { empty_text };
-
-    fn is_empty(value: &Value) -> bool {
-        is_empty_text(value)
-    }
-
-    fn read(alloc: Global, value: &Value) -> Result<Moment, ReadFault> {
-        read_text(alloc, value)
-    }
-}
-
 impl Spelled for Span {
     ghost use Rattle.json_fields.specs.Texts.{span_fault};
     ghost use Rattle.moments_spans.specs.SpanGrammar.{IsSpanText};
@@ -459,25 +331,6 @@ impl Spelled for Span {
             }
             Err(fault) => Err(fault),
         }
-    }
-}
-
-impl Form for Span {
-    ghost use Rattle.json_fields.specs.Texts.{span_fault};
-    ghost use Rattle.moments_spans.specs.SpanGrammar.{IsSpanText};
-
-    ghost fault = { a_text span_fault };
-
-    ghost means = { IsText IsSpanText };
-
-    ghost empty = { empty_text };
-
-    fn is_empty(value: &Value) -> bool {
-        is_empty_text(value)
-    }
-
-    fn read(alloc: Global, value: &Value) -> Result<Span, ReadFault> {
-        read_text(alloc, value)
     }
 }
 
@@ -542,144 +395,6 @@ impl Spelled for InvocationName {
     }
 }
 
-impl Form for InvocationName {
-    ghost use Rattle.names_realms.specs.Names.{invocation_name_fault, IsInvocationName};
-
-    ghost fault = { a_text invocation_name_fault };
-
-    ghost means = { IsText (λ text x. IsInvocationName x text) };
-
-    ghost empty = { empty_text };
-
-    fn is_empty(value: &Value) -> bool {
-        is_empty_text(value)
-    }
-
-    fn read(alloc: Global, value: &Value) -> Result<InvocationName, ReadFault> {
-        read_text(alloc, value)
-    }
-}
-
-/// The JSON text of a value with one text.
-pub fn write_text<T: SpelledOut>(alloc: Global, x: &T) -> Result<Value, AllocError>
-    ensures value { IfOk result (λ v. view v ≡ string (T.spelling x.now)) }
-    ensures again { IsWritten (a_text T.text_fault) (IsText T.spells) empty_text (λ _. false) x.now
-        (string (T.spelling x.now)) }
-{
-    let text = x.to_spelling(alloc)?;
-    Ok(Value::String(text))
-}
-
-impl Written for InvocationId {
-    ghost json = { λ x. string x };
-
-    ghost blank = { λ _. false };
-
-    fn write(&self, alloc: Global) -> Result<Value, AllocError> {
-        write_text(alloc, self)
-    }
-}
-
-impl Written for Realm {
-    ghost json = { λ x. string x };
-
-    ghost blank = { λ _. false };
-
-    fn write(&self, alloc: Global) -> Result<Value, AllocError> {
-        write_text(alloc, self)
-    }
-}
-
-impl Written for TestId {
-    ghost json = { λ x. string x };
-
-    ghost blank = { λ _. false };
-
-    fn write(&self, alloc: Global) -> Result<Value, AllocError> {
-        write_text(alloc, self)
-    }
-}
-
-impl Written for ResultId {
-    ghost json = { λ x. string x };
-
-    ghost blank = { λ _. false };
-
-    fn write(&self, alloc: Global) -> Result<Value, AllocError> {
-        write_text(alloc, self)
-    }
-}
-
-impl Written for ArtifactId {
-    ghost json = { λ x. string x };
-
-    ghost blank = { λ _. false };
-
-    fn write(&self, alloc: Global) -> Result<Value, AllocError> {
-        write_text(alloc, self)
-    }
-}
-
-impl Written for Moment {
-    ghost use Rattle.moments_spans.specs.Moments.{moment_text};
-
-    ghost json = { λ m. string (moment_text m) };
-
-    ghost blank = { λ _. false };
-
-    fn write(&self, alloc: Global) -> Result<Value, AllocError> {
-        write_text(alloc, self)
-    }
-}
-
-impl Written for Span {
-    ghost use Rattle.moments_spans.specs.Spans.{span_text};
-
-    ghost json = { λ s. string (span_text s) };
-
-    ghost blank = { λ _. false };
-
-    fn write(&self, alloc: Global) -> Result<Value, AllocError> {
-        write_text(alloc, self)
-    }
-}
-
-impl Written for ResultName {
-    ghost use Rattle.names_realms.specs.ResultNames.{result_name};
-
-    ghost json = { λ x. string (result_name x) };
-
-    ghost blank = { λ _. false };
-
-    fn write(&self, alloc: Global) -> Result<Value, AllocError> {
-        write_text(alloc, self)
-    }
-}
-
-impl Written for ArtifactName {
-    ghost use Rattle.names_realms.specs.ArtifactNames.{artifact_name};
-
-    ghost json = { λ x. string (artifact_name x) };
-
-    ghost blank = { λ _. false };
-
-    fn write(&self, alloc: Global) -> Result<Value, AllocError> {
-        write_text(alloc, self)
-    }
-}
-
-impl Written for Parent {
-    ghost use Rattle.names_realms.specs.Parents.{parent_name};
-
-    ghost json = { λ x. string (parent_name x) };
-
-    ghost blank = { λ _. false };
-
-    fn write(&self, alloc: Global) -> Result<Value, AllocError> {
-        write_text(alloc, self)
-    }
-}
-
 impl SpelledOut for InvocationName {
     ghost use Rattle.names_realms.specs.Names.{invocation_name};
 
@@ -688,17 +403,5 @@ impl SpelledOut for InvocationName {
     fn to_spelling(&self, alloc: Global) -> Result<String, AllocError> {
         let id = self.id().as_str();
         format!(in alloc; "invocations/{id}")
-    }
-}
-
-impl Written for InvocationName {
-    ghost use Rattle.names_realms.specs.Names.{invocation_name};
-
-    ghost json = { λ x. string (invocation_name x) };
-
-    ghost blank = { λ _. false };
-
-    fn write(&self, alloc: Global) -> Result<Value, AllocError> {
-        write_text(alloc, self)
     }
 }

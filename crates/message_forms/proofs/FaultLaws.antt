@@ -16,7 +16,7 @@ use Rattle.message_forms.specs.Methods.{method_of, request_fault}
 use Rattle.message_forms.specs.Reading.{IsFieldFault, no_method, not_json, in_field, field_fault, told_of}
 use Rattle.message_forms.specs.Laws.{AsksOrHasFault, FaultIsRefused, IsAskedOrFaulty, IsRefusedByForm}
 use Rattle.message_forms.specs.declared.methods.Method.{Method}
-use Rattle.message_forms.specs.declared.reading.FormFault.TheVariants.{NoMethod, NotJson, WrongKind, Missing, BadValue, Memory}
+use Rattle.message_forms.specs.declared.reading.FormFault.TheVariants.{NoMethod, NotJson, Memory}
 use Rattle.message_forms.proofs.RequestLaws.{asked_there}
 
 pub told : (method : Method) (d : Data) (e : ReadFault) → Says e (request_fault method d) → told_of e ≢ Memory → IsFieldFault method d (told_of e)

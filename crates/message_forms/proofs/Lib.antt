@@ -6,3 +6,4 @@ pub mod RequestLaws
 pub mod UpdateLaws
 pub mod FaultLaws
 pub mod TextLaws
+pub mod Opened

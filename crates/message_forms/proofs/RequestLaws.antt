@@ -1,12 +1,12 @@
 -- Requests: a value asks for one at most, and for some where it has no fault.
 use Rattle.std.proofs.Common.{◌≡◌, ℕ, ℤ, Bool, true, false, List, Option, Some, None, refl, sym, ap, subst, ◌∙◌}
-use Rattle.names_realms.specs.Names.{invocation_id_fault, invocation_name_fault, IsInvocationName}
+use Rattle.names_realms.specs.Names.{invocation_id_fault}
 use Rattle.names_realms.specs.Realms.{realm_fault}
 use Rattle.names_realms.specs.declared.pairs.Pair.{Pair}
 use Rattle.moments_spans.specs.MomentGrammar.{IsMomentText}
-use Rattle.serde_json.specs.Data.{Data, string}
+use Rattle.serde_json.specs.Data.{Data}
 use Rattle.json_fields.specs.Fields.{IsJson, required, optional, filled_at, set_at, Holds}
-use Rattle.json_fields.specs.Kinds.{an_object, a_list, an_unbuilt_text, an_unbuilt_list, empty_text, never_empty}
+use Rattle.json_fields.specs.Kinds.{an_object, an_unbuilt_text, empty_text, never_empty}
 use Rattle.json_fields.specs.Texts.{a_text, IsText, IsSame, moment_fault}
 use Rattle.json_fields.specs.Tags.{a_tag, IsTag}
 use Rattle.json_fields.specs.declared.faults.FieldFault.{FieldFault}

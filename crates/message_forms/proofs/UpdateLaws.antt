@@ -1,6 +1,6 @@
 -- An update that is asked for changes something: its mask names a field.
 use Rattle.std.proofs.Common.{◌≡◌, ◌==◌, ◌||◌, ◌&&◌, if◌then◌else◌, cond, ℕ, Bool, true, false, List, [], ◌∷◌, codes, Option, Some, None, refl, sym, subst}
-use Rattle.std.specs.List.{list_all, list_any, slice_split, onto_first}
+use Rattle.std.specs.List.{list_all, list_any, onto_first}
 use Rattle.std.specs.Str.{bytes_eq}
 use Rattle.serde_json.specs.Data.{Data, null, boolean, number, string, array, object}
 use Rattle.json_fields.specs.Fields.{required, filled_at, fault_required}
@@ -9,7 +9,7 @@ use Rattle.json_fields.specs.declared.faults.FieldFault.{FieldFault}
 use Rattle.json_fields.specs.declared.names.Step.TheVariants.{Member}
 use Rattle.json_fields.proofs.MeaningLaws.{first_left, first_right, moved_none}
 use Rattle.message_forms.specs.Names as name
-use Rattle.message_forms.specs.Masks.{a_mask, pieces, can_be_updated, names, named_by, is_named, HoldsWhere}
+use Rattle.message_forms.specs.Masks.{a_mask, pieces, can_be_updated, named_by, is_named, HoldsWhere}
 use Rattle.message_forms.specs.Requests.{a_named, an_update_request, IsUpdate}
 use Rattle.message_forms.specs.Methods.{request_fault}
 use Rattle.message_forms.specs.Laws.{UpdateChangesSomething}

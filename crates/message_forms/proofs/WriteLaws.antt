@@ -10,7 +10,7 @@ use Rattle.names_realms.proofs.InvocationNameLemmas.{IsInvocationName-fault}
 use Rattle.serde_json.specs.Data.{Data, string, object, Members, no_members, put}
 use Rattle.json_fields.specs.Names.{NameForm}
 use Rattle.json_fields.specs.declared.faults.FieldFault.{FieldFault}
-use Rattle.json_fields.specs.Fields.{member, required, optional, filled_at, set_at, Holds}
+use Rattle.json_fields.specs.Fields.{member, required, filled_at}
 use Rattle.json_fields.specs.Kinds.{a_list, an_unbuilt_text, an_unbuilt_list, empty_text, never_empty}
 use Rattle.json_fields.specs.Texts.{a_text, IsText, IsSame, moment_fault}
 use Rattle.json_fields.specs.Tags.{a_tag, IsTag, tag_data}

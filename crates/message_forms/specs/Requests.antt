@@ -1,5 +1,5 @@
 -- The fields of requests, and what a value asks for.
-use Rattle.std.specs.Prelude.{ℕ, ℤ, List, [], ◌∷◌, Option, Some, None}
+use Rattle.std.specs.Prelude.{ℕ, ℤ, List, [], ◌∷◌, Option}
 use Rattle.serde_json.specs.Data.{Data}
 use Rattle.names_realms.specs.Names.{invocation_id_fault, invocation_name_fault, IsInvocationName}
 use Rattle.names_realms.specs.Realms.{realm_fault}

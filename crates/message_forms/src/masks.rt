@@ -9,7 +9,7 @@ ghost use Rattle.message_forms.specs.Masks.{pieces, can_be_updated, only_where, 
 ghost use Rattle.message_forms.specs.Names.{invocation};
 
 use crate::names::invocation;
-use json_fields::{FaultKind, Form, ReadFault, Why, required};
+use json_fields::{FaultKind, Form, ReadFault, Why, is_empty_text, required};
 use name_parts::len_before;
 use serde_json::Value;
 use std::alloc::Global;
@@ -92,10 +92,7 @@ impl Form for UpdateMask {
     ghost empty = { empty_text };
 
     fn is_empty(value: &Value) -> bool {
-        match value {
-            Value::String(text) => text.is_empty(),
-            _ => false,
-        }
+        is_empty_text(value)
     }
 
     fn read(alloc: Global, value: &Value) -> Result<UpdateMask, ReadFault> {

@@ -90,7 +90,7 @@ impl Form for NewInvocation {
         false
     }
 
-    #[tactic(auto, unfolding(crate::specs::Requests::a_new_invocation))]
+    #[tactic(auto, unfolding(crate::proofs::Opened::request_fields))]
     fn read(alloc: Global, value: &Value) -> Result<NewInvocation, ReadFault> {
         object(alloc, value)?;
         let realm = required(alloc, value, realm())?;
@@ -128,7 +128,7 @@ impl Create {
 }
 
 /// Reads a request for a new invocation.
-#[tactic(auto, unfolding(crate::specs::Requests::a_create_request))]
+#[tactic(auto, unfolding(crate::proofs::Opened::request_fields))]
 pub(crate) fn read_create(alloc: Global, value: &Value) -> Result<Create, ReadFault>
     ensures ok { IfOk result (λ q. (a_create_request (view value.now) ≡ None)
         × IsCreate (view value.now) q.id q.new) }
@@ -168,7 +168,7 @@ fn read_added(alloc: Global, value: &Value) -> Result<Listed<InvocationId>, Read
 }
 
 /// Reads a request to include invocations.
-#[tactic(auto, unfolding(crate::specs::Requests::an_include_request))]
+#[tactic(auto, unfolding(crate::proofs::Opened::request_fields))]
 pub(crate) fn read_include(alloc: Global, value: &Value) -> Result<Include, ReadFault>
     ensures ok { IfOk result (λ q. (an_include_request (view value.now) ≡ None)
         × IsInclude (view value.now) q.including q.add) }

@@ -336,6 +336,17 @@ const OTHERS_READ: [(&str, &str, &str); 10] = [
     ),
 ];
 
+/// Services and methods that aren't theirs, with bodies that are right elsewhere.
+const ELSEWHERE: [(&str, &str, &str); 3] = [
+    ("x", "CreateInvocation", "{}"),
+    (RECORDER, "GetInvocation", "{\"name\":\"invocations/u-a\"}"),
+    (
+        READER,
+        "FinalizeInvocation",
+        "{\"name\":\"invocations/u-a\"}",
+    ),
+];
+
 /// The body of a row: `D` begins a deadline and `T` tags of a new invocation that is right
 /// otherwise, `N` what stands beside the name of one that is updated, and `I` the invocations to
 /// add to one.
@@ -429,6 +440,24 @@ fn read_again(
     Ok(())
 }
 
+/// There is no such method, which is told by this text.
+fn no_method(rt: &impl Abort, alloc: Global, method: &str, text: &str) -> Result<(), Fail> {
+    let told = refusal_text(alloc, method, b"")?.ok_or("was read")?;
+    assert!(rt; told.status == 501 && told.body.as_slice() == text.as_bytes());
+    Ok(())
+}
+
+/// The method isn't one of the service.
+fn unread(rt: &impl Abort, alloc: Global, service: &str, method: &str, body: &str) {
+    let read = read_request(
+        alloc,
+        service.as_bytes(),
+        method.as_bytes(),
+        body.as_bytes(),
+    );
+    assert!(rt; read.is_err(), "{service} {method}");
+}
+
 #[test]
 fn refuses_by_the_first_fault(rt: HostRuntime) -> Result<(), Fail> {
     for (row, text) in &REFUSED {
@@ -437,12 +466,10 @@ fn refuses_by_the_first_fault(rt: HostRuntime) -> Result<(), Fail> {
     for (method, row, text) in &OTHERS_REFUSED {
         refused(&rt, rt.alloc(), *method, *row, *text)?;
     }
-    let told = refusal_text(rt.alloc(), "createInvocation", b"")?.ok_or("was read")?;
-    assert!(rt; told.status == 501 && told.body.as_slice() == b"1 NoMethod: /x\n".as_slice());
-    let name = b"{\"name\":\"invocations/u-a\"}";
-    assert!(rt; read_request(rt.alloc(), b"x", b"CreateInvocation", b"{}").is_err());
-    assert!(rt; read_request(rt.alloc(), RECORDER.as_bytes(), b"GetInvocation", name).is_err());
-    assert!(rt; read_request(rt.alloc(), READER.as_bytes(), b"FinalizeInvocation", name).is_err());
+    no_method(&rt, rt.alloc(), "createInvocation", "1 NoMethod: /x\n")?;
+    for (service, method, body) in &ELSEWHERE {
+        unread(&rt, rt.alloc(), *service, *method, *body);
+    }
     Ok(())
 }
 
@@ -483,31 +510,40 @@ fn long_value(alloc: Global, count: usize) -> Result<String, AllocError> {
     body_of(alloc, row.as_str())
 }
 
+/// A new invocation with this body is refused with this text, or read where there is none.
+fn told_at_a_limit(
+    rt: &impl Abort,
+    alloc: Global,
+    body: &str,
+    text: Option<&str>,
+) -> Result<(), AllocError> {
+    match (
+        refusal_text(alloc, "CreateInvocation", body.as_bytes())?,
+        text,
+    ) {
+        (None, None) => (),
+        (Some(answer), Some(text)) => {
+            assert!(rt; answer.body.as_slice() == text.as_bytes(), "{text}");
+            assert!(rt; answer.status == 400 && answer.code == 3);
+        }
+        _ => assert!(rt; false, "{body}"),
+    }
+    Ok(())
+}
+
 #[test]
 fn limits_stand_where_they_stand(rt: HostRuntime) -> Result<(), Fail> {
-    let rows = [
-        (long_id(rt.alloc(), 98)?, None),
-        (
-            long_id(rt.alloc(), 99)?,
-            Some("6 BadValue: invocationId TooLong 101\n"),
-        ),
-        (long_value(rt.alloc(), 256)?, None),
-        (
-            long_value(rt.alloc(), 257)?,
-            Some("6 BadValue: invocation.tags[0].value TooLong 257\n"),
-        ),
-    ];
-    for (body, text) in &rows {
-        let told = refusal_text(rt.alloc(), "CreateInvocation", body.as_bytes())?;
-        match (told, text) {
-            (None, None) => (),
-            (Some(answer), Some(text)) => {
-                assert!(rt; answer.body.as_slice() == text.as_bytes(), "{text}");
-                assert!(rt; answer.status == 400 && answer.code == 3);
-            }
-            _ => assert!(rt; false, "{body}"),
-        }
-    }
+    let too_long = Some("6 BadValue: invocationId TooLong 101\n");
+    told_at_a_limit(&rt, rt.alloc(), long_id(rt.alloc(), 98)?.as_str(), None)?;
+    told_at_a_limit(&rt, rt.alloc(), long_id(rt.alloc(), 99)?.as_str(), too_long)?;
+    let too_long = Some("6 BadValue: invocation.tags[0].value TooLong 257\n");
+    told_at_a_limit(&rt, rt.alloc(), long_value(rt.alloc(), 256)?.as_str(), None)?;
+    told_at_a_limit(
+        &rt,
+        rt.alloc(),
+        long_value(rt.alloc(), 257)?.as_str(),
+        too_long,
+    )?;
     Ok(())
 }
 
@@ -579,31 +615,49 @@ fn shown_text<'t>(
     write_reply(alloc, &Reply::Invocation(shown))
 }
 
+/// The texts of an empty reply, of an invocation that is active, and of one that has ended.
+const SHOWN: [&str; 3] = [
+    ")]}'\n{}",
+    ")]}'\n{\"createTime\":\"2023-11-14T22:13:20Z\",\"createdBy\":\"user:alice\",\"deadline\":\"2023-11-16T22:13:20Z\",\"name\":\"invocations/u-a\",\"realm\":\"proj:ci\",\"state\":\"ACTIVE\"}",
+    ")]}'\n{\"createTime\":\"2023-11-14T22:13:20Z\",\"createdBy\":\"user:alice\",\"deadline\":\"2023-11-16T22:13:20Z\",\"finalizeStartTime\":\"2023-11-14T22:13:22.500Z\",\"finalizeTime\":\"2023-11-14T22:13:22.500Z\",\"includedInvocations\":[\"invocations/u-c\",\"invocations/u-b\"],\"name\":\"invocations/u-a\",\"realm\":\"proj:ci\",\"state\":\"FINALIZED\",\"tags\":[{\"key\":\"k\"},{\"key\":\"os\",\"value\":\"\u{e9}\\\"\"}]}",
+];
+
+fn is_text(rt: &impl Abort, text: &[u8], want: &str) {
+    assert!(rt; text == want.as_bytes(), "{want}");
+}
+
+/// The pairs of these texts.
+fn pairs_of(alloc: Global, rows: &[(&str, &str)]) -> Result<Vec<Pair>, Fail> {
+    let mut pairs = Vec::new(alloc);
+    for (key, value) in rows {
+        pairs.push(Pair::read(alloc, key.as_bytes(), value.as_bytes()).map_err(|_| "no tag")?)?;
+    }
+    Ok(pairs)
+}
+
+fn id_of(alloc: Global, text: &str) -> Result<InvocationId, Fail> {
+    Ok(InvocationId::parse(alloc, text.as_bytes()).map_err(|_| "no id")?)
+}
+
 #[test]
 fn replies_have_their_texts(rt: HostRuntime) -> Result<(), Fail> {
-    let text = write_reply(rt.alloc(), &Reply::Empty)?;
-    assert!(rt; text.as_slice() == b")]}'\n{}".as_slice());
+    let [empty, active, ended] = SHOWN;
+    is_text(
+        &rt,
+        write_reply(rt.alloc(), &Reply::Empty)?.as_slice(),
+        empty,
+    );
     let held = make_held(rt.alloc())?;
     let text = shown_text(rt.alloc(), &held, (None, None, State::Active), &[], &[])?;
-    let want =
-        ")]}'\n{\"createTime\":\"2023-11-14T22:13:20Z\",\"createdBy\":\"user:alice\",\"deadline\":\"2023-11-16T22:13:20Z\",\"name\":\"invocations/u-a\",\"realm\":\"proj:ci\",\"state\":\"ACTIVE\"}";
-    assert!(rt; text.len() == 161 && text.as_slice() == want.as_bytes());
-    let mut tags = Vec::new(rt.alloc());
-    tags.push(Pair::read(rt.alloc(), b"k", b"").map_err(|_| "no tag")?)?;
-    tags.push(Pair::read(rt.alloc(), b"os", "\u{e9}\"".as_bytes()).map_err(|_| "no tag")?)?;
-    let first = InvocationId::parse(rt.alloc(), b"u-c").map_err(|_| "no id")?;
-    let second = InvocationId::parse(rt.alloc(), b"u-b").map_err(|_| "no id")?;
+    is_text(&rt, text.as_slice(), active);
+    assert!(rt; text.len() == 161);
+    let tags = pairs_of(rt.alloc(), &[("k", ""), ("os", "\u{e9}\"")])?;
+    let first = id_of(rt.alloc(), "u-c")?;
+    let second = id_of(rt.alloc(), "u-b")?;
     let end = Some(Moment::new(1_700_000_002_500_000));
-    let text = shown_text(
-        rt.alloc(),
-        &held,
-        (end, end, State::Finalized),
-        tags.as_slice(),
-        &[&first, &second],
-    )?;
-    let want =
-        ")]}'\n{\"createTime\":\"2023-11-14T22:13:20Z\",\"createdBy\":\"user:alice\",\"deadline\":\"2023-11-16T22:13:20Z\",\"finalizeStartTime\":\"2023-11-14T22:13:22.500Z\",\"finalizeTime\":\"2023-11-14T22:13:22.500Z\",\"includedInvocations\":[\"invocations/u-c\",\"invocations/u-b\"],\"name\":\"invocations/u-a\",\"realm\":\"proj:ci\",\"state\":\"FINALIZED\",\"tags\":[{\"key\":\"k\"},{\"key\":\"os\",\"value\":\"\u{e9}\\\"\"}]}";
-    assert!(rt; text.as_slice() == want.as_bytes());
+    let ends = (end, end, State::Finalized);
+    let text = shown_text(rt.alloc(), &held, ends, tags.as_slice(), &[&first, &second])?;
+    is_text(&rt, text.as_slice(), ended);
     laws::one_request_asked();
     laws::one_fault();
     laws::never_both();

@@ -1,4 +1,4 @@
-use Rattle.std.proofs.Common.{ℕ, ◌<◌, slice_index_or, subst, ◌∙◌, arith, rules}
+use Rattle.std.proofs.Common.{ℕ, slice_index_or, subst, ◌∙◌, arith, rules}
 use Rattle.std.proofs.lemmas.List.{get_or_default}
 use borrow.Author.Count.{below_more}
 use Rattle.names_realms.specs.declared.pairs.Pair.{Pair}

@@ -1,9 +1,7 @@
 use Rattle.std.proofs.Common.{◌≡◌, ℕ, List, Option, Some, option_map, sym, ap, ◌∙◌}
 use Rattle.std.specs.Borrow.{Bor}
 use Rattle.json_fields.proofs.WriteLaws.{always}
-use Rattle.message_forms.specs.Methods.{IsReadAgain}
-use Rattle.message_forms.specs.Writing.{changed_data, mask_written, request_data}
-use Rattle.message_forms.specs.declared.requests.Request.TheVariants.{UpdateInvocation}
+use Rattle.message_forms.specs.Writing.{changed_data, mask_written}
 use Rattle.message_forms.proofs.WriteLaws.{update_written}
 use Rattle.message_forms.proofs.writing.update_request_value.Goals as goal
 

@@ -1,8 +1,5 @@
-use Rattle.json_fields.proofs.TextLaws.{span_fault-None, span_fault-Some}
+use Rattle.json_fields.proofs.TextLaws.{span_fault-Some}
 use Rattle.json_fields.proofs.texts.SpanSpelled.parse_text.Goals as goal
-
-pub returns-in-Ok-clause-ok : goal.returns-in-Ok-clause-ok
-returns-in-Ok-clause-ok c = (span_fault-None c.args.text.now c.in-Ok.span c.in-Ok.ensures.said c.micros-in_range.ensures.range, c.in-Ok.ensures.said)
 
 pub returns-in-Err-clause-fault : goal.returns-in-Err-clause-fault
 returns-in-Err-clause-fault c = λ _. span_fault-Some c.args.text.now c.in-Err.fault c.in-Err.ensures.wrong
