@@ -6,11 +6,48 @@ use crate::{Edge, EdgeFault, Graph};
 use std::alloc::{AllocError, Global};
 use std::test::Fail;
 
-/// Edges that are added in turn, from a node to its targets.
-const INCLUSIONS: [(u32, &[u32]); 5] = [(2, &[1, 0]), (0, &[1]), (1, &[2]), (3, &[1]), (0, &[2])];
+/// A call that adds edges from a node to targets, and how many it adds, or why it adds none.
+type Call = (u32, &'static [u32], Result<usize, EdgeFault>);
+
+/// Calls to a graph of eight nodes, in turn.
+const CALLS: [Call; 9] = [
+    (0, &[1, 2, 1], Ok(2)),
+    (1, &[2, 0], Ok(2)),
+    (2, &[3], Ok(1)),
+    (3, &[0, 3], Err(EdgeFault::Itself { at: 1 })),
+    (0, &[2, 4, 1, 4], Ok(1)),
+    (5, &[6], Ok(1)),
+    (6, &[5], Ok(1)),
+    (0, &[1], Ok(0)),
+    (7, &[], Ok(0)),
+];
+
+/// What is reached from some nodes then.
+const REACHED: [(&[u32], &[u32]); 4] = [
+    (&[0], &[0, 1, 2, 3, 4]),
+    (&[6], &[5, 6]),
+    (&[6, 3, 6], &[3, 5, 6]),
+    (&[], &[]),
+];
+
+/// Calls to a graph of four nodes, in turn.
+const INCLUSIONS: [Call; 5] = [
+    (2, &[1, 0], Ok(2)),
+    (0, &[1], Ok(1)),
+    (1, &[2], Ok(1)),
+    (3, &[1], Ok(1)),
+    (0, &[2], Ok(1)),
+];
 
 /// The sources of each node then.
 const SOURCES: [(u32, &[u32]); 4] = [(0, &[2]), (1, &[2, 0, 3]), (2, &[1, 0]), (3, &[])];
+
+/// Calls to a graph of 513 nodes that is full.
+const MORE: [Call; 3] = [
+    (512, &[1], Err(EdgeFault::Full { count: 262_144 })),
+    (512, &[1, 512], Err(EdgeFault::Itself { at: 1 })),
+    (1, &[2, 512], Ok(0)),
+];
 
 /// Inclusions that are asked for in turn, and how many of them are new. At some the node has more
 /// targets than the target has sources, at others fewer.
@@ -151,53 +188,83 @@ fn is_walk(edges: &[Edge], walk: &[u32]) -> bool {
     })
 }
 
+/// Whether each call answers what it says.
+fn are_answered(alloc: Global, graph: &mut Graph, calls: &[Call]) -> bool {
+    for call in calls {
+        if add(alloc, graph, call.0, call.1) != call.2 {
+            return false;
+        }
+    }
+    true
+}
+
+/// Whether a node has these targets.
+fn has_targets(graph: &Graph, node: u32, targets: &[u32]) -> bool {
+    node < graph.nodes() && graph.targets(node) == targets
+}
+
+/// Whether this is a node's k-th target.
+fn is_target(graph: &Graph, node: u32, k: u32, target: Option<u32>) -> bool {
+    node < graph.nodes() && graph.edge(node, k) == target
+}
+
+/// Whether just these nodes are reached from some, also by turns over all edges.
+fn is_reached(
+    alloc: Global,
+    graph: &Graph,
+    roots: &[u32],
+    nodes: &[u32],
+) -> Result<bool, AllocError> {
+    if !are_below(graph.nodes(), roots) {
+        return Ok(false);
+    }
+    let reached = graph.reach(alloc, roots)?;
+    let turned = by_turns(alloc, graph, roots)?;
+    Ok(reached.as_slice() == nodes && turned.as_slice() == nodes)
+}
+
+/// Whether a walk from a node to another is found where the other one is reached, and none else.
+fn is_found(
+    alloc: Global,
+    graph: &Graph,
+    a: u32,
+    b: u32,
+    reached: &[u32],
+) -> Result<bool, AllocError> {
+    if a >= graph.nodes() {
+        return Ok(false);
+    }
+    let Some(walk) = graph.walk_to(alloc, a, b)? else {
+        return Ok(!reached.contains(&b));
+    };
+    let walk = walk.as_slice();
+    Ok(is_walk(graph.edges(), walk) && walk.first() == Some(&a) && walk.last() == Some(&b))
+}
+
+/// Whether the walks from each node to each are found.
+fn are_found(alloc: Global, graph: &Graph) -> Result<bool, AllocError> {
+    for a in 0..graph.nodes() {
+        let reached = by_turns(alloc, graph, &[a])?;
+        for b in 0..graph.nodes() {
+            if !is_found(alloc, graph, a, b, reached.as_slice())? {
+                return Ok(false);
+            }
+        }
+    }
+    Ok(true)
+}
+
 #[test]
 fn walks_and_reach(rt: HostRuntime) -> Result<(), Fail> {
     let alloc = rt.alloc();
     let mut graph = graph_of(alloc, 8)?;
-    let calls = [
-        (0, [1, 2, 1].as_slice(), Ok(2)),
-        (1, [2, 0].as_slice(), Ok(2)),
-        (2, [3].as_slice(), Ok(1)),
-        (3, [0, 3].as_slice(), Err(EdgeFault::Itself { at: 1 })),
-        (0, [2, 4, 1, 4].as_slice(), Ok(1)),
-        (5, [6].as_slice(), Ok(1)),
-        (6, [5].as_slice(), Ok(1)),
-        (0, [1].as_slice(), Ok(0)),
-        (7, [].as_slice(), Ok(0)),
-    ];
-    for (from, targets, answer) in calls {
-        assert_eq!(rt; add(alloc, &mut graph, from, targets), answer, "{from}");
+    assert!(rt; are_answered(alloc, &mut graph, &CALLS));
+    assert!(rt; graph.nodes() == 8 && has_targets(&graph, 0, &[1, 2, 4]));
+    assert!(rt; is_target(&graph, 0, 2, Some(4)) && is_target(&graph, 0, 3, None));
+    for row in &REACHED {
+        assert!(rt; is_reached(alloc, &graph, row.0, row.1)?);
     }
-    assert_eq!(rt; graph.nodes(), 8);
-    assert_eq!(rt; graph.targets(0), [1, 2, 4].as_slice());
-    assert!(rt; graph.edge(0, 2) == Some(4) && graph.edge(0, 3).is_none());
-    let reached = [
-        ([0].as_slice(), [0, 1, 2, 3, 4].as_slice()),
-        ([6].as_slice(), [5, 6].as_slice()),
-        ([6, 3, 6].as_slice(), [3, 5, 6].as_slice()),
-        ([].as_slice(), [].as_slice()),
-    ];
-    for (roots, nodes) in reached {
-        assert!(rt; are_below(8, roots));
-        assert_eq!(rt; graph.reach(alloc, roots)?.as_slice(), nodes);
-        assert_eq!(rt; by_turns(alloc, &graph, roots)?.as_slice(), nodes);
-    }
-    for a in 0u32..8 {
-        let reached = by_turns(alloc, &graph, [a].as_slice())?;
-        for b in 0u32..8 {
-            match graph.walk_to(alloc, a, b)? {
-                Some(walk) => {
-                    assert!(rt; is_walk(graph.edges(), walk.as_slice()), "{a} {b}");
-                    assert!(rt;
-                        walk.first() == Some(&a) && walk.last() == Some(&b),
-                        "{a} {b}"
-                    );
-                }
-                None => assert!(rt; !reached.contains(&b), "{a} {b}"),
-            }
-        }
-    }
+    assert!(rt; are_found(alloc, &graph)?);
     Ok(())
 }
 
@@ -217,11 +284,9 @@ fn has_sources(
 fn sources_in_order_of_arrival(rt: HostRuntime) -> Result<(), Fail> {
     let alloc = rt.alloc();
     let mut graph = graph_of(alloc, 4)?;
-    for (from, targets) in INCLUSIONS {
-        let _ = add(alloc, &mut graph, from, targets)?;
-    }
-    for (node, sources) in SOURCES {
-        assert!(rt; has_sources(alloc, &graph, node, sources)?, "{node}");
+    assert!(rt; are_answered(alloc, &mut graph, &INCLUSIONS));
+    for row in &SOURCES {
+        assert!(rt; has_sources(alloc, &graph, row.0, row.1)?);
     }
     Ok(())
 }
@@ -230,11 +295,27 @@ fn sources_in_order_of_arrival(rt: HostRuntime) -> Result<(), Fail> {
 fn new_targets_beside_marks_for_all_nodes(rt: HostRuntime) -> Result<(), Fail> {
     let alloc = rt.alloc();
     let mut graph = graph_of(alloc, 5)?;
-    for (from, targets, new) in ASKED {
-        let planned = is_planned(alloc, &mut graph, from, targets, new);
-        assert_eq!(rt; planned, Ok(true), "{from}");
+    for row in &ASKED {
+        assert!(rt; is_planned(alloc, &mut graph, row.0, row.1, row.2) == Ok(true));
     }
     Ok(())
+}
+
+/// Adds the edges from each node but the last one to all others. Whether all are added.
+fn are_all_added(alloc: Global, graph: &mut Graph) -> Result<bool, AllocError> {
+    let nodes = graph.nodes();
+    for from in 0..nodes.saturating_sub(1) {
+        let mut targets = Vec::new(alloc);
+        for target in 0..nodes {
+            if target != from {
+                targets.push(target)?;
+            }
+        }
+        if add(alloc, graph, from, targets.as_slice()) != Ok(targets.len()) {
+            return Ok(false);
+        }
+    }
+    Ok(true)
 }
 
 #[test]
@@ -242,23 +323,8 @@ fn a_full_graph_takes_no_edge(rt: HostRuntime) -> Result<(), Fail> {
     let alloc = rt.alloc();
     let mut graph = graph_of(alloc, 513)?;
     graph.reserve(alloc, 0, 262_144)?;
-    for from in 0u32..512 {
-        let mut targets = Vec::new(alloc);
-        for target in 0u32..513 {
-            if target != from {
-                targets.push(target)?;
-            }
-        }
-        assert_eq!(rt; add(alloc, &mut graph, from, targets.as_slice()), Ok(512));
-    }
-    let full = Err(EdgeFault::Full { count: 262_144 });
-    let calls = [
-        (512, [1].as_slice(), full),
-        (512, [1, 512].as_slice(), Err(EdgeFault::Itself { at: 1 })),
-        (1, [2, 512].as_slice(), Ok(0)),
-    ];
-    for (from, targets, answer) in calls {
-        assert_eq!(rt; add(alloc, &mut graph, from, targets), answer, "{from}");
-    }
+    assert!(rt; are_all_added(alloc, &mut graph)?);
+    assert!(rt; graph.edges().len() == 262_144);
+    assert!(rt; are_answered(alloc, &mut graph, &MORE));
     Ok(())
 }
