@@ -1,15 +1,23 @@
 -- Fronts of texts that go on, and that are cut.
-use Rattle.std.proofs.Common.{◌≡◌, ℕ, zero, suc, ◌+◌, ◌-◌, ◌<◌, ◌≤◌, min, Bool, true, false, nat_lt, nat_le, List, [], ◌∷◌, ◌++◌, length, take, drop, get_or, Result, Ok, Err, encode_utf8, refl, sym, ap, subst, ◌∙◌, arith, ⊎_elim, ◌⊎◌, inl, inr, length-append}
+use Rattle.std.proofs.Common.{◌≡◌, ℕ, zero, suc, ◌+◌, ◌-◌, ◌<◌, ◌≤◌, min, true, false, nat_lt, nat_le, List, [], ◌∷◌, ◌++◌, length, take, drop, Result, refl, sym, ap, subst, ◌∙◌, arith, inl, inr}
 use Rattle.std.specs.Prelude.{slice_index, if◌then◌else◌, ◌==◌}
 use Rattle.std.proofs.lemmas.Bool.{cases_Bool}
 use Rattle.std.proofs.lemmas.Bool.Decides.{nat_tests}
 use Rattle.std.proofs.lemmas.List.{get_or-take, length-take, take_all, take_min, take-take}
-use Rattle.junit_reader.specs.Bytes.{behind_white, is_white, run_len}
-use Rattle.junit_reader.specs.Cases.{told_by}
-use Rattle.junit_reader.specs.Fronts.{IsKept, front, told_first}
-use Rattle.junit_reader.specs.Messages.{boundary, cut, is_inner, solid_len, trimmed}
+use Rattle.junit_parts.specs.Bytes.{behind_white, is_white, run_len}
+use Rattle.junit_parts.specs.Cases.{told_by, told_first}
+use Rattle.junit_reader.specs.Fronts.{IsKept, front}
+use Rattle.junit_parts.specs.Messages.{boundary, cut, is_inner, solid_len, trimmed}
 use Rattle.junit_reader.specs.declared.own_text.OwnText.{OwnText}
-use Rattle.junit_reader.proofs.MessageLemmas.{solid_some}
+use Rattle.junit_parts.proofs.MessageLemmas.{solid_some}
+use Rattle.junit_parts.proofs.ValueLemmas.{Left}
+use Rattle.junit_parts.specs.declared.faults.Flaw.{Flaw}
+
+-- what is still to be read of a value, where no more than the front of what was read is kept
+pub record LeftFront (kept rest : List ℕ) (whole : Result (List ℕ) Flaw) : Type 0 where
+  pub text : List ℕ
+  pub same : kept ≡ front text
+  pub left : Left text rest whole
 
 take_both : (n : ℕ) (xs ys : List ℕ) → take n (xs ++ ys) ≡ take n xs ++ take (n - length (take n xs)) ys
 take_both zero xs ys = refl

@@ -1,24 +1,21 @@
 -- Whatever is the print of a tree was read construct by construct, and there is one way to read so.
 use Rattle.std.proofs.Common.{◌≡◌, ◌<◌, ◌≤◌, ◌-◌, ℕ, Bool, true, false, List, [], ◌∷◌, length, Option, Some, None, Result, Ok, Err, ◌⊎◌, inl, inr, ⊎_elim, zero, suc, nat_le, refl, sym, ap, subst, ◌∙◌, arith}
 use Rattle.std.proofs.lemmas.Bool.Decides.{nat_tests}
-use Rattle.junit_reader.proofs.DocumentLemmas.{grown_printed, grown_sound}
+use Rattle.junit_parts.proofs.TreeLemmas.{grown_printed, grown_sound}
 use Rattle.junit_reader.proofs.ShrinkLaws.{token_leaves}
 use Rattle.std.specs.Prelude.{if◌then◌else◌}
 use Rattle.names_realms.specs.declared.states.Case.{Case}
-use Rattle.junit_reader.specs.Cases.{cases_in}
-use Rattle.junit_reader.specs.Constructs.{Leaf, Token, Stands, Opens, Whole, Closes, token_from}
-use Rattle.junit_reader.specs.Flaws.{IsSound, IsSoundAt, flaw_at, token_flaw}
-use Rattle.junit_reader.specs.Reports.{HasCases, HasFault, HasFlaw, IsDocument, document_of, text_place, told}
-use Rattle.junit_reader.specs.Reports.HasFlaw.{wrong, broken, open_end, no_root}
-use Rattle.junit_reader.specs.Reports.HasFault.{flawed, no_text, text_ends}
-use Rattle.junit_reader.specs.Standing.{content_of, grown, put}
-use Rattle.junit_reader.specs.Tags.{TagText}
-use Rattle.junit_reader.specs.Tree.{Content, Nothing, Then, Element, Unfinished, Outside, Within, IsAt, Prints, PrintsFront, has_element}
-use Rattle.junit_reader.specs.declared.faults.Cause.TheVariants.{NotWellFormed, NoRoot}
-use Rattle.junit_reader.specs.declared.faults.Flaw.{Flaw}
-use Rattle.junit_reader.specs.declared.faults.JunitFault.{JunitFault}
-use Rattle.junit_reader.specs.declared.faults.JunitFault.TheVariants.{NotText}
-use Rattle.junit_reader.specs.declared.roles.Role.TheVariants.{Top}
+use Rattle.junit_parts.specs.Cases.{cases_in}
+use Rattle.junit_parts.specs.Constructs.{Token, Stands, Opens, Whole, Closes, token_from}
+use Rattle.junit_parts.specs.Flaws.{IsSound, IsSoundAt, flaw_at, token_flaw}
+use Rattle.junit_parts.specs.Reports.{HasFlaw, IsDocument, document_of, text_place, told}
+use Rattle.junit_parts.specs.Reports.HasFlaw.{wrong, broken, open_end, no_root}
+use Rattle.junit_parts.specs.Reports.HasFault.{flawed, no_text, text_ends}
+use Rattle.junit_parts.specs.Tree.{Content, Nothing, Then, Element, Unfinished, Outside, Within, IsAt, Prints, PrintsFront, has_element, content_of, grown, put}
+use Rattle.junit_parts.specs.declared.faults.Cause.TheVariants.{NotWellFormed, NoRoot}
+use Rattle.junit_parts.specs.declared.faults.Flaw.{Flaw}
+use Rattle.junit_parts.specs.declared.faults.JunitFault.TheVariants.{NotText}
+use Rattle.junit_parts.specs.declared.roles.Role.TheVariants.{Top}
 use Rattle.junit_reader.specs.Laws.{CasesOrAFault, CasesOrFault, OneFault, OneListOfCases}
 
 -- the tree is reached, one construct after the other

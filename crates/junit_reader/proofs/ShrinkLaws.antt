@@ -1,11 +1,11 @@
 -- What stands behind a construct is shorter than what begins with it.
-use Rattle.std.proofs.Common.{◌≡◌, ◌<◌, ◌≤◌, ◌-◌, ◌+◌, ℕ, zero, suc, Bool, true, false, not, ◌||◌, cond, nat_eq, List, [], ◌∷◌, length, map, take, drop, Option, Some, None, refl, sym, ap, subst, ◌∙◌, arith, length-drop}
+use Rattle.std.proofs.Common.{◌≡◌, ◌<◌, ◌≤◌, ◌+◌, ℕ, zero, suc, Bool, true, false, not, ◌||◌, cond, nat_eq, List, [], ◌∷◌, length, map, take, drop, Option, Some, None, refl, ap, ◌∙◌, arith, length-drop}
 use Rattle.std.specs.Prelude.{if◌then◌else◌, ◌==◌, codes}
 use Rattle.std.specs.List.{position_or_len, starts_with}
-use Rattle.junit_reader.specs.Bytes.{◌>>=◌, behind_white, byte_from, continues_name, is_white, name_from, parted_at, run_len, starts_name}
-use Rattle.junit_reader.specs.Constructs.{Token, character_from, comment_from, data_from, declared_from, doctype_from, end_from, ended, instruction_from, marked_from, markup_from, meant, start_from, token_from}
-use Rattle.junit_reader.specs.References.{meaning_of, reference_from}
-use Rattle.junit_reader.specs.Tags.{AttributeText, TagText, are_distinct, attribute_from, attributes_from, closed_by, has_attribute, is_quote, quoted_from, tag_from}
+use Rattle.junit_parts.specs.Bytes.{◌>>=◌, behind_white, byte_from, continues_name, is_white, name_from, parted_at, run_len, starts_name}
+use Rattle.junit_parts.specs.Constructs.{Token, character_from, comment_from, data_from, declared_from, doctype_from, end_from, ended, instruction_from, marked_from, markup_from, start_from, token_from}
+use Rattle.junit_parts.specs.References.{meaning_of, reference_from}
+use Rattle.junit_parts.specs.Tags.{TagText, are_distinct, attribute_from, attributes_from, closed_by, has_attribute, is_quote, quoted_from, tag_from}
 
 bind_some : {A B : Type 0} (o : Option A) (f : A → Option B) (y : B) → (o >>= f) ≡ Some y → (x : A) × (o ≡ Some x) × (f x ≡ Some y)
 bind_some None f y e = absurd cc

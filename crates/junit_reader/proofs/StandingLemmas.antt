@@ -1,23 +1,23 @@
 -- What is kept stays true as elements are opened and closed.
-use Rattle.std.proofs.Common.{◌≡◌, ℕ, suc, ◌+◌, Bool, true, false, ◌||◌, cond, List, [], ◌∷◌, ◌++◌, length, map, take, Option, Some, None, is_some, refl, sym, ap, subst, ◌∙◌, arith, append_assoc, length-append, add-one}
+use Rattle.std.proofs.Common.{◌≡◌, ℕ, suc, Bool, true, false, ◌||◌, List, [], ◌∷◌, ◌++◌, length, map, take, Option, Some, None, is_some, refl, sym, ap, subst, ◌∙◌, arith, append_assoc, length-append}
 use Rattle.std.specs.Prelude.{if◌then◌else◌, codes}
 use Rattle.std.specs.Option.{option_or}
 use Rattle.std.specs.Str.{bytes_eq}
-use Rattle.std.proofs.lemmas.List.{append-nil, length-map, map_push}
+use Rattle.std.proofs.lemmas.List.{append-nil, map_push}
 use Rattle.names_realms.specs.declared.states.Case.{Case}
-use Rattle.junit_reader.specs.Bytes.{behind_white}
-use Rattle.junit_reader.specs.Fronts.{IsKept, front, told_first}
+use Rattle.junit_parts.specs.Bytes.{behind_white}
+use Rattle.junit_reader.specs.Fronts.{IsKept, front}
 use Rattle.junit_reader.proofs.FrontLemmas.{told_of_fronts}
-use Rattle.junit_reader.specs.Cases.{added_by, case_duration, case_name, case_of, cases_in, ended_case, ending_of, first_told, inner_of_case, inner_of_suite, inner_of_suites, inner_of_top, own_text, role_in, role_of, text_named, told_by, told_of}
-use Rattle.junit_reader.specs.Standing.{Begins, Ends, IsCaseSoFar, IsFresh, IsNoted, IsSameCase, Keeps, KeepsIn, StandsFor, cases_so_far, closed, content_of, open_text, opens, put, told_so_far}
-use Rattle.junit_reader.specs.Tags.{TagText}
-use Rattle.junit_reader.specs.Tree.{Content, Nothing, Then, Element, Unfinished, Outside, Within, depth_of, has_element, has_root}
-use Rattle.junit_reader.specs.declared.judging.Spot.{Spot}
+use Rattle.junit_parts.specs.Cases.{added_by, case_duration, case_name, case_of, cases_in, ended_case, first_told, inner_of_case, inner_of_suites, own_text, role_in, role_of, text_named, told_of, told_first}
+use Rattle.junit_reader.specs.Standing.{Begins, Ends, IsCaseSoFar, IsFresh, IsNoted, IsSameCase, Keeps, KeepsIn, StandsFor, cases_so_far, open_text, opens, told_so_far}
+use Rattle.junit_parts.specs.Tags.{TagText}
+use Rattle.junit_parts.specs.Tree.{Content, Nothing, Then, Element, Unfinished, Outside, Within, depth_of, has_root, closed, content_of, put}
+use Rattle.junit_parts.specs.declared.judging.Spot.{Spot}
 use Rattle.junit_reader.specs.declared.pending.Pending.{Pending}
 use Rattle.junit_reader.specs.declared.reading.Open.{Open}
 use Rattle.junit_reader.specs.declared.reading.Reading.{Reading}
-use Rattle.junit_reader.specs.declared.roles.Role.{Role}
-use Rattle.junit_reader.specs.declared.roles.Role.TheVariants.{Top, Suites, Suite, Testcase, Outcome, Passed}
+use Rattle.junit_parts.specs.declared.roles.Role.{Role}
+use Rattle.junit_parts.specs.declared.roles.Role.TheVariants.{Top, Suites, Suite, Testcase, Outcome, Passed}
 
 pub length_opens : (u : Unfinished) → length (opens u) ≡ depth_of u
 length_opens (Outside content) = refl

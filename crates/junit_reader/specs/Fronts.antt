@@ -1,7 +1,7 @@
 -- The code's own words: what it keeps of a text of which no more than a front is told.
-use Rattle.std.specs.Prelude.{◌≡◌, ℕ, min, List, [], ◌∷◌, take, Result, Ok, Err}
-use Rattle.junit_reader.specs.Messages.{cut, solid_len}
-use Rattle.junit_reader.specs.declared.faults.Flaw.{Flaw}
+use Rattle.std.specs.Prelude.{◌≡◌, ℕ, min, List, take, Result, Ok, Err}
+use Rattle.junit_parts.specs.Messages.{solid_len}
+use Rattle.junit_parts.specs.declared.faults.Flaw.{Flaw}
 use Rattle.junit_reader.specs.declared.own_text.OwnText.{OwnText}
 
 -- One byte more than is told: it says whether a character goes over the last place.
@@ -16,8 +16,3 @@ front_of (Err flaw) = Err flaw
 pub record IsKept (own : OwnText) (text : List ℕ) : Type 0 where
   pub bytes : own.front.items ≡ front text
   pub solid : own.solid ≡ min 1025 (solid_len text)
-
--- what is told of a message, or where there is none of a text that is trimmed
-abbrev pub told_first : List ℕ → List ℕ → List ℕ
-told_first [] text = cut text
-told_first (b ∷ bs) text = cut (b ∷ bs)

@@ -1,8 +1,8 @@
 -- A report has exactly one list of cases or exactly one fault.
 use Rattle.std.specs.Prelude.{◌≡◌, ◌⊎◌, ℕ, List}
 use Rattle.names_realms.specs.declared.states.Case.{Case}
-use Rattle.junit_reader.specs.Reports.{HasCases, HasFault}
-use Rattle.junit_reader.specs.declared.faults.JunitFault.{JunitFault}
+use Rattle.junit_parts.specs.Reports.{HasCases, HasFault}
+use Rattle.junit_parts.specs.declared.faults.JunitFault.{JunitFault}
 
 -- at most one list of cases
 abbrev pub OneListOfCases : Type 0

@@ -1,16 +1,3 @@
-pub mod Answers
-pub mod Bytes
-pub mod References
-pub mod Tags
-pub mod Constructs
-pub mod Values
-pub mod Times
-pub mod Messages
 pub mod Fronts
-pub mod Tree
-pub mod Cases
-pub mod Flaws
-pub mod Faults
 pub mod Standing
-pub mod Reports
 pub mod Laws

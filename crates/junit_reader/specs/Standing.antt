@@ -1,25 +1,25 @@
 -- The code's own words: what it keeps while it reads, of an unfinished tree.
-use Rattle.std.specs.Prelude.{◌≡◌, ℕ, ◌||◌, if◌then◌else◌, Bool, true, false, List, [], ◌∷◌, ◌++◌, map, Option, Some, None, Result, Ok, Err, is_some, codes, Vec, take}
+use Rattle.std.specs.Prelude.{◌≡◌, ℕ, ◌||◌, if◌then◌else◌, true, false, List, [], ◌∷◌, ◌++◌, map, Option, Some, None, Result, Ok, Err, is_some, codes, Vec, take}
 use Rattle.std.specs.Global.{Global}
 use Rattle.std.specs.Option.{option_or}
 use Rattle.std.specs.Str.{bytes_eq}
 use Rattle.names_realms.specs.declared.states.Case.{Case}
-use Rattle.junit_reader.specs.Bytes.{behind_white}
-use Rattle.junit_reader.specs.Cases.{case_duration, case_name, cases_in, ended_case, first_told, own_text, role_in, role_of, text_named}
-use Rattle.junit_reader.specs.Constructs.{Token, Stands, Opens, Whole, Closes, Entity, Doctype, Instruction}
-use Rattle.junit_reader.specs.Flaws.{flaw_at, token_flaw}
-use Rattle.junit_reader.specs.Fronts.{IsKept, front, told_first}
-use Rattle.junit_reader.specs.Tags.{TagText}
-use Rattle.junit_reader.specs.Tree.{Content, Nothing, Then, Element, Unfinished, Outside, Within, has_element, has_root}
-use Rattle.junit_reader.specs.declared.faults.Cause.TheVariants.{NoRoot, NotWellFormed}
-use Rattle.junit_reader.specs.declared.faults.Flaw.{Flaw}
-use Rattle.junit_reader.specs.declared.faults.Stop.{Stop}
-use Rattle.junit_reader.specs.declared.faults.Stop.TheVariants.{Memory, Flawed}
+use Rattle.junit_parts.specs.Bytes.{behind_white}
+use Rattle.junit_parts.specs.Cases.{case_duration, case_name, cases_in, ended_case, first_told, own_text, role_in, role_of, text_named, told_first}
+use Rattle.junit_parts.specs.Constructs.{Token}
+use Rattle.junit_parts.specs.Flaws.{flaw_at, token_flaw}
+use Rattle.junit_reader.specs.Fronts.{IsKept, front}
+use Rattle.junit_parts.specs.Tags.{TagText}
+use Rattle.junit_parts.specs.Tree.{Content, Unfinished, Outside, Within, grown, has_element, has_root}
+use Rattle.junit_parts.specs.declared.faults.Cause.TheVariants.{NoRoot, NotWellFormed}
+use Rattle.junit_parts.specs.declared.faults.Flaw.{Flaw}
+use Rattle.junit_parts.specs.declared.faults.Stop.{Stop}
+use Rattle.junit_parts.specs.declared.faults.Stop.TheVariants.{Memory, Flawed}
 use Rattle.junit_reader.specs.declared.pending.Pending.{Pending}
 use Rattle.junit_reader.specs.declared.reading.Open.{Open}
 use Rattle.junit_reader.specs.declared.reading.Reading.{Reading}
-use Rattle.junit_reader.specs.declared.roles.Role.{Role}
-use Rattle.junit_reader.specs.declared.roles.Role.TheVariants.{Top, Suites, Suite, Testcase, Outcome, Passed}
+use Rattle.junit_parts.specs.declared.roles.Role.{Role}
+use Rattle.junit_parts.specs.declared.roles.Role.TheVariants.{Top, Suites, Suite, Testcase, Outcome, Passed}
 
 -- a case of which nothing was read but its tag
 pub record IsFresh (p : Pending) (tag : TagText) : Type 0 where
@@ -96,30 +96,6 @@ pub record StandsFor (s : Reading) (u : Unfinished) : Type 0 where
   pub root : s.has_root ≡ has_root u
   pub cases : s.cases.items ≡ cases_so_far u
   pub pending : Keeps s.pending u
-
--- the content directly in the innermost open element, and the tree with other content there
-abbrev pub content_of : Unfinished → Content
-content_of (Outside content) = content
-content_of (Within outer left tag content) = content
-
-abbrev pub put : Unfinished → Content → Unfinished
-put (Outside content) other = Outside other
-put (Within outer left tag content) other = Within outer left tag other
-
-abbrev pub closed : Unfinished → ℕ → TagText → Content → Option (ℕ × List ℕ) → Unfinished
-closed outer left tag content end = put outer (Element (content_of outer) left tag content end)
-
--- one construct more
-abbrev pub grown : Unfinished → ℕ → Token → Unfinished
-grown u left (Stands leaf) = put u (Then (content_of u) left leaf)
-grown u left (Opens tag) = Within u left tag Nothing
-grown u left (Whole tag) = closed u left tag Nothing None
-grown (Within outer start tag content) left (Closes name) =
-    closed outer start tag content (Some (left, name))
-grown (Outside content) left (Closes name) = Outside content
-grown u left Entity = u
-grown u left Doctype = u
-grown u left Instruction = u
 
 abbrev pub TakesAt : Unfinished → Result (Unit {0}) Stop → Reading → ℕ → Token → Type 0
 TakesAt u (Ok done) new left token =

@@ -1,34 +1,24 @@
 //! Own text as it comes, of which no more is kept than the front that is told.
 ghost use Rattle.std.specs.Prelude.{◌≡◌, ◌++◌, List, ℕ, OnOk, [], take};
-ghost use Rattle.junit_reader.specs.Bytes.{behind_white};
+ghost use Rattle.junit_parts.specs.Bytes.{behind_white};
 ghost use Rattle.junit_reader.specs.Fronts.{IsKept, front};
 
-use crate::bytes::behind_white;
-use crate::messages::solid_len;
+use crate::fronts::{KEPT, push_front};
+use junit_parts::{behind_white, solid_len};
 use std::alloc::{AllocError, Global};
 
-/// Own text without the white space in front: at most 1,025 bytes of it.
+/// Own text without the white space in front: at most `KEPT` bytes of it.
 #[derive(Debug, Drop)]
 pub(crate) struct OwnText {
     pub(crate) front: Vec<u8>,
-    /// Up to where in the front the last byte stands that isn't white space, and 1,025 where that
+    /// Up to where in the front the last byte stands that isn't white space, and `KEPT` where that
     /// stands behind the front.
     pub(crate) solid: usize,
 }
 
-/// Appends to the front of a text, up to 1,025 bytes.
-pub(crate) fn push_front(kept: &mut Vec<u8>, more: &[u8]) -> Result<(), AllocError>
-    ensures { OnOk result ((text : List ℕ)
-        → kept.old.items ≡ front text → kept.new.items ≡ front (text ++ more.now)) }
-{
-    let room = 1025usize.saturating_sub(kept.as_slice().len());
-    kept.extend_from_slice(&more[..room.min(more.len())])?;
-    Ok(())
-}
-
 impl OwnText {
     /// No text.
-    #[tactic(auto, unfolding(crate::specs::Messages::solid_len))]
+    #[tactic(auto, unfolding(junit_parts::specs::Messages::solid_len))]
     pub(crate) fn new(alloc: Global) -> OwnText
         ensures { IsKept result [] }
     {
@@ -47,7 +37,7 @@ impl OwnText {
         push_front(&mut self.front, more)?;
         let solid = solid_len(more);
         if solid > 0 {
-            self.solid = len.saturating_add(solid).min(1025);
+            self.solid = len.saturating_add(solid).min(KEPT);
         }
         Ok(())
     }

@@ -1,47 +1,16 @@
 //! The case that is open.
-ghost use Rattle.std.specs.Prelude.{◌≡◌, ◌∷◌, ◌++◌, ℕ, List, IfOk, OnOk, [], codes};
-ghost use Rattle.junit_reader.specs.Bytes.{behind_white};
-ghost use Rattle.junit_reader.specs.Cases.{case_duration, case_name, ended_case, joined_name, text_named, told_by};
-ghost use Rattle.junit_reader.specs.Fronts.{IsKept, front, told_first};
+ghost use Rattle.std.specs.Prelude.{◌≡◌, ◌++◌, ℕ, List, IfOk, OnOk, [], codes};
+ghost use Rattle.junit_parts.specs.Bytes.{behind_white};
+ghost use Rattle.junit_parts.specs.Cases.{ended_case, text_named};
+ghost use Rattle.junit_parts.specs.Tags.{tag_text};
+ghost use Rattle.junit_reader.specs.Fronts.{IsKept, front};
 ghost use Rattle.junit_reader.specs.Standing.{IsFresh, IsNoted, IsSameCase};
-ghost use Rattle.junit_reader.specs.Tags.{tag_text};
 
-use crate::faults::Stop;
-use crate::messages::{cut, trimmed};
+use crate::fronts::message_front;
 use crate::own_text::OwnText;
-use crate::tags::Tag;
-use crate::times::time;
-use crate::unread::Unread;
-use crate::values::{named_text, value_front, value_named};
-use names_realms::{Bytes, Case, Span, Status};
+use junit_parts::{Ending, Tag, case_duration, case_name, ended_case, told_first};
+use names_realms::{Bytes, Case, Span};
 use std::alloc::{AllocError, Global};
-
-/// How a case ended, by its first error, its first failure and its first skip.
-#[derive(Debug, Drop)]
-pub struct Ending {
-    pub error: Option<Bytes>,
-    pub failure: Option<Bytes>,
-    pub is_skipped: bool,
-}
-
-/// A case by how it ended.
-pub fn ended_case(alloc: Global, name: Bytes, duration: Option<Span>, ending: Ending) -> Case
-    ensures { result ≡ ended_case name duration ending.error ending.failure ending.is_skipped }
-{
-    let (status, expected, message) = match (ending.error, ending.failure, ending.is_skipped) {
-        (Some(message), _, _) => (Status::Crash, false, message),
-        (None, Some(message), _) => (Status::Fail, false, message),
-        (None, None, true) => (Status::Skip, true, Bytes::new(Vec::new(alloc))),
-        (None, None, false) => (Status::Pass, true, Bytes::new(Vec::new(alloc))),
-    };
-    Case {
-        name,
-        status,
-        expected,
-        duration,
-        message,
-    }
-}
 
 /// The case that is open, and of it the outcome that is open.
 #[derive(Debug, Drop)]
@@ -57,82 +26,6 @@ pub(crate) struct Pending {
     pub(crate) message: Vec<u8>,
     /// Its own text so far.
     pub(crate) text: OwnText,
-}
-
-/// The text of an attribute, nothing where there is none.
-pub fn text_named(alloc: Global, tag: &Tag<'_>, name: &[u8]) -> Result<Vec<u8>, AllocError>
-    ensures { IfOk result (λ v. v.items ≡ text_named name.now (tag_text tag.now)) }
-{
-    match named_text(alloc, tag, name) {
-        Ok(text) => Ok(text),
-        Err(Stop::Flawed(_)) => Ok(Vec::new(alloc)),
-        Err(Stop::Memory) => Err(AllocError),
-    }
-}
-
-/// The duration of a case.
-pub fn case_duration(alloc: Global, tag: &Tag<'_>) -> Result<Option<Span>, AllocError>
-    ensures { IfOk result (λ d. d ≡ case_duration (tag_text tag.now)) }
-{
-    let text = text_named(alloc, tag, b"time")?;
-    match time(alloc, text.as_slice()) {
-        Ok(span) => Ok(span),
-        Err(Unread::Broken) => Ok(None),
-        Err(Unread::Memory) => Err(AllocError),
-    }
-}
-
-/// The class and the name with a point between them, or the name alone.
-fn joined_name(class: Vec<u8>, name: Vec<u8>) -> Result<Vec<u8>, AllocError>
-    ensures { IfOk result (λ v. v.items ≡ joined_name class.items name.items) }
-{
-    if class.is_empty() {
-        return Ok(name);
-    }
-    let mut joined = class;
-    joined.push(b'.')?;
-    joined.extend_from_slice(name.as_slice())?;
-    Ok(joined)
-}
-
-/// The name of a case.
-pub fn case_name(alloc: Global, tag: &Tag<'_>) -> Result<Vec<u8>, AllocError>
-    ensures { IfOk result (λ v. v.items ≡ case_name (tag_text tag.now)) }
-{
-    let class = text_named(alloc, tag, b"classname")?;
-    let name = text_named(alloc, tag, b"name")?;
-    joined_name(class, name)
-}
-
-/// The front of the attribute `message`, nothing where there is none.
-fn message_front(alloc: Global, tag: &Tag<'_>) -> Result<Vec<u8>, AllocError>
-    ensures { IfOk result (λ v. v.items ≡ front (text_named (codes "message") (tag_text tag.now))) }
-{
-    let Some(value) = value_named(tag.attributes.as_slice(), b"message") else {
-        return Ok(Vec::new(alloc));
-    };
-    match value_front(alloc, value) {
-        Ok(text) => Ok(text),
-        Err(Stop::Flawed(_)) => Ok(Vec::new(alloc)),
-        Err(Stop::Memory) => Err(AllocError),
-    }
-}
-
-/// What is told of a message, or where there is none of a text that is trimmed.
-fn told_first(alloc: Global, message: &[u8], text: &[u8]) -> Result<Bytes, AllocError>
-    ensures { IfOk result (λ b. b ≡ told_first message.now text.now) }
-{
-    match message {
-        [] => Ok(Bytes::new(Vec::from_slice(alloc, cut(text))?)),
-        _ => Ok(Bytes::new(Vec::from_slice(alloc, cut(message))?)),
-    }
-}
-
-/// What an error or a failure tells.
-pub fn told_by(alloc: Global, message: &[u8], text: &[u8]) -> Result<Bytes, AllocError>
-    ensures { IfOk result (λ b. b ≡ told_by message.now text.now) }
-{
-    told_first(alloc, message, trimmed(text))
 }
 
 impl Pending {

@@ -1,20 +1,17 @@
 //! A report as far as it was read.
 ghost use Rattle.std.specs.Prelude.{◌≡◌, ◌++◌, ◌∷◌, ℕ, List, Option, OnOk, IfNone, IfSome, Err, []};
-ghost use Rattle.junit_reader.specs.Cases.{leaf_text, role_of};
-ghost use Rattle.junit_reader.specs.Constructs.{Leaf, Text, Reference, Data, Comment, Stands, Opens, Whole, Closes, Entity, token_of};
-ghost use Rattle.junit_reader.specs.Standing.{Begins, Ends, Finishes, IsJudged, StandsFor, Takes, closed, content_of, put};
-ghost use Rattle.junit_reader.specs.Flaws.{flaw_at, tag_flaw};
+ghost use Rattle.junit_parts.specs.Cases.{leaf_text, role_of};
+ghost use Rattle.junit_parts.specs.Constructs.{Leaf, Text, Reference, Data, Comment, Stands, Opens, Whole, Closes, Entity, token_of};
+ghost use Rattle.junit_reader.specs.Standing.{Begins, Ends, Finishes, IsJudged, StandsFor, Takes};
+ghost use Rattle.junit_parts.specs.Flaws.{flaw_at, tag_flaw};
 ghost use Rattle.junit_reader.specs.declared.reading.Open.{Open};
-ghost use Rattle.junit_reader.specs.Tags.{TagText, tag_text};
-ghost use Rattle.junit_reader.specs.Tree.{Content, Nothing, Outside, Then, Unfinished, Within, depth_of, has_root};
+ghost use Rattle.junit_parts.specs.Tags.{TagText, tag_text};
+ghost use Rattle.junit_parts.specs.Tree.{Content, Nothing, Outside, Then, Unfinished, Within, closed, content_of, depth_of, has_root, put};
 
-use crate::bytes::white_len;
-use crate::constructs::Construct;
-use crate::faults::{Cause, Flaw, Stop, Unsupported};
-use crate::judging::{Spot, tag_flaw};
 use crate::pending::Pending;
-use crate::roles::{Role, role_in};
-use crate::tags::Tag;
+use junit_parts::{
+    Cause, Construct, Flaw, Role, Spot, Stop, Tag, Unsupported, role_in, tag_flaw, white_len,
+};
 use names_realms::Case;
 use std::alloc::{AllocError, Global};
 use std::mem;

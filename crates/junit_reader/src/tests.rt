@@ -1,5 +1,5 @@
 //! Each public call once. Reports by rows are in `junit_tree`, which reads each of them in two ways.
-use crate::{JunitFault, Unsupported, read_report};
+use crate::{JunitFault, read_report};
 use std::test::Fail;
 
 /// A report of two cases.
@@ -22,31 +22,6 @@ fn a_fault_is_told_at_its_place(rt: HostRuntime) -> Result<(), Fail> {
     match read_report(rt.alloc(), b"<testsuite><testcase/></testsuite>") {
         Ok(_) => assert!(rt; false, "read"),
         Err(fault) => assert!(rt; fault == JunitFault::MissingName { at: 11 }, "{fault:?}"),
-    }
-    Ok(())
-}
-
-#[test]
-fn faults_have_numbers_and_names(rt: HostRuntime) -> Result<(), Fail> {
-    let at = 5;
-    let faults = [
-        (JunitFault::NotText { at }, 1, "NotText"),
-        (JunitFault::NotWellFormed { at }, 2, "NotWellFormed"),
-        (
-            JunitFault::Unsupported {
-                at,
-                what: Unsupported::Entity,
-            },
-            3,
-            "Unsupported",
-        ),
-        (JunitFault::NoRoot, 4, "NoRoot"),
-        (JunitFault::MissingName { at }, 5, "MissingName"),
-        (JunitFault::BadTime { at }, 6, "BadTime"),
-        (JunitFault::TooDeep { at }, 7, "TooDeep"),
-    ];
-    for (fault, number, name) in faults {
-        assert!(rt; fault.number() == number && fault.name() == name);
     }
     Ok(())
 }

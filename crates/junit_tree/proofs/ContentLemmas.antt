@@ -1,22 +1,20 @@
 -- Content that is read behind an unfinished tree.
 use Rattle.std.proofs.Common.{true, false, ◌≡◌, ℕ, List, [], length, Option, Some, None, Result, Ok, Err, refl, sym, ap, subst, ◌∙◌, ◌<◌}
 use Rattle.std.specs.Prelude.{option_map}
-use Rattle.std.specs.Borrow.{Bor}
 use Rattle.names_realms.specs.declared.states.Case.{Case}
-use Rattle.junit_reader.specs.Cases.{cases_in}
-use Rattle.junit_reader.specs.declared.roles.Role.TheVariants.{Top}
-use Rattle.junit_reader.proofs.DocumentLemmas.{grown_printed, grown_sound}
-use Rattle.junit_reader.specs.Constructs.{Leaf, Token, Stands, Opens, Whole, Closes, token_from}
-use Rattle.junit_reader.specs.Flaws.{flaw_at, token_flaw}
-use Rattle.junit_reader.specs.Reports.{HasFlaw, IsDocument, IsFlawed}
-use Rattle.junit_reader.specs.Reports.HasFlaw.{wrong, broken, open_end, no_root}
-use Rattle.junit_reader.specs.Standing.{closed, content_of, grown, put}
-use Rattle.junit_reader.specs.Tags.{TagText}
-use Rattle.junit_reader.specs.Tree.{Content, Nothing, Then, Element, Unfinished, Outside, Within, IsAt, has_element}
-use Rattle.junit_reader.specs.declared.faults.Cause.TheVariants.{NoRoot, NotWellFormed}
-use Rattle.junit_reader.specs.declared.faults.Flaw.{Flaw}
-use Rattle.junit_reader.specs.declared.faults.Stop.{Stop}
-use Rattle.junit_reader.specs.declared.faults.Stop.TheVariants as stop
+use Rattle.junit_parts.specs.Cases.{cases_in}
+use Rattle.junit_parts.specs.declared.roles.Role.TheVariants.{Top}
+use Rattle.junit_parts.proofs.TreeLemmas.{grown_printed, grown_sound}
+use Rattle.junit_parts.specs.Constructs.{Leaf, Token, Stands, Opens, Whole, Closes, token_from}
+use Rattle.junit_parts.specs.Flaws.{flaw_at, token_flaw}
+use Rattle.junit_parts.specs.Reports.{HasFlaw, IsDocument, IsFlawed}
+use Rattle.junit_parts.specs.Reports.HasFlaw.{wrong, broken, open_end, no_root}
+use Rattle.junit_parts.specs.Tags.{TagText}
+use Rattle.junit_parts.specs.Tree.{Content, Nothing, Then, Element, Unfinished, Outside, Within, has_element, closed, content_of, grown, put}
+use Rattle.junit_parts.specs.declared.faults.Cause.TheVariants.{NoRoot, NotWellFormed}
+use Rattle.junit_parts.specs.declared.faults.Flaw.{Flaw}
+use Rattle.junit_parts.specs.declared.faults.Stop.{Stop}
+use Rattle.junit_parts.specs.declared.faults.Stop.TheVariants as stop
 use Rattle.junit_tree.proofs.PlaceLemmas.{flaw_there-place, place_behind_leaf}
 use Rattle.junit_tree.specs.Places.{IsPlaceOf, flaw_there}
 use Rattle.junit_tree.specs.Reading.{EndsBy, IsBehind, IsReadTo, ReadsOn, ReadsToken}

@@ -1,16 +1,15 @@
 -- Places, and what is wrong with a construct there.
-use Rattle.std.proofs.Common.{◌≡◌, ◌<◌, ℕ, Bool, true, false, List, Option, Some, None, refl, sym, ap, ◌∙◌, arith, nat_le}
+use Rattle.std.proofs.Common.{◌≡◌, ◌<◌, ℕ, Bool, true, false, List, Option, Some, None, refl, ap, ◌∙◌, arith, nat_le}
 use Rattle.std.specs.Prelude.{option_map}
 use Rattle.std.specs.Option.{option_or}
 use Rattle.std.proofs.lemmas.Bool.Decides.{nat_tests}
-use Rattle.junit_reader.specs.Constructs.{Token, Stands, Opens, Whole, Closes, Entity, Doctype, Instruction}
-use Rattle.junit_reader.specs.Flaws.{at_place, cause_by_role, depth_cause, first_flaw, flaw_at, root_cause, tag_cause, token_flaw}
-use Rattle.junit_reader.specs.Cases.{role_in}
-use Rattle.junit_reader.specs.Tags.{TagText}
-use Rattle.junit_reader.specs.Tree.{Content, Nothing, Then, Element, Unfinished, Outside, Within}
-use Rattle.junit_reader.specs.Standing.{closed, content_of, put}
-use Rattle.junit_reader.specs.Constructs.{Leaf}
-use Rattle.junit_reader.specs.declared.judging.Spot.{Spot}
+use Rattle.junit_parts.specs.Constructs.{Token, Stands, Opens, Whole, Closes, Entity, Doctype, Instruction}
+use Rattle.junit_parts.specs.Flaws.{at_place, cause_by_role, depth_cause, first_flaw, flaw_at, root_cause, tag_cause, token_flaw}
+use Rattle.junit_parts.specs.Cases.{role_in}
+use Rattle.junit_parts.specs.Tags.{TagText}
+use Rattle.junit_parts.specs.Tree.{Then, Unfinished, Outside, Within, content_of, put}
+use Rattle.junit_parts.specs.Constructs.{Leaf}
+use Rattle.junit_parts.specs.declared.judging.Spot.{Spot}
 use Rattle.junit_tree.specs.Places.{IsPlaceOf, flaw_there, open_name, spot_of}
 use Rattle.junit_tree.specs.declared.places.Place.{Place}
 

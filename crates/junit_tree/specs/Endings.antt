@@ -1,8 +1,8 @@
 -- The ending of a case, as the code keeps it.
 use Rattle.std.specs.Prelude.{◌≡◌}
-use Rattle.junit_reader.specs.Cases.{ending_of}
-use Rattle.junit_reader.specs.Tree.{Content}
-use Rattle.junit_reader.specs.declared.pending.Ending.{Ending}
+use Rattle.junit_parts.specs.Cases.{ending_of}
+use Rattle.junit_parts.specs.Tree.{Content}
+use Rattle.junit_parts.specs.declared.cases.Ending.{Ending}
 
 -- the ending of the case of this content
 pub record IsEndingOf (e : Ending) (own : Content) : Type 0 where

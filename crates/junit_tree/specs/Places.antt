@@ -2,14 +2,14 @@
 -- there.
 use Rattle.std.specs.Prelude.{◌≡◌, ℕ, if◌then◌else◌, List, Option, Some, None, option_map}
 use Rattle.std.specs.Str.{bytes_eq}
-use Rattle.junit_reader.specs.Cases.{role_of}
-use Rattle.junit_reader.specs.Constructs.{Token, Stands, Opens, Whole, Closes, Entity, Doctype, Instruction}
-use Rattle.junit_reader.specs.Flaws.{flaw_at, outside_flaw, tag_flaw}
-use Rattle.junit_reader.specs.Tree.{Unfinished, Outside, Within, depth_of, has_root}
-use Rattle.junit_reader.specs.declared.faults.Cause.TheVariants as cause
-use Rattle.junit_reader.specs.declared.faults.Flaw.{Flaw}
-use Rattle.junit_reader.specs.declared.faults.Unsupported.TheVariants as unsupported
-use Rattle.junit_reader.specs.declared.judging.Spot.{Spot}
+use Rattle.junit_parts.specs.Cases.{role_of}
+use Rattle.junit_parts.specs.Constructs.{Token, Stands, Opens, Whole, Closes, Entity, Doctype, Instruction}
+use Rattle.junit_parts.specs.Flaws.{flaw_at, outside_flaw, tag_flaw}
+use Rattle.junit_parts.specs.Tree.{Unfinished, Outside, Within, depth_of, has_root}
+use Rattle.junit_parts.specs.declared.faults.Cause.TheVariants as cause
+use Rattle.junit_parts.specs.declared.faults.Flaw.{Flaw}
+use Rattle.junit_parts.specs.declared.faults.Unsupported.TheVariants as unsupported
+use Rattle.junit_parts.specs.declared.judging.Spot.{Spot}
 use Rattle.junit_tree.specs.declared.places.Place.{Place}
 
 -- the name of the innermost open element

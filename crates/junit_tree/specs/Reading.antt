@@ -1,13 +1,12 @@
 -- The code's own words: content that is read behind an unfinished tree.
 use Rattle.std.specs.Prelude.{◌≡◌, ℕ, List, [], length, Option, Some, None, Result, Ok, Err}
 use Rattle.std.specs.Borrow.{Bor}
-use Rattle.junit_reader.specs.Constructs.{Closes, token_from}
-use Rattle.junit_reader.specs.Flaws.{IsSound, token_flaw}
-use Rattle.junit_reader.specs.Reports.{HasFlaw}
-use Rattle.junit_reader.specs.Standing.{content_of, put}
-use Rattle.junit_reader.specs.Tree.{Content, Unfinished, IsAt, PrintsFront}
-use Rattle.junit_reader.specs.declared.faults.Stop.{Stop}
-use Rattle.junit_reader.specs.declared.faults.Stop.TheVariants as stop
+use Rattle.junit_parts.specs.Constructs.{Closes, token_from}
+use Rattle.junit_parts.specs.Flaws.{IsSound, token_flaw}
+use Rattle.junit_parts.specs.Reports.{HasFlaw}
+use Rattle.junit_parts.specs.Tree.{Content, Unfinished, IsAt, PrintsFront, content_of, put}
+use Rattle.junit_parts.specs.declared.faults.Stop.{Stop}
+use Rattle.junit_parts.specs.declared.faults.Stop.TheVariants as stop
 use Rattle.junit_tree.specs.Places.{IsPlaceOf}
 use Rattle.junit_tree.specs.Seen.{content_seen, token_seen}
 use Rattle.junit_tree.specs.declared.content.End.{End}

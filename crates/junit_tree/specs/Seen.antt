@@ -1,9 +1,9 @@
 -- The code's constructs and trees, without where they lie in memory.
 use Rattle.std.specs.Prelude.{ℕ, List, Option, Some, None}
 use Rattle.std.specs.Borrow.{Bor}
-use Rattle.junit_reader.specs.Constructs.{Leaf, Text, Reference, Data, Comment, Token, Stands, Opens, Whole, Closes, Entity, Doctype, Instruction}
-use Rattle.junit_reader.specs.Tags.{tag_text}
-use Rattle.junit_reader.specs.Tree.{Content, Nothing, Then, Element}
+use Rattle.junit_parts.specs.Constructs.{Leaf, Text, Reference, Data, Comment, Token, Stands, Opens, Whole, Closes, Entity, Doctype, Instruction}
+use Rattle.junit_parts.specs.Tags.{tag_text}
+use Rattle.junit_parts.specs.Tree.{Content, Nothing, Then, Element}
 use Rattle.junit_tree.specs.declared.content.Content.{Content as CodeContent}
 use Rattle.junit_tree.specs.declared.content.Content.TheVariants as content
 use Rattle.junit_tree.specs.declared.tokens.Leaf.{Leaf as CodeLeaf}

@@ -1,13 +1,13 @@
 //! The cases of content, by recursion over it.
 ghost use Rattle.std.specs.Prelude.{◌≡◌, IfOk};
-ghost use Rattle.junit_reader.specs.Cases.{case_of, cases_in, first_told, own_text, told_of};
-ghost use Rattle.junit_reader.specs.Tags.{tag_text};
+ghost use Rattle.junit_parts.specs.Cases.{case_of, cases_in, first_told, own_text, told_of};
+ghost use Rattle.junit_parts.specs.Tags.{tag_text};
 ghost use Rattle.junit_tree.specs.Endings.{IsEndingOf};
 ghost use Rattle.junit_tree.specs.Seen.{content_seen};
 
 use crate::content::Content;
 use crate::tokens::push_leaf;
-use junit_reader::parts::{
+use junit_parts::{
     Ending, Role, Tag, case_duration, case_name, ended_case, role_in, text_named, told_by,
 };
 use names_realms::{Bytes, Case};

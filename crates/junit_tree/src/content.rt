@@ -1,15 +1,15 @@
 //! Content of elements, read to the end of its element.
 ghost use Rattle.std.specs.Prelude.{◌≡◌, ◌<◌, ℕ, List, length, IfOk, IfSome, Some, None, option_map};
-ghost use Rattle.junit_reader.specs.Flaws.{flaw_at};
-ghost use Rattle.junit_reader.specs.Tags.{tag_text};
-ghost use Rattle.junit_reader.specs.Tree.{Then, Element, Unfinished, has_element};
+ghost use Rattle.junit_parts.specs.Flaws.{flaw_at};
+ghost use Rattle.junit_parts.specs.Tags.{tag_text};
+ghost use Rattle.junit_parts.specs.Tree.{Then, Element, Unfinished, has_element};
 ghost use Rattle.junit_tree.specs.Places.{IsPlaceOf, flaw_there};
 ghost use Rattle.junit_tree.specs.Reading.{IsBehind, IsReadTo, ReadsOn, ReadsToken};
 ghost use Rattle.junit_tree.specs.Seen.{content_seen, end_seen, leaf_seen, token_seen};
 
 use crate::places::Place;
 use crate::tokens::{Leaf, Token, token_for};
-use junit_reader::parts::{Cause, Flaw, Stop, Tag, Unread, read_construct};
+use junit_parts::{Cause, Flaw, Stop, Tag, Unread, read_construct};
 use std::alloc::{AllocError, Global};
 
 /// Content, from its end: nothing; content and a leaf behind it; content and an element behind it,

@@ -11,5 +11,5 @@ mod reports;
 mod tests;
 mod tokens;
 
-pub use junit_reader::JunitFault;
+pub use junit_parts::JunitFault;
 pub use reports::plain_report;

@@ -1,15 +1,13 @@
 //! Places in a tree, and what is wrong with a construct there.
 ghost use Rattle.std.specs.Prelude.{◌≡◌, ◌<◌, ℕ, List, IfOk, Some, Option, option_map};
-ghost use Rattle.junit_reader.specs.Flaws.{flaw_at, outside_flaw};
-ghost use Rattle.junit_reader.specs.Tree.{Content, Nothing, Outside, Unfinished, Within};
-ghost use Rattle.junit_reader.specs.Tags.{TagText};
-ghost use Rattle.junit_reader.specs.Standing.{closed};
+ghost use Rattle.junit_parts.specs.Flaws.{flaw_at, outside_flaw};
+ghost use Rattle.junit_parts.specs.Tree.{Content, Nothing, Outside, Unfinished, Within, closed};
+ghost use Rattle.junit_parts.specs.Tags.{TagText};
 ghost use Rattle.junit_tree.specs.Places.{IsPlaceOf, flaw_there};
 ghost use Rattle.junit_tree.specs.Seen.{leaf_seen, token_seen};
 
 use crate::tokens::{Leaf, Token};
-use junit_reader::Unsupported;
-use junit_reader::parts::{Cause, Flaw, Role, Spot, role_in, tag_flaw, white_len};
+use junit_parts::{Cause, Flaw, Role, Spot, Unsupported, role_in, tag_flaw, white_len};
 use std::alloc::{AllocError, Global};
 
 /// A place in a tree, with the name of the innermost open element.

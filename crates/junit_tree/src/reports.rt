@@ -1,15 +1,14 @@
 //! Reports, read to their cases or to their first fault by way of a tree.
 ghost use Rattle.std.specs.Prelude.{◌≢◌, IfErr, IfOk, []};
-ghost use Rattle.junit_reader.specs.Reports.{HasCases, HasFault, IsDocument, IsFlawed};
-ghost use Rattle.junit_reader.specs.Tree.{Outside};
+ghost use Rattle.junit_parts.specs.Reports.{HasCases, HasFault, IsDocument, IsFlawed};
+ghost use Rattle.junit_parts.specs.Tree.{Outside};
 ghost use Rattle.junit_tree.specs.Reading.{IsReadTo};
 ghost use Rattle.junit_tree.specs.Seen.{content_seen};
 
 use crate::cases::cases_in;
 use crate::content::{Content, content_from, has_element};
 use crate::places::Place;
-use junit_reader::JunitFault;
-use junit_reader::parts::{Cause, Flaw, Role, Stop, answer_of, document_of};
+use junit_parts::{Cause, Flaw, JunitFault, Role, Stop, answer_of, document_of};
 use names_realms::Case;
 use std::alloc::Global;
 

@@ -1,10 +1,10 @@
 //! Constructs, with those that have nothing in them in one group.
 ghost use Rattle.std.specs.Prelude.{◌≡◌, ◌++◌, OnOk};
-ghost use Rattle.junit_reader.specs.Cases.{leaf_text};
-ghost use Rattle.junit_reader.specs.Constructs.{token_of};
+ghost use Rattle.junit_parts.specs.Cases.{leaf_text};
+ghost use Rattle.junit_parts.specs.Constructs.{token_of};
 ghost use Rattle.junit_tree.specs.Seen.{leaf_seen, token_seen};
 
-use junit_reader::parts::{Construct, Tag, push_char};
+use junit_parts::{Construct, Tag, push_char};
 use std::alloc::AllocError;
 
 /// What has nothing in it.

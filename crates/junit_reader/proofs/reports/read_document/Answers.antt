@@ -1,6 +1,6 @@
-use Rattle.std.proofs.Common.{◌≡◌, ◌<◌, length, true, false, Some, None, sym, ◌∙◌}
+use Rattle.std.proofs.Common.{◌≡◌, ◌<◌, length, None, sym, ◌∙◌}
 use Rattle.std.proofs.lemmas.Result.{err_from_is_err_and}
-use Rattle.junit_reader.specs.Constructs.{token_from, token_of}
+use Rattle.junit_parts.specs.Constructs.{token_from, token_of}
 use Rattle.junit_reader.proofs.DocumentLemmas.{begun, broken_off, finished, none_left, read_on, some_left, stopped}
 use Rattle.junit_reader.proofs.reports.read_document.Goals as goal
 

@@ -1,7 +1,7 @@
 use Rattle.std.proofs.Common.{length, refl, Some, None}
 use Rattle.std.proofs.lemmas.Result.{err_from_is_err_and}
-use Rattle.junit_reader.specs.Tags.{tag_text}
-use Rattle.junit_reader.specs.Tree.{Nothing, Within}
+use Rattle.junit_parts.specs.Tags.{tag_text}
+use Rattle.junit_parts.specs.Tree.{Nothing, Within}
 use Rattle.junit_tree.specs.Seen.{content_seen, leaf_seen}
 use Rattle.junit_tree.proofs.ContentLemmas.{behind_start, on_element, on_leaf, on_whole, stops_open, stops_within}
 use Rattle.junit_tree.proofs.content.+content_from.Goals as goal

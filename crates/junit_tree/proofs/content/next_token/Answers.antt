@@ -1,5 +1,5 @@
 use Rattle.std.proofs.Common.{◌≡◌, Some, length, option_map, ap, sym, ◌∙◌}
-use Rattle.junit_reader.specs.Constructs.{token_of}
+use Rattle.junit_parts.specs.Constructs.{token_of}
 use Rattle.junit_tree.specs.Places.{flaw_there}
 use Rattle.junit_tree.proofs.ContentLemmas.{no_token, wrong_token}
 use Rattle.junit_tree.proofs.content.next_token.Goals as goal

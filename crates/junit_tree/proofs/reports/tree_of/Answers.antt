@@ -1,5 +1,5 @@
 use Rattle.std.proofs.lemmas.Result.{err_from_is_err_and}
-use Rattle.junit_reader.specs.Tree.{Nothing, Outside}
+use Rattle.junit_parts.specs.Tree.{Nothing, Outside}
 use Rattle.junit_tree.specs.Seen.{content_seen}
 use Rattle.junit_tree.proofs.ContentLemmas.{begins, flaws, never_ended}
 use Rattle.junit_tree.proofs.reports.tree_of.Goals as goal

@@ -1,7 +1,7 @@
-use Rattle.std.proofs.Common.{◌≡◌, ◌++◌, ◌<◌, List, [], ℕ, true, false, length, sym, ap, subst, ◌∙◌}
+use Rattle.std.proofs.Common.{◌≡◌, ◌++◌, ◌<◌, true, false, length, sym, ap, subst, ◌∙◌}
 use Rattle.std.specs.Prelude.{◌==◌}
 use Rattle.std.proofs.lemmas.List.{nil_from_length}
-use Rattle.junit_reader.specs.Bytes.{behind_white}
+use Rattle.junit_parts.specs.Bytes.{behind_white}
 use Rattle.junit_reader.specs.Fronts.{IsKept}
 use Rattle.junit_reader.proofs.FrontLemmas.{behind_both, behind_first, no_front, some_front}
 use Rattle.junit_reader.proofs.own_text.OwnText.push.Goals as goal

@@ -1,5 +1,5 @@
-use Rattle.std.proofs.Common.{◌≡◌, ap, refl, ◌∙◌}
-use Rattle.junit_reader.specs.Cases.{role_in, role_of}
+use Rattle.std.proofs.Common.{◌≡◌, ap, refl}
+use Rattle.junit_parts.specs.Cases.{role_in, role_of}
 use Rattle.junit_reader.specs.Standing.{opens}
 use Rattle.junit_reader.proofs.StandingLemmas.{closed_for, popped}
 use Rattle.junit_reader.proofs.reading.Reading.close_element.Goals as goal

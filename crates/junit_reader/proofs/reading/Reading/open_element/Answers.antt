@@ -1,8 +1,8 @@
-use Rattle.std.proofs.Common.{◌≡◌, ◌++◌, ◌∷◌, [], map, refl, ap, ◌∙◌}
+use Rattle.std.proofs.Common.{◌≡◌, map, refl, ap, ◌∙◌}
 use Rattle.std.proofs.lemmas.List.{map_push}
-use Rattle.junit_reader.specs.Cases.{role_in, role_of}
+use Rattle.junit_parts.specs.Cases.{role_in, role_of}
 use Rattle.junit_reader.specs.Standing.{open_text}
-use Rattle.junit_reader.specs.Tags.{tag_text}
+use Rattle.junit_parts.specs.Tags.{tag_text}
 use Rattle.junit_reader.proofs.StandingLemmas.{opened_for}
 use Rattle.junit_reader.proofs.reading.Reading.open_element.Goals as goal
 

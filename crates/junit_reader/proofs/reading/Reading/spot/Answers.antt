@@ -1,5 +1,5 @@
 use Rattle.std.proofs.Common.{◌≡◌, length, sym, ap, ◌∙◌}
-use Rattle.junit_reader.specs.Tree.{depth_of}
+use Rattle.junit_parts.specs.Tree.{depth_of}
 use Rattle.junit_reader.proofs.StandingLemmas.{length_opens, length_texts, spot_is}
 use Rattle.junit_reader.proofs.reading.Reading.spot.Goals as goal
 

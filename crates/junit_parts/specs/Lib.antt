@@ -1,0 +1,14 @@
+pub mod Answers
+pub mod Bytes
+pub mod References
+pub mod Tags
+pub mod Constructs
+pub mod Values
+pub mod Times
+pub mod Runs
+pub mod Messages
+pub mod Tree
+pub mod Cases
+pub mod Flaws
+pub mod Faults
+pub mod Reports

@@ -1,5 +1,0 @@
-use Rattle.junit_reader.proofs.ByteLemmas.{no_place}
-use Rattle.junit_reader.proofs.times.whole_len.Goals as goal
-
-pub returns-in-None-clause-value : goal.returns-in-None-clause-value
-returns-in-None-clause-value c = no_place _ _ c.in-None.ensures.place
