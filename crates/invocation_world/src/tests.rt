@@ -11,7 +11,6 @@ use invocations::Invocation;
 use lists::{Bytes, Listed};
 use names_realms::{InvocationId, Moment, Pair, Realm, State};
 use std::alloc::Global;
-use std::process::Abort;
 use std::test::Fail;
 
 /// A step, with its moment behind what it asks for.
@@ -303,21 +302,40 @@ fn stand(rows: &[Invocation], seen: &[Seen]) -> bool {
     rows.len() == seen.len()
 }
 
-/// Takes the steps of a case, and looks at the rows.
-fn run(rt: &impl Abort, alloc: Global, case: &Case) -> Result<(), Fail> {
-    let mut world = InvocationWorld::new(alloc)?;
-    for step in case.steps {
-        assert!(rt; take(alloc, &mut world, *step)?);
+/// Takes steps. Whether each could be taken, or none.
+fn take_all(
+    alloc: Global,
+    world: &mut InvocationWorld,
+    steps: &[Step],
+    can: bool,
+) -> Result<bool, Fail> {
+    for step in steps {
+        if take(alloc, world, *step)? != can {
+            return Ok(false);
+        }
     }
-    assert!(rt; stand(world.rows(), case.rows));
-    assert!(rt; world.last() == moment(case.last));
-    Ok(())
+    Ok(true)
+}
+
+/// Whether the steps of a case can be taken, and the rows stand as it says.
+fn is_right(alloc: Global, world: &mut InvocationWorld, case: &Case) -> Result<bool, Fail> {
+    Ok(
+        take_all(alloc, world, case.steps, true)?
+            && stand(world.rows(), case.rows)
+            && world.last() == moment(case.last),
+    )
+}
+
+/// Whether a case is right from an empty world on.
+fn is_right_from_empty(alloc: Global, case: &Case) -> Result<bool, Fail> {
+    let mut world = InvocationWorld::new(alloc)?;
+    is_right(alloc, &mut world, case)
 }
 
 #[test]
 fn worlds_go_from_step_to_step(rt: HostRuntime) -> Result<(), Fail> {
     for case in &CASES {
-        run(&rt, rt.alloc(), case)?;
+        assert!(rt; is_right_from_empty(rt.alloc(), case)?);
     }
     Ok(())
 }
@@ -328,9 +346,16 @@ fn find(alloc: Global, world: &InvocationWorld, id: &str) -> Result<Option<u32>,
     Ok(world.find(&id))
 }
 
-/// Whether the third row includes the first alone.
-fn includes_first(world: &InvocationWorld) -> bool {
-    world.count() == 3 && world.inclusion_count() == 3 && world.included(2) == [0].as_slice()
+/// Whether of three rows the second is found by its id, and the third includes the first alone.
+fn are_told(alloc: Global, world: &InvocationWorld) -> Result<bool, Fail> {
+    Ok(
+        find(alloc, world, "u-b")? == Some(1)
+            && find(alloc, world, "u-d")?.is_none()
+            && world.count() == 3
+            && world.table().rows().len() == 3
+            && world.inclusion_count() == 3
+            && world.included(2) == [0].as_slice(),
+    )
 }
 
 /// Steps that can't be taken behind those of the first case: a taken id, an inclusion in itself,
@@ -341,20 +366,28 @@ const REFUSED: [Step; 3] = [
     Step::Retire(0, 20),
 ];
 
+/// Whether behind a case these steps can't be taken, and the rows are told.
+fn are_refused(alloc: Global, case: &Case, refused: &[Step]) -> Result<bool, Fail> {
+    let mut world = InvocationWorld::new(alloc)?;
+    are_refused_then(alloc, &mut world, case, refused)
+}
+
+fn are_refused_then(
+    alloc: Global,
+    world: &mut InvocationWorld,
+    case: &Case,
+    refused: &[Step],
+) -> Result<bool, Fail> {
+    Ok(
+        is_right(alloc, world, case)?
+            && take_all(alloc, world, refused, false)?
+            && are_told(alloc, world)?,
+    )
+}
+
 #[test]
 fn rows_and_inclusions_are_told(rt: HostRuntime) -> Result<(), Fail> {
-    let alloc = rt.alloc();
-    let mut world = InvocationWorld::new(alloc)?;
-    for step in CASES[0].steps {
-        assert!(rt; take(alloc, &mut world, *step)?);
-    }
-    for step in REFUSED {
-        assert!(rt; !take(alloc, &mut world, step)?);
-    }
-    assert!(rt; find(alloc, &world, "u-b")? == Some(1));
-    assert!(rt; find(alloc, &world, "u-d")?.is_none());
-    assert!(rt; includes_first(&world));
-    assert!(rt; world.table().rows().len() == 3);
+    assert!(rt; are_refused(rt.alloc(), &CASES[0], &REFUSED)?);
     Ok(())
 }
 
