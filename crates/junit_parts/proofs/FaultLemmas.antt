@@ -4,8 +4,10 @@ use Rattle.std.proofs.lemmas.Bool.{cases_Bool}
 use Rattle.std.proofs.lemmas.Bool.Decides.{nat_tests}
 use Rattle.junit_parts.specs.Reports.{HasFault, HasFlaw, document_of, text_place, told}
 use Rattle.junit_parts.specs.Reports.HasFault.{flawed, text_ends}
+use Rattle.junit_parts.specs.declared.faults.Cause.{Cause}
+use Rattle.junit_parts.specs.declared.faults.Cause.TheVariants as cause
 use Rattle.junit_parts.specs.declared.faults.Flaw.{Flaw}
-use Rattle.junit_parts.specs.declared.faults.JunitFault.TheVariants.{NotText}
+use Rattle.junit_parts.specs.declared.faults.JunitFault.TheVariants.{NotText, Memory}
 
 both_true : (a b : Bool) → (a && b) ≡ true → (a ≡ true) × (b ≡ true)
 both_true true b e = (refl, e)
@@ -26,3 +28,14 @@ flaw_first bytes flaw text has is e = flawed flaw has (go (cases_Bool (nat_lt te
       let more : length bytes - flaw.left < text = grind (arith, nat_tests, second) in
       inr (omega (arith, more, is))
   go (inr first) = let less : length bytes ≤ text = grind (arith, nat_tests, first) in inl (omega (arith, less, is))
+
+-- a flaw is told as itself, and not as want of memory
+pub never_memory : (len : ℕ) (flaw : Flaw) → told len flaw ≡ Memory → ⊥
+never_memory len flaw = go flaw.cause where
+  go : (c : Cause) → told len (record { left = flaw.left; cause = c }) ≡ Memory → ⊥
+  go cause.NotWellFormed e = cc
+  go (cause.Unsupported what) e = cc
+  go cause.NoRoot e = cc
+  go cause.MissingName e = cc
+  go cause.BadTime e = cc
+  go cause.TooDeep e = cc

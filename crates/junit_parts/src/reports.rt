@@ -1,5 +1,5 @@
 //! The document in a report, and what is answered by what was read of it.
-ghost use Rattle.std.specs.Prelude.{◌≡◌, ◌≢◌, ◌-◌, ◌&&◌, nat_le, nat_lt, IfErr, IfOk, option_map};
+ghost use Rattle.std.specs.Prelude.{◌≡◌, ◌≢◌, ◌-◌, ◌&&◌, nat_le, nat_lt, Err, IfErr, IfOk, option_map};
 ghost use Rattle.junit_parts.specs.Reports.{HasCases, HasFault, HasFlaw, IsDocument, IsFlawed, behind_mark, declaration_from, document_of, ends_target, text_place, told};
 
 use crate::bytes::{is_white, parted_at};
@@ -87,7 +87,8 @@ fn ends_before(text: usize, len: usize, left: usize) -> bool
 /// The fault of a report with a flaw, whose text ends at a place.
 fn fault_of(bytes: &[u8], flaw: Flaw) -> JunitFault
     requires { HasFlaw (document_of bytes.now) flaw }
-    ensures { HasFault bytes.now result }
+    ensures fault { HasFault bytes.now result }
+    ensures sure { result ≢ JunitFault.Memory }
 {
     let text = text_place(bytes);
     if ends_before(text, bytes.len(), flaw.left) {
@@ -100,7 +101,8 @@ fn fault_of(bytes: &[u8], flaw: Flaw) -> JunitFault
 /// Why reading a report stopped, as it is answered.
 fn fault_for(bytes: &[u8], stop: Stop) -> JunitFault
     requires { IsFlawed (document_of bytes.now) stop }
-    ensures { result ≢ JunitFault.Memory → HasFault bytes.now result }
+    ensures fault { result ≢ JunitFault.Memory → HasFault bytes.now result }
+    ensures memory { result ≡ JunitFault.Memory → stop ≡ Stop.Memory }
 {
     match stop {
         Stop::Memory => JunitFault::Memory,
@@ -114,6 +116,8 @@ pub fn answer_of(bytes: &[u8], read: Result<Vec<Case>, Stop>) -> Result<Vec<Case
     requires flawed { IfErr read (IsFlawed (document_of bytes.now)) }
     ensures ok { IfOk result (λ v. HasCases bytes.now v.items) }
     ensures err { IfErr result (λ f. f ≢ JunitFault.Memory → HasFault bytes.now f) }
+    // Memory was wanting where reading wanted it.
+    ensures memory { IfErr result (λ f. f ≡ JunitFault.Memory → read ≡ Err Stop.Memory) }
 {
     match read {
         Ok(cases) => {
