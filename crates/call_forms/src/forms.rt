@@ -61,9 +61,11 @@ fn unavailable(close: bool) -> &'static str
     ensures { result.now ≡ standin_bytes Standin.Unavailable close }
 {
     if close {
-        "HTTP/1.1 503 Service Unavailable\r\nContent-Type: text/plain; charset=utf-8\r\nX-Prpc-Grpc-Code: 14\r\nConnection: close\r\nContent-Length: 12\r\n\r\nunavailable\n"
+        "HTTP/1.1 503 Service Unavailable\r\nContent-Type: text/plain; charset=utf-8\r\n\
+         X-Prpc-Grpc-Code: 14\r\nConnection: close\r\nContent-Length: 12\r\n\r\nunavailable\n"
     } else {
-        "HTTP/1.1 503 Service Unavailable\r\nContent-Type: text/plain; charset=utf-8\r\nX-Prpc-Grpc-Code: 14\r\nContent-Length: 12\r\n\r\nunavailable\n"
+        "HTTP/1.1 503 Service Unavailable\r\nContent-Type: text/plain; charset=utf-8\r\n\
+         X-Prpc-Grpc-Code: 14\r\nContent-Length: 12\r\n\r\nunavailable\n"
     }
 }
 
@@ -71,9 +73,11 @@ fn want_of_memory(close: bool) -> &'static str
     ensures { result.now ≡ standin_bytes Standin.Memory close }
 {
     if close {
-        "HTTP/1.1 500 Internal Server Error\r\nContent-Type: text/plain; charset=utf-8\r\nX-Prpc-Grpc-Code: 13\r\nConnection: close\r\nContent-Length: 15\r\n\r\nwant of memory\n"
+        "HTTP/1.1 500 Internal Server Error\r\nContent-Type: text/plain; charset=utf-8\r\n\
+         X-Prpc-Grpc-Code: 13\r\nConnection: close\r\nContent-Length: 15\r\n\r\nwant of memory\n"
     } else {
-        "HTTP/1.1 500 Internal Server Error\r\nContent-Type: text/plain; charset=utf-8\r\nX-Prpc-Grpc-Code: 13\r\nContent-Length: 15\r\n\r\nwant of memory\n"
+        "HTTP/1.1 500 Internal Server Error\r\nContent-Type: text/plain; charset=utf-8\r\n\
+         X-Prpc-Grpc-Code: 13\r\nContent-Length: 15\r\n\r\nwant of memory\n"
     }
 }
 
@@ -81,8 +85,10 @@ fn spent(close: bool) -> &'static str
     ensures { result.now ≡ standin_bytes Standin.Spent close }
 {
     if close {
-        "HTTP/1.1 429 Too Many Requests\r\nContent-Type: text/plain; charset=utf-8\r\nX-Prpc-Grpc-Code: 8\r\nConnection: close\r\nContent-Length: 6\r\n\r\nspent\n"
+        "HTTP/1.1 429 Too Many Requests\r\nContent-Type: text/plain; charset=utf-8\r\n\
+         X-Prpc-Grpc-Code: 8\r\nConnection: close\r\nContent-Length: 6\r\n\r\nspent\n"
     } else {
-        "HTTP/1.1 429 Too Many Requests\r\nContent-Type: text/plain; charset=utf-8\r\nX-Prpc-Grpc-Code: 8\r\nContent-Length: 6\r\n\r\nspent\n"
+        "HTTP/1.1 429 Too Many Requests\r\nContent-Type: text/plain; charset=utf-8\r\n\
+         X-Prpc-Grpc-Code: 8\r\nContent-Length: 6\r\n\r\nspent\n"
     }
 }

@@ -34,8 +34,9 @@ pub struct MemoryDisk {
 impl MemoryDisk {
     /// A disk with these two parts, both synced.
     ///
-    /// The calls whose numbers, counted from 1, stand in `fails` fail. After `stop` writes every call fails. A write or a
-    /// cut that is to fail counts as begun, unless the disk has stopped, or memory for it was wanting.
+    /// The calls whose numbers, counted from 1, stand in `fails` fail. After `stop` writes every call
+    /// fails. A write or a cut that is to fail counts as begun, unless the disk has stopped, or memory
+    /// for it was wanting.
     pub fn new(
         alloc: Global,
         first: Vec<u8>,
@@ -95,7 +96,8 @@ impl MemoryDisk {
         requires part { part ≤ 1 }
         requires at { at ≤ length (part_of (parts_by self.old.current) part).bytes }
         ensures ok { OnOk result (told_by self.new.current self.new.past.items
-            ≡ advanced self.old.current self.old.past.items part (write_begun (part_of (parts_by self.old.current) part) at (length piece.now)
+            ≡ advanced self.old.current self.old.past.items part
+            (write_begun (part_of (parts_by self.old.current) part) at (length piece.now)
             (if works then written_over (part_of (parts_by self.old.current) part).bytes at piece.now
             else (part_of (parts_by self.old.current) part).bytes))) }
         ensures err { OnErr result (told_by self.new.current self.new.past.items
@@ -116,7 +118,8 @@ impl MemoryDisk {
         requires part { part ≤ 1 }
         requires end { end ≤ length (part_of (parts_by self.old.current) part).bytes }
         ensures ok { OnOk result (told_by self.new.current self.new.past.items
-            ≡ advanced self.old.current self.old.past.items part (cut_begun (part_of (parts_by self.old.current) part) end
+            ≡ advanced self.old.current self.old.past.items part
+            (cut_begun (part_of (parts_by self.old.current) part) end
             (if works then take end (part_of (parts_by self.old.current) part).bytes
             else (part_of (parts_by self.old.current) part).bytes))) }
         ensures err { OnErr result (told_by self.new.current self.new.past.items
@@ -135,7 +138,8 @@ impl MemoryDisk {
     fn sync_part(&mut self, part: u8) -> Result<(), AllocError>
         requires { part ≤ 1 }
         ensures ok { OnOk result (told_by self.new.current self.new.past.items
-            ≡ advanced self.old.current self.old.past.items part (all_synced (part_of (parts_by self.old.current) part).bytes)) }
+            ≡ advanced self.old.current self.old.past.items part
+            (all_synced (part_of (parts_by self.old.current) part).bytes)) }
         ensures err { OnErr result (told_by self.new.current self.new.past.items
             ≡ told_by self.old.current self.old.past.items) }
         ensures faults { self.new.faults ≡ self.old.faults }

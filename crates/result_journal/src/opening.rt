@@ -63,10 +63,11 @@ const OPEN: u8 = 1;
 const GREATEST_BODY: u32 = 1 << 23;
 
 impl<D: Disk> Opening<D> {
-    /// Syncs part 0, and reads its head. At most nine bytes that aren't an empty journal are begun anew: the head and a
-    /// closed gate are written, the part is cut to nine bytes, and it is synced.
+    /// Syncs part 0, and reads its head. At most nine bytes that aren't an empty journal are begun
+    /// anew: the head and a closed gate are written, the part is cut to nine bytes, and it is synced.
     ///
-    /// At each moment inside the call a crash leaves what one before it might have left, or what is read as the part was.
+    /// At each moment inside the call a crash leaves what one before it might have left, or what is
+    /// read as the part was.
     pub fn begin(alloc: Global, disk: D) -> Result<Opening<D>, (OpenFault, D)>
         ensures opened { IfOk result (λ o. HasGiven D.told o []) }
         ensures begins { IfOk result (λ o. OpensAs (D.told disk) (D.told (opened_disk o))) }
