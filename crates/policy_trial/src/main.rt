@@ -8,10 +8,12 @@
 mod tests;
 
 use names_realms::Realm;
+use outside::StdIn;
 use permissions::{Permission, Policy, PolicyFault};
 use std::alloc::{AllocError, Global};
-use std::io::{self, Read, Write};
+use std::io::Write;
 use std::process::ExitCode;
+use whole_reads::read_front;
 
 /// The permissions in the order of the letters.
 const PERMISSIONS: [Permission; 12] = [
@@ -29,19 +31,8 @@ const PERMISSIONS: [Permission; 12] = [
     Permission::ListArtifacts,
 ];
 
-/// All that an input holds, up to a little more than a configuration may have.
-fn read_all<R: Read>(alloc: Global, input: &mut R) -> io::Result<Vec<u8>> {
-    let mut text = Vec::new(alloc);
-    let mut chunk = [0u8; 4096];
-    while text.len() < 4_194_305 {
-        let count = input.read(&mut chunk)?;
-        if count == 0 {
-            return Ok(text);
-        }
-        text.extend_from_slice(&chunk[..count])?;
-    }
-    Ok(text)
-}
+/// One byte more than a configuration may have.
+const MOST_BYTES: usize = 4_194_305;
 
 /// What a fault names.
 fn subject_of(fault: &PolicyFault) -> &[u8] {
@@ -138,8 +129,7 @@ fn report(alloc: Global, input: &[u8]) -> Result<Vec<u8>, AllocError> {
 }
 
 fn main(rt: HostRuntime) -> ExitCode {
-    let mut input = rt.stdin();
-    let Ok(text) = read_all(rt.alloc(), &mut input) else {
+    let Ok(text) = read_front(rt.alloc(), &mut StdIn::new(rt.stdin()), MOST_BYTES) else {
         return ExitCode::from(2);
     };
     let Ok(answer) = report(rt.alloc(), text.as_slice()) else {
