@@ -1,12 +1,8 @@
 pub mod Numbers
 pub mod Readings
 pub mod Flags
-pub mod Statuses
-pub mod Texts
 pub mod Lists
 pub mod Variants
-pub mod Contents
-pub mod Hashes
 pub mod OutsideProfile
 pub mod Properties
 pub mod Filled

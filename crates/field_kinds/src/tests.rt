@@ -1,9 +1,8 @@
-//! Each kind at bodies from the formats: what is told of a refused one, and what is written of one
-//! that is read.
+//! Each kind at bodies from the formats, those of `text_kinds` among them: what is told of a refused
+//! one, and what is written of one that is read.
 use crate::{
-    ByteSize, ContentType, Contents, Flag, HashText, Html, LimitedList, LimitedText, Message,
-    NoMessage, NoText, PageSize, Properties, QueryNames, RequestId, StatusName, VariantMap, laws,
-    optional_filled,
+    ByteSize, Flag, LimitedList, NoMessage, NoText, PageSize, Properties, QueryNames, VariantMap,
+    laws, optional_filled,
 };
 use json_fields::{
     BodyFault, FaultKind, InvocationName, Name, ReadFault, Tag, Written, path_text, read_body,
@@ -13,6 +12,9 @@ use lists::Listed;
 use std::alloc::Global;
 use std::process::Abort;
 use std::test::Fail;
+use text_kinds::{
+    ContentType, Contents, HashText, Html, LimitedText, Message, RequestId, StatusName,
+};
 
 #[derive(Clone, Copy)]
 enum Kind {

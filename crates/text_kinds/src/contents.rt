@@ -7,8 +7,8 @@ ghost use Rattle.json_fields.specs.Kinds.{empty_text};
 ghost use Rattle.json_fields.specs.Texts.{bad_value, IsText};
 ghost use Rattle.json_fields.specs.Writing.{IsWritten};
 ghost use Rattle.serde_json.specs.Data.{string};
-ghost use Rattle.field_kinds.specs.Texts.{a_string, is_blank};
-ghost use Rattle.field_kinds.specs.Contents.{contents_why, contents_why_of, Encodes};
+ghost use Rattle.text_kinds.specs.Texts.{a_string, is_blank};
+ghost use Rattle.text_kinds.specs.Contents.{contents_why, contents_why_of, Encodes};
 
 use base64::DecodeAllocError;
 use base64::engine::general_purpose::STANDARD;
@@ -103,8 +103,8 @@ impl Contents {
 impl Form for Contents {
     ghost use Rattle.json_fields.specs.Kinds.{empty_text};
     ghost use Rattle.json_fields.specs.Texts.{IsText};
-    ghost use Rattle.field_kinds.specs.Texts.{a_string};
-    ghost use Rattle.field_kinds.specs.Contents.{contents_why, contents_why_of, Encodes};
+    ghost use Rattle.text_kinds.specs.Texts.{a_string};
+    ghost use Rattle.text_kinds.specs.Contents.{contents_why, contents_why_of, Encodes};
 
     ghost fault = { a_string contents_why };
 
@@ -135,7 +135,7 @@ fn encoded(alloc: Global, bytes: &[u8]) -> Result<String, AllocError>
 
 impl Written for Contents {
     ghost use Rattle.serde_json.specs.Data.{string};
-    ghost use Rattle.field_kinds.specs.Texts.{is_blank};
+    ghost use Rattle.text_kinds.specs.Texts.{is_blank};
 
     ghost json = { λ c. string (encode_of standard c) };
 

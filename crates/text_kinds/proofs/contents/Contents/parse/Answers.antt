@@ -5,8 +5,8 @@ use Rattle.base64.specs.GeneralPurpose.{encode_of}
 use Rattle.json_fields.specs.Faults.{Says}
 use Rattle.json_fields.specs.Texts.{bad_value}
 use Rattle.json_fields.specs.declared.whys.Why.{Why}
-use Rattle.field_kinds.proofs.ContentLaws.{why_decoded, why_refused, few, only_base64}
-use Rattle.field_kinds.proofs.contents.Contents.parse.Goals as goal
+use Rattle.text_kinds.proofs.ContentLaws.{why_decoded, why_refused, few, only_base64}
+use Rattle.text_kinds.proofs.contents.Contents.parse.Goals as goal
 
 pub returns-in-Ok-clause-ok : goal.returns-in-Ok-clause-ok
 returns-in-Ok-clause-ok c =

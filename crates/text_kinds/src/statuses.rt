@@ -1,6 +1,6 @@
 //! How a test ended, by name.
 ghost use Rattle.std.specs.Prelude.{◌≡◌};
-ghost use Rattle.field_kinds.specs.Statuses.{no_status, status_of, status_name};
+ghost use Rattle.text_kinds.specs.Statuses.{no_status, status_of, status_name};
 ghost use Rattle.serde_json.specs.View.{view};
 
 use json_fields::{FaultKind, Form, ReadFault, Why, Written};
@@ -43,7 +43,7 @@ pub struct StatusName {
 }
 
 impl Form for StatusName {
-    ghost use Rattle.field_kinds.specs.Statuses.{a_status, IsStatus, no_status};
+    ghost use Rattle.text_kinds.specs.Statuses.{a_status, IsStatus, no_status};
 
     ghost fault = { a_status };
 
@@ -72,7 +72,7 @@ impl Form for StatusName {
 impl Written for StatusName {
     ghost use Rattle.std.specs.Prelude.{false};
     ghost use Rattle.serde_json.specs.Data.{string};
-    ghost use Rattle.field_kinds.specs.Statuses.{status_name};
+    ghost use Rattle.text_kinds.specs.Statuses.{status_name};
 
     ghost json = { λ x. string (status_name x.status) };
 

@@ -3,7 +3,7 @@ ghost use Rattle.std.specs.Prelude.{◌≡◌, ℕ, Bool, None, Some, not, optio
 ghost use Rattle.std.specs.List.{position};
 ghost use Rattle.json_fields.specs.Faults.{Says};
 ghost use Rattle.json_fields.specs.Texts.{bad_value};
-ghost use Rattle.field_kinds.specs.Texts.{limited_why, any_byte, printed, inked, most_of_html, most_of_message, most_of_content_type, most_of_request_id};
+ghost use Rattle.text_kinds.specs.Texts.{limited_why, any_byte, printed, inked, most_of_html, most_of_message, most_of_content_type, most_of_request_id};
 
 use json_fields::{FaultKind, Form, ReadFault, Why, Written, is_empty_text};
 use serde_json::Value;
@@ -107,7 +107,7 @@ pub struct LimitedText<R: TextRule> {
 
 impl<R: TextRule> Model for LimitedText<R> {
     ghost use Rattle.std.specs.Prelude.{◌≡◌, ℕ, List, None, string_bytes};
-    ghost use Rattle.field_kinds.specs.Texts.{limited_why};
+    ghost use Rattle.text_kinds.specs.Texts.{limited_why};
 
     ghost Value = { List ℕ };
 
@@ -167,7 +167,7 @@ impl<R: TextRule> LimitedText<R> {
 impl<R: TextRule> Form for LimitedText<R> {
     ghost use Rattle.json_fields.specs.Kinds.{empty_text};
     ghost use Rattle.json_fields.specs.Texts.{IsText, IsSame};
-    ghost use Rattle.field_kinds.specs.Texts.{a_string, limited_why};
+    ghost use Rattle.text_kinds.specs.Texts.{a_string, limited_why};
 
     ghost fault = { a_string (limited_why R.limit R.allowed) };
 
@@ -189,7 +189,7 @@ impl<R: TextRule> Form for LimitedText<R> {
 
 impl<R: TextRule> Written for LimitedText<R> {
     ghost use Rattle.serde_json.specs.Data.{string};
-    ghost use Rattle.field_kinds.specs.Texts.{is_blank};
+    ghost use Rattle.text_kinds.specs.Texts.{is_blank};
 
     ghost json = { λ x. string x };
 

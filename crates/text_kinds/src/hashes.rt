@@ -3,7 +3,7 @@ ghost use Rattle.std.specs.Prelude.{◌≡◌, ◌≤◌, ◌+◌, None, Some, n
 ghost use Rattle.std.specs.List.{position};
 ghost use Rattle.json_fields.specs.Faults.{Says};
 ghost use Rattle.json_fields.specs.Texts.{bad_value};
-ghost use Rattle.field_kinds.specs.Hashes.{is_lower_hex, digit_place, end_place, wrong_place, hash_why};
+ghost use Rattle.text_kinds.specs.Hashes.{is_lower_hex, digit_place, end_place, wrong_place, hash_why};
 
 use json_fields::{FaultKind, Form, ReadFault, Why, Written, is_empty_text};
 use name_parts::bad_in_literal;
@@ -19,7 +19,7 @@ pub struct HashText {
 
 impl Model for HashText {
     ghost use Rattle.std.specs.Prelude.{◌≡◌, ℕ, List, None, string_bytes};
-    ghost use Rattle.field_kinds.specs.Hashes.{hash_why};
+    ghost use Rattle.text_kinds.specs.Hashes.{hash_why};
 
     ghost Value = { List ℕ };
 
@@ -116,8 +116,8 @@ impl HashText {
 impl Form for HashText {
     ghost use Rattle.json_fields.specs.Kinds.{empty_text};
     ghost use Rattle.json_fields.specs.Texts.{IsText, IsSame};
-    ghost use Rattle.field_kinds.specs.Texts.{a_string};
-    ghost use Rattle.field_kinds.specs.Hashes.{hash_why};
+    ghost use Rattle.text_kinds.specs.Texts.{a_string};
+    ghost use Rattle.text_kinds.specs.Hashes.{hash_why};
 
     ghost fault = { a_string hash_why };
 

@@ -10,8 +10,8 @@ use Rattle.json_fields.specs.Kinds.{empty_text}
 use Rattle.json_fields.specs.Texts.{IsText}
 use Rattle.json_fields.specs.Writing.{IsWritten}
 use Rattle.json_fields.specs.declared.whys.Why.TheVariants.{NotBase64, TooLong}
-use Rattle.field_kinds.specs.Contents.{contents_why, contents_why_of, Encodes}
-use Rattle.field_kinds.specs.Texts.{a_string, is_blank}
+use Rattle.text_kinds.specs.Contents.{contents_why, contents_why_of, Encodes}
+use Rattle.text_kinds.specs.Texts.{a_string, is_blank}
 
 pub why_decoded : (text b : List ℕ) → decode_of standard text ≡ Ok b → contents_why text ≡ contents_why_of (Some b)
 why_decoded text b e = ap contents_why_of (decoded_of-ok standard text b e)

@@ -1,7 +1,7 @@
 use Rattle.std.proofs.Common.{arith}
 use Rattle.base64.specs.GeneralPurpose.{IsBytes}
-use Rattle.field_kinds.proofs.ContentLaws.{contents_written}
-use Rattle.field_kinds.proofs.contents.encoded.Goals as goal
+use Rattle.text_kinds.proofs.ContentLaws.{contents_written}
+use Rattle.text_kinds.proofs.contents.encoded.Goals as goal
 
 pub returns-clause-again : goal.returns-clause-again
 returns-clause-again c =
