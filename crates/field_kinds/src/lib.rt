@@ -20,7 +20,7 @@ mod variants;
 pub use filled::optional_filled;
 pub use flags::Flag;
 pub use limited_lists::{LimitedList, ListRule, QueryNames};
-pub use numbers::{ByteSize, PageSize};
+pub use numbers::{ByteSize, NumberRule, PageSize, Whole};
 pub use outside_profile::{NoMessage, NoText};
 pub use properties::Properties;
 pub use variants::VariantMap;

@@ -11,7 +11,7 @@ ghost use Rattle.field_kinds.specs.Readings.{answer};
 use json_fields::{FaultKind, Form, ReadFault, Why, Written};
 use serde_json::{Number, Value};
 use std::alloc::{AllocError, Global};
-use std::marker::Model;
+use std::marker::{Model, PhantomData};
 
 fn are_digits(text: &[u8]) -> bool
     ensures { result ≡ list_all is_ascii_digit text.now }
@@ -140,48 +140,121 @@ fn read_whole(alloc: Global, most: u64, value: &Value) -> Result<u64, ReadFault>
     }
 }
 
-/// The size of a page, or a limit of results: at most 2^31 - 1.
-#[derive(Debug, Drop)]
-pub struct PageSize {
-    value: u32,
+/// What whole numbers a field may have, and how they are written.
+pub trait NumberRule: Drop {
+    ghost use Rattle.std.specs.Prelude.{◌≤◌, ◌^◌, ◌<◌, ℕ, false, IfOk, OnOk};
+    ghost use Rattle.serde_json.specs.Data.{Data};
+    ghost use Rattle.json_fields.specs.Kinds.{never_empty};
+    ghost use Rattle.json_fields.specs.Writing.{IsWritten};
+    ghost use Rattle.field_kinds.specs.Numbers.{a_whole, IsSaid};
+
+    ghost greatest: { ℕ };
+
+    ghost written: { ℕ → Data };
+
+    /// The greatest number that is taken, which is below 2^63.
+    fn most() -> u64
+        ensures most { result ≡ greatest }
+        ensures bound { greatest < 2 ^ 63 };
+
+    /// What is written of a number, which is read again as this number where it isn't too great.
+    /// `Err` where there is no memory for it.
+    fn write(alloc: Global, number: u64) -> Result<Value, AllocError>
+        ensures value { IfOk result (λ v. view v ≡ written number) }
+        ensures again { OnOk result (number ≤ greatest
+            → IsWritten (a_whole greatest) IsSaid never_empty (λ _. false) number (written number)) };
 }
 
-impl Model for PageSize {
+/// The size of a page, or a limit of results: at most 2^31 - 1, written as a number.
+#[derive(Debug, Drop)]
+pub struct PageSize;
+
+impl NumberRule for PageSize {
+    ghost use Rattle.serde_json.specs.Data.{number, unsigned};
+    ghost use Rattle.field_kinds.specs.Numbers.{most_of_page};
+
+    ghost greatest = { most_of_page };
+
+    ghost written = { λ n. number (unsigned n) };
+
+    fn most() -> u64 {
+        2147483647
+    }
+
+    fn write(_alloc: Global, number: u64) -> Result<Value, AllocError> {
+        Ok(Value::Number(Number::from(number)))
+    }
+}
+
+/// How many bytes there are: at most 2^63 - 1, written as a decimal text.
+#[derive(Debug, Drop)]
+pub struct ByteSize;
+
+impl NumberRule for ByteSize {
+    ghost use Rattle.std.specs.Prelude.{decimal};
+    ghost use Rattle.serde_json.specs.Data.{string};
+    ghost use Rattle.field_kinds.specs.Numbers.{most_of_bytes};
+
+    ghost greatest = { most_of_bytes };
+
+    ghost written = { λ n. string (decimal n) };
+
+    fn most() -> u64 {
+        9223372036854775807
+    }
+
+    fn write(alloc: Global, number: u64) -> Result<Value, AllocError> {
+        let text = format!(in alloc; "{number}")?;
+        Ok(Value::String(text))
+    }
+}
+
+/// A whole number that a rule allows. Contracts see it as the number.
+#[derive(Debug, Drop)]
+pub struct Whole<R: NumberRule> {
+    value: u64,
+    rule: PhantomData<R>,
+}
+
+impl<R: NumberRule> Model for Whole<R> {
     ghost use Rattle.std.specs.Prelude.{ℕ, ◌≤◌};
 
     ghost Value = { ℕ };
 
     ghost view = { λ n. n.value };
 
-    ghost invariant = { λ n. n.value ≤ 2147483647 };
+    ghost invariant = { λ n. n.value ≤ R.greatest };
 }
 
-impl PageSize {
-    /// The size of a page, or `None` where it is greater than 2^31 - 1.
-    pub fn new(value: u32) -> Option<PageSize>
-        ensures { MatchOption result (2147483647 < value)
-            (λ n. (n ≡ value) × (value ≤ 2147483647)) }
+impl<R: NumberRule> Whole<R> {
+    /// The number, or `None` where it is too great for the rule.
+    pub fn new(value: u64) -> Option<Whole<R>>
+        ensures { MatchOption result (R.greatest < value)
+            (λ n. (n ≡ value) × (value ≤ R.greatest)) }
     {
-        if value > 2147483647 {
+        if value > R::most() {
             return None;
         }
-        Some(PageSize { value })
+        Some(Whole {
+            value,
+            rule: PhantomData,
+        })
     }
 
     /// The number.
-    pub fn get(&self) -> u32
+    pub fn get(&self) -> u64
         ensures value { result ≡ self.now }
-        ensures most { result ≤ 2147483647 }
+        ensures most { result ≤ R.greatest }
     {
         self.value
     }
 }
 
-impl Form for PageSize {
+impl<R: NumberRule> Form for Whole<R> {
     ghost use Rattle.json_fields.specs.Kinds.{never_empty};
-    ghost use Rattle.field_kinds.specs.Numbers.{a_whole, IsSaid, most_of_page};
+    ghost use Rattle.field_kinds.specs.Numbers.{a_whole, IsSaid};
 
-    ghost fault = { a_whole most_of_page };
+    ghost fault = { a_whole R.greatest };
 
     ghost means = { IsSaid };
 
@@ -191,99 +264,25 @@ impl Form for PageSize {
         false
     }
 
-    fn read(alloc: Global, value: &Value) -> Result<PageSize, ReadFault> {
-        match read_whole(alloc, 2147483647, value) {
-            Ok(number) => Ok(PageSize {
-                value: number as u32,
+    fn read(alloc: Global, value: &Value) -> Result<Whole<R>, ReadFault> {
+        match read_whole(alloc, R::most(), value) {
+            Ok(value) => Ok(Whole {
+                value,
+                rule: PhantomData,
             }),
             Err(fault) => Err(fault),
         }
     }
 }
 
-impl Written for PageSize {
+impl<R: NumberRule> Written for Whole<R> {
     ghost use Rattle.std.specs.Prelude.{false};
-    ghost use Rattle.serde_json.specs.Data.{number, unsigned};
 
-    ghost json = { λ n. number (unsigned n) };
-
-    ghost blank = { λ _. false };
-
-    fn write(&self, _alloc: Global) -> Result<Value, AllocError> {
-        Ok(Value::Number(Number::from(self.get())))
-    }
-}
-
-/// How many bytes there are: at most 2^63 - 1.
-#[derive(Debug, Drop)]
-pub struct ByteSize {
-    value: u64,
-}
-
-impl Model for ByteSize {
-    ghost use Rattle.std.specs.Prelude.{ℕ, ◌≤◌};
-
-    ghost Value = { ℕ };
-
-    ghost view = { λ n. n.value };
-
-    ghost invariant = { λ n. n.value ≤ 9223372036854775807 };
-}
-
-impl ByteSize {
-    /// So many bytes, or `None` where they are more than 2^63 - 1.
-    pub fn new(value: u64) -> Option<ByteSize>
-        ensures { MatchOption result (9223372036854775807 < value)
-            (λ n. (n ≡ value) × (value ≤ 9223372036854775807)) }
-    {
-        if value > 9223372036854775807 {
-            return None;
-        }
-        Some(ByteSize { value })
-    }
-
-    /// The number.
-    pub fn get(&self) -> u64
-        ensures value { result ≡ self.now }
-        ensures most { result ≤ 9223372036854775807 }
-    {
-        self.value
-    }
-}
-
-impl Form for ByteSize {
-    ghost use Rattle.json_fields.specs.Kinds.{never_empty};
-    ghost use Rattle.field_kinds.specs.Numbers.{a_whole, IsSaid, most_of_bytes};
-
-    ghost fault = { a_whole most_of_bytes };
-
-    ghost means = { IsSaid };
-
-    ghost empty = { never_empty };
-
-    fn is_empty(_value: &Value) -> bool {
-        false
-    }
-
-    fn read(alloc: Global, value: &Value) -> Result<ByteSize, ReadFault> {
-        match read_whole(alloc, 9223372036854775807, value) {
-            Ok(value) => Ok(ByteSize { value }),
-            Err(fault) => Err(fault),
-        }
-    }
-}
-
-impl Written for ByteSize {
-    ghost use Rattle.std.specs.Prelude.{false, decimal};
-    ghost use Rattle.serde_json.specs.Data.{string};
-
-    ghost json = { λ n. string (decimal n) };
+    ghost json = { λ n. R.written n };
 
     ghost blank = { λ _. false };
 
     fn write(&self, alloc: Global) -> Result<Value, AllocError> {
-        let number = self.get();
-        let text = format!(in alloc; "{number}")?;
-        Ok(Value::String(text))
+        R::write(alloc, self.get())
     }
 }

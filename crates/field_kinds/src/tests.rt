@@ -2,7 +2,7 @@
 //! one, and what is written of one that is read.
 use crate::{
     ByteSize, Flag, LimitedList, NoMessage, NoText, PageSize, Properties, QueryNames, VariantMap,
-    laws, optional_filled,
+    Whole, laws, optional_filled,
 };
 use json_fields::{
     BodyFault, FaultKind, InvocationName, Name, ReadFault, Tag, Written, path_text, read_body,
@@ -38,7 +38,7 @@ enum Kind {
 
 /// A kind, a body, and what is told of it: the path and the fault of a refused one, and else the
 /// compact text of what is written of its value.
-const ROWS: [(Kind, &str, &str); 78] = [
+const ROWS: [(Kind, &str, &str); 79] = [
     (Kind::Page, "2147483647", "2147483647"),
     (Kind::Page, r#""2147483648""#, "body OutOfRange"),
     (Kind::Page, r#""-99999999999999999999999""#, "body Negative"),
@@ -127,6 +127,7 @@ const ROWS: [(Kind, &str, &str); 78] = [
         r#""sha256:ba7816bf8f01cfea414140de5dae2223b00361a396177a9cb410ff61f20015ad""#,
     ),
     (Kind::Hash, r#""""#, "body Empty"),
+    (Kind::Hash, "5", "body WrongKind"),
     (Kind::Hash, r#""sha1:""#, "body BadByte 3"),
     (
         Kind::Properties,
@@ -327,8 +328,8 @@ fn told<T: Written>(alloc: Global, body: &str) -> Result<String, Fail> {
 
 fn told_of(alloc: Global, kind: Kind, body: &str) -> Result<String, Fail> {
     match kind {
-        Kind::Page => told::<PageSize>(alloc, body),
-        Kind::Bytes => told::<ByteSize>(alloc, body),
+        Kind::Page => told::<Whole<PageSize>>(alloc, body),
+        Kind::Bytes => told::<Whole<ByteSize>>(alloc, body),
         Kind::Flag => told::<Flag>(alloc, body),
         Kind::Status => told::<StatusName>(alloc, body),
         Kind::Html => told::<LimitedText<Html>>(alloc, body),
@@ -472,7 +473,8 @@ fn empty_counts_as_unset(rt: HostRuntime) -> Result<(), Fail> {
     check_kept(&rt, rt.alloc(), "{\"a\" : 1}", "{\"a\":1}")?;
     let variant = r#"{"def":{"b":"2","a":"1"}}"#;
     check_pairs(&rt, rt.alloc(), variant, &[("a", "1"), ("b", "2")])?;
-    assert!(rt; PageSize::new(2147483648).is_none() && ByteSize::new(0).is_some());
+    assert!(rt; Whole::<PageSize>::new(2147483648).is_none());
+    assert!(rt; Whole::<ByteSize>::new(0).is_some());
     laws::only_empty_messages_are_read();
     laws::only_empty_texts_are_read();
     Ok(())

@@ -35,7 +35,7 @@ enum Kind {
 
 /// A kind, a body, and what is told: the path and the fault of a refused one, and else the compact
 /// text of what is written of its value, or `read` where its kind isn't written.
-const ROWS: [(Kind, &str, &str); 40] = [
+const ROWS: [(Kind, &str, &str); 41] = [
     (Kind::InvocationId, r#""u-a""#, r#""u-a""#),
     (Kind::InvocationId, "5", "body WrongKind"),
     (Kind::InvocationId, "null", "body WrongKind"),
@@ -44,6 +44,11 @@ const ROWS: [(Kind, &str, &str); 40] = [
     (Kind::TestId, r#""a/\u00e9 b""#, r#""a/é b""#),
     (Kind::ResultId, r#""r1""#, r#""r1""#),
     (Kind::ResultId, r#""""#, "body Empty"),
+    (
+        Kind::ResultId,
+        r#""aaaaaaaaaaaaaaaaaaaaaaaaaaaaaaaaa""#,
+        "body TooLong 33",
+    ),
     (Kind::ArtifactId, r#""a/b""#, r#""a/b""#),
     (Kind::ArtifactId, r#""/a""#, "body BadByte 0"),
     (

@@ -20,6 +20,7 @@ use Rattle.message_forms.specs.declared.requests.Request.{Request}
 use Rattle.message_forms.specs.declared.requests.Request.TheVariants.{CreateInvocation, UpdateInvocation, FinalizeInvocation, UpdateIncludedInvocations, GetInvocation}
 
 pub method_named : (q : Request) → method_of (service_of (method_asked q)) (name_of (method_asked q)) ≡ Some (method_asked q)
+unfolding method_of
 method_named (CreateInvocation id realm deadline tags) = refl
 method_named (UpdateInvocation id deadline tags) = refl
 method_named (FinalizeInvocation id) = refl

@@ -2,7 +2,8 @@
 ghost use Rattle.std.specs.Prelude.{◌≡◌, None, IfOk, IfErr};
 ghost use Rattle.serde_json.specs.View.{view};
 ghost use Rattle.json_fields.specs.Faults.{Says};
-ghost use Rattle.message_forms.specs.Methods.{recorder_method, reader_method, method_of, service_of, name_of, request_fault, Means};
+ghost use Rattle.std.specs.List.{find};
+ghost use Rattle.message_forms.specs.Methods.{is_called, method_of, service_of, name_of, request_fault, Means};
 
 use crate::requests::{Include, Request, read_create, read_include};
 use crate::updates::{Named, Update, read_update};
@@ -25,34 +26,30 @@ pub enum Method {
     GetInvocation,
 }
 
-/// The method of the recorder with this name.
-fn of_recorder(name: &[u8]) -> Option<Method>
-    ensures { result ≡ recorder_method name.now }
+/// Every method.
+const EVERY: [Method; 5] = [
+    Method::CreateInvocation,
+    Method::UpdateInvocation,
+    Method::FinalizeInvocation,
+    Method::UpdateIncludedInvocations,
+    Method::GetInvocation,
+];
+
+/// The services, as pRPC names them.
+const RECORDER: &str = "luci.resultdb.v1.Recorder";
+
+const READER: &str = "luci.resultdb.v1.ResultDB";
+
+/// The first of these methods that has this name at this service.
+fn find_method(methods: &[Method], service: &[u8], name: &[u8]) -> Option<Method>
+    ensures { result ≡ find (is_called service.now name.now) methods.now }
 {
-    if name == b"CreateInvocation".as_slice() {
-        return Some(Method::CreateInvocation);
-    }
-    if name == b"UpdateInvocation".as_slice() {
-        return Some(Method::UpdateInvocation);
-    }
-    if name == b"FinalizeInvocation".as_slice() {
-        return Some(Method::FinalizeInvocation);
-    }
-    if name == b"UpdateIncludedInvocations".as_slice() {
-        return Some(Method::UpdateIncludedInvocations);
+    for method in methods {
+        if method.service().as_bytes() == service && method.name().as_bytes() == name {
+            return Some(*method);
+        }
     }
     None
-}
-
-/// The method of the reader with this name.
-fn of_reader(name: &[u8]) -> Option<Method>
-    ensures { result ≡ reader_method name.now }
-{
-    if name == b"GetInvocation".as_slice() {
-        Some(Method::GetInvocation)
-    } else {
-        None
-    }
 }
 
 impl Method {
@@ -60,12 +57,20 @@ impl Method {
     pub fn of(service: &[u8], name: &[u8]) -> Option<Method>
         ensures { result ≡ method_of service.now name.now }
     {
-        if service == b"luci.resultdb.v1.Recorder".as_slice() {
-            of_recorder(name)
-        } else if service == b"luci.resultdb.v1.ResultDB".as_slice() {
-            of_reader(name)
-        } else {
-            None
+        find_method(EVERY.as_slice(), service, name)
+    }
+
+    /// The service that has the method, and the method's name there.
+    fn names(self) -> (&'static str, &'static str)
+        ensures service { result.0.now ≡ service_of self }
+        ensures name { result.1.now ≡ name_of self }
+    {
+        match self {
+            Method::CreateInvocation => (RECORDER, "CreateInvocation"),
+            Method::UpdateInvocation => (RECORDER, "UpdateInvocation"),
+            Method::FinalizeInvocation => (RECORDER, "FinalizeInvocation"),
+            Method::UpdateIncludedInvocations => (RECORDER, "UpdateIncludedInvocations"),
+            Method::GetInvocation => (READER, "GetInvocation"),
         }
     }
 
@@ -73,26 +78,14 @@ impl Method {
     pub fn service(self) -> &'static str
         ensures { result.now ≡ service_of self }
     {
-        match self {
-            Method::CreateInvocation => "luci.resultdb.v1.Recorder",
-            Method::UpdateInvocation => "luci.resultdb.v1.Recorder",
-            Method::FinalizeInvocation => "luci.resultdb.v1.Recorder",
-            Method::UpdateIncludedInvocations => "luci.resultdb.v1.Recorder",
-            Method::GetInvocation => "luci.resultdb.v1.ResultDB",
-        }
+        self.names().0
     }
 
     /// The method's name.
     pub fn name(self) -> &'static str
         ensures { result.now ≡ name_of self }
     {
-        match self {
-            Method::CreateInvocation => "CreateInvocation",
-            Method::UpdateInvocation => "UpdateInvocation",
-            Method::FinalizeInvocation => "FinalizeInvocation",
-            Method::UpdateIncludedInvocations => "UpdateIncludedInvocations",
-            Method::GetInvocation => "GetInvocation",
-        }
+        self.names().1
     }
 
     /// Reads the request that a value is by the method's fields.

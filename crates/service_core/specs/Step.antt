@@ -20,8 +20,8 @@ use Rattle.request_rules.specs.Order.{IsFirst, IsUnbroken}
 use Rattle.request_rules.specs.Broken.{Scene, Wants, Broken}
 use Rattle.service_core.specs.Answers.{IsReplyTo}
 
--- The moment of a call: what the clock says, brought into the years from 1970 to 9998, and no
--- earlier than the last change.
+-- The moment of a call: what the clock says, brought into 1970-01-01T00:00:00Z to
+-- 9999-01-01T00:00:00Z, and no earlier than the last change.
 abbrev pub moment_of : ℤ → ℤ → ℤ
 moment_of last now = int_max last (int_max (pos 0) (int_min now latest_call))
 

@@ -73,8 +73,8 @@ impl Core {
         self.world.rows()
     }
 
-    /// The moment of a call: what the clock says, in microseconds since 1970, brought into the
-    /// years from 1970 to 9998, and no earlier than the last change.
+    /// The moment of a call: what the clock says, in microseconds since 1970, brought into
+    /// 1970-01-01T00:00:00Z to 9999-01-01T00:00:00Z, and no earlier than the last change.
     pub fn moment_of(&self, now: i64) -> Moment
         ensures value { result ≡ moment_of self.now.world.last now }
         ensures in_range { IsCallMoment result }
@@ -327,7 +327,7 @@ impl Core {
     }
 }
 
-/// The clock's answer, brought into the years from 1970 to 9998.
+/// The clock's answer, brought into 1970-01-01T00:00:00Z to 9999-01-01T00:00:00Z.
 fn within_years(now: i64) -> i64
     ensures value { result ≡ int_max (pos 0) (int_min now latest_call) }
     ensures in_range { IsCallMoment result }

@@ -18,6 +18,9 @@ use serde_json::Value;
 use std::alloc::{AllocError, Global};
 use std::marker::Model;
 
+/// How many bytes contents may have.
+const MOST_BYTES: usize = 1_048_576;
+
 /// At most 1,048,576 bytes, which are written in standard base64 with padding (RFC 4648, section
 /// 4).
 #[derive(Debug, Drop)]
@@ -46,7 +49,7 @@ fn kept(alloc: Global, bytes: Vec<u8>) -> Result<Contents, ReadFault>
     ensures ok { IfOk result (λ c. (c ≡ bytes.items) × (length bytes.items ≤ 1048576)) }
     ensures err { IfErr result (λ e. Says e (bad_value (contents_why_of (Some bytes.items)))) }
 {
-    if bytes.len() > 1048576 {
+    if bytes.len() > MOST_BYTES {
         return Err(refused(alloc, Why::TooLong(bytes.len())));
     }
     Ok(Contents {
@@ -75,7 +78,7 @@ impl Contents {
         ensures { MatchOption result (1048576 < length bytes.items)
             (λ c. (c ≡ bytes.items) × (length bytes.items ≤ 1048576)) }
     {
-        if bytes.len() > 1048576 {
+        if bytes.len() > MOST_BYTES {
             return None;
         }
         Some(Contents {

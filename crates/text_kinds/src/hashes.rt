@@ -11,6 +11,9 @@ use serde_json::Value;
 use std::alloc::{AllocError, Global};
 use std::marker::Model;
 
+/// How many bytes a hash has: its front and its digits.
+const WHOLE: usize = 71;
+
 /// A SHA-256 as a text: `sha256:` and 64 lower-case hexadecimal digits.
 #[derive(Debug, Drop)]
 pub struct HashText {
@@ -55,7 +58,7 @@ fn digit_place(text: &[u8]) -> Option<usize>
 fn end_place(text: &[u8]) -> Option<usize>
     ensures { result ≡ end_place text.now }
 {
-    if text.len() < 71 {
+    if text.len() < WHOLE {
         Some(text.len())
     } else {
         None
@@ -81,7 +84,7 @@ fn why_refused(text: &[u8]) -> Option<Why>
     if text.is_empty() {
         return Some(Why::Empty);
     }
-    if text.len() > 71 {
+    if text.len() > WHOLE {
         return Some(Why::TooLong(text.len()));
     }
     match wrong_place(text) {
