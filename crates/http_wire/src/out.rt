@@ -6,12 +6,13 @@ ghost use Rattle.call_forms.specs.ReplyBytes.{answer_bytes, standin_bytes};
 ghost use Rattle.http_wire.specs.Out.{farewell_bytes, farewell_text};
 
 use crate::message::WireFault;
-use crate::reply_head::{Reply, put, reply_head};
+use crate::reply_head::{Reply, SHORT_BODY, put, reply_head};
 use call_forms::{Answer, Standin};
 use outside::{Link, WriteEnd, write_whole};
 
-/// Writes a reply: its head in one write, and its body in a second one, where the link takes them
-/// whole.
+/// Writes a reply: in one write where its body is short, so that the peer waits for no second one;
+/// else its head, and then its body, which isn't copied. Where the link takes less at a time, in
+/// more.
 pub fn write_response<L: Link>(link: &mut L, answer: &Answer, close: bool) -> Result<(), WriteEnd>
     ensures written { WritesWhole (L.ends link.old).outgoing (answer_bytes answer.now close) result
         (L.ends link.new).outgoing }
@@ -19,8 +20,12 @@ pub fn write_response<L: Link>(link: &mut L, answer: &Answer, close: bool) -> Re
     ensures holds { L.holds link.new ≡ L.holds link.old }
 {
     let body = answer.body.as_slice();
-    let head = reply_head(answer.status, answer.code, &answer.token, close, body.len());
-    write_both(link, head.as_slice(), body)
+    let mut reply = reply_head(answer.status, answer.code, &answer.token, close, body.len());
+    if body.len() > SHORT_BODY {
+        return write_both(link, reply.as_slice(), body);
+    }
+    put(&mut reply, body);
+    write_whole(link, reply.as_slice())
 }
 
 /// Writes a stand-in for an answer.

@@ -9,8 +9,11 @@ use arrayvec::ArrayVec;
 use http::StatusCode;
 use itoa::Buffer;
 
+/// The most bytes of a body that goes out together with its head, in one write.
+pub const SHORT_BODY: usize = 760;
+
 /// The most bytes that a reply's head and a short body have, rounded up.
-const ROOM: usize = 320;
+const ROOM: usize = 1024;
 
 /// A reply, or the front of one.
 pub type Reply = ArrayVec<u8, ROOM>;

@@ -717,7 +717,22 @@ fn are_written(
 fn replies_are_written_whole(rt: HostRuntime) -> Result<(), Fail> {
     let alloc = rt.alloc();
     let answer = answer(alloc, b'a', b"{}")?;
-    assert!(rt; are_written(alloc, &answer, &WireFault::NoLength, &[5, 6, 6], WRITTEN)?);
+    assert!(rt; are_written(alloc, &answer, &WireFault::NoLength, &[4, 5, 5], WRITTEN)?);
+    Ok(())
+}
+
+/// Whether a reply with a body of so many bytes passes a link whose second write fails.
+fn passes_in_one_write(alloc: Global, len: usize) -> Result<bool, AllocError> {
+    let mut link = MemoryLink::new(alloc, Vec::new(alloc), Vec::from_slice(alloc, &[2])?)?;
+    let body = vec![in alloc; b'x'; len]?;
+    let answer = answer(alloc, b'a', body.as_slice())?;
+    Ok(write_response(&mut link, &answer, false).is_ok() && link.written().ends_with(&body))
+}
+
+#[test]
+fn a_short_body_goes_out_with_its_head(rt: HostRuntime) -> Result<(), Fail> {
+    assert!(rt; passes_in_one_write(rt.alloc(), 760)?);
+    assert!(rt; !passes_in_one_write(rt.alloc(), 761)?);
     Ok(())
 }
 
