@@ -37,6 +37,9 @@ LIFETIME = 48 * 3600 * 1_000_000
 GIVEN = b"2023-11-14T23:13:20Z"  # stands for a deadline that the request gives
 PRINTED = re.compile(r"(\d{4}-\d\d-\d\dT\d\d:\d\d:\d\d)(?:\.(\d{3}|\d{6}))?Z")
 LENGTH = re.compile(rb"Content-Length: (\d+)\r\n")
+CODE = re.compile(rb"\r\nX-Prpc-Grpc-Code: (\d+)\r\n")
+# the gRPC code of each rule, from 1 on
+CODES = dict(enumerate([12, 16, 3, 3, 3, 3, 9, 5, 16, 7, 7, 9, 3, 3, 3, 3, 3, 3, 6, 8, 8], 1))
 
 
 class Wrong(Exception):
@@ -347,11 +350,15 @@ def updating(name, mask, **members):
 
 
 def told(stream, folder):
-    """Runs the program over the stream: of each reply its status, and its text, or of 200 what the text shows."""
+    """Runs the program over the stream: of each reply its status, and its text, or of 200 what the text shows. Its code
+    is that of the rule that the text names, or 0."""
     out, *end = run(stream, folder)
     if end != [b"", 0]:
         raise Wrong(f"ended by {end!r}")
-    return [told_by(int(head.split(b" ")[1]), body) for head, body in replies(out)]
+    got = [told_by(int(head.split(b" ")[1]), body) for head, body in replies(out)]
+    codes = [int(CODE.search(head)[1]) for head, _ in replies(out)]
+    same(codes, [0 if status == 200 else CODES[int(text.split(" ")[0])] for status, text in got])
+    return got
 
 
 def told_by(status, body):
