@@ -14,7 +14,9 @@ import sys
 import tempfile
 import time
 
-TOP = pathlib.Path(__file__).resolve().parent.parent
+sys.path.insert(0, str(pathlib.Path(__file__).resolve().parent.parent / "tests"))
+import harness  # noqa: E402
+
 SETTINGS = {"MALLOC_TRIM_THRESHOLD_": "268435456", "MALLOC_TOP_PAD_": "67108864"}
 REQUESTS, BODY, ROUNDS = 400, 144_000, 5
 
@@ -31,7 +33,7 @@ def request(number):
 
 def run(program, stream, folder, settings):
     """Seconds and page faults of one run, whose input is a file, and the replies."""
-    words = [program, "answer", "--config", TOP / "examples/farm.toml", "--journal", f"{folder}/farm.journal"]
+    words = [program, *harness.words(folder)[1:]]
     environment = {name: value for name, value in os.environ.items() if name not in SETTINGS} | settings
     with open(stream, "rb") as feed, open(f"{folder}/replies", "wb") as replies:
         began = time.perf_counter()
@@ -45,10 +47,9 @@ def run(program, stream, folder, settings):
 
 
 def main(words):
-    program = pathlib.Path(words[0]) if words else TOP / "crates/rdb_program/out/rdb_program"
+    program = pathlib.Path(words[0]) if words else harness.TOP / "crates/rdb_program/out/rdb_program"
     if not words:
-        # Without words it is refused, but built.
-        subprocess.run([TOP / "rdb"], stdin=subprocess.DEVNULL, stderr=subprocess.DEVNULL)
+        harness.build_program()
     with tempfile.TemporaryDirectory() as folder:
         stream = f"{folder}/requests"
         with open(stream, "wb") as file:

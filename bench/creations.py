@@ -10,21 +10,23 @@ import sys
 import tempfile
 import time
 
-TOP = pathlib.Path(__file__).resolve().parent.parent
-RDB = TOP / "rdb"
+sys.path.insert(0, str(pathlib.Path(__file__).resolve().parent.parent / "tests"))
+import harness  # noqa: E402
+
 COUNTS = (2_000, 20_000)
 TURNS = 3  # of each, the fastest counts
-ROUTE = "/prpc/luci.resultdb.v1.Recorder/CreateInvocation"
+TAGS = [{"key": "builder", "value": "linux-rel"}]
 
 
 def requests(count):
     for number in range(count):
-        body = '{"invocationId":"u-%d","invocation":{"realm":"proj:ci","tags":[{"key":"builder","value":"linux-rel"}]}}' % number
-        yield f"POST {ROUTE} HTTP/1.1\r\nAuthorization: Bearer tok-a\r\nContent-Length: {len(body)}\r\n\r\n{body}".encode()
+        body = harness.new(f"u-{number}")
+        body["invocation"]["tags"] = TAGS
+        yield harness.request("CreateInvocation", body)
 
 
 def seconds(path, folder):
-    words = [RDB, "answer", "--config", TOP / "examples/farm.toml", "--journal", f"{folder}/farm.journal"]
+    words = harness.words(folder)
     with open(path, "rb") as feed, open(f"{folder}/replies", "wb") as replies:
         start = time.monotonic()
         subprocess.run(words, stdin=feed, stdout=replies, check=True)

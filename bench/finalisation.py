@@ -6,32 +6,19 @@ to the last (each that includes others waits for the last one that it reaches, t
 Prints the seconds of each and their ratio, which is 10 where the time is linear.
 """
 
-import hashlib
-import hmac
 import pathlib
 import subprocess
 import sys
 import tempfile
 import time
 
-TOP = pathlib.Path(__file__).resolve().parent.parent
-RDB = TOP / "rdb"
+sys.path.insert(0, str(pathlib.Path(__file__).resolve().parent.parent / "tests"))
+import harness  # noqa: E402
+from harness import adding, changing, named, new, request  # noqa: E402
+
 COUNTS = (3_000, 30_000)
 TURNS = 3  # of each, the fastest counts
-SECRET = bytes([0x0B] * 20)  # that of examples/farm.toml
 FINAL = b'"state":"FINALIZED"'
-
-
-def token(name):
-    return hmac.new(SECRET, b"rdb-update/" + name.encode(), hashlib.sha256).hexdigest()
-
-
-def request(method, body, changes=None):
-    shown = f"Update-Token: {token(changes)}\r\n" if changes else ""
-    return (
-        f"POST /prpc/luci.resultdb.v1.{method} HTTP/1.1\r\nAuthorization: Bearer tok-a\r\n{shown}"
-        f"Content-Length: {len(body)}\r\n\r\n{body}"
-    ).encode()
 
 
 def earlier(number):
@@ -41,14 +28,13 @@ def earlier(number):
 
 def requests(count, order):
     for number in range(count):
-        yield request("Recorder/CreateInvocation", '{"invocationId":"u-%d","invocation":{"realm":"proj:ci"}}' % number)
+        yield request("CreateInvocation", new(f"u-{number}"))
         if number:
             name = f"u-{earlier(number)}"
-            body = '{"includingInvocation":"invocations/%s","addInvocations":["invocations/u-%d"]}' % (name, number)
-            yield request("Recorder/UpdateIncludedInvocations", body, name)
+            yield changing(name, "UpdateIncludedInvocations", adding(name, f"u-{number}"))
     for number in order(count):
-        yield request("Recorder/FinalizeInvocation", '{"name":"invocations/u-%d"}' % number, f"u-{number}")
-    yield request("ResultDB/GetInvocation", '{"name":"invocations/u-0"}')
+        yield changing(f"u-{number}", "FinalizeInvocation", named(f"u-{number}"))
+    yield request("GetInvocation", named("u-0"))
 
 
 def final_at_once(count):
@@ -64,7 +50,7 @@ ORDERS = {
 
 
 def seconds(path, folder, count, ended):
-    words = [RDB, "answer", "--config", TOP / "examples/farm.toml", "--journal", f"{folder}/farm.journal"]
+    words = harness.words(folder)
     with open(path, "rb") as feed, open(f"{folder}/replies", "wb") as replies:
         start = time.monotonic()
         subprocess.run(words, stdin=feed, stdout=replies, check=True)

@@ -15,17 +15,17 @@ import time
 
 TOP = pathlib.Path(__file__).resolve().parent.parent
 sys.path.insert(0, str(TOP / "tests"))
-from journal_crashes import PROGRAM, build  # noqa: E402
+from journal_crashes import build  # noqa: E402
 
 COUNTS = {100: 500, 200_000: 100}
 OPENED = 100_000_000
 BODY = 1_000
 
 
-def program(words):
+def run(program, *words):
     """The seconds that a run of the program takes."""
     start = time.monotonic()
-    subprocess.run([str(PROGRAM), *words], check=True, stdout=subprocess.DEVNULL)
+    subprocess.run([program, *words], check=True, stdout=subprocess.DEVNULL)
     return time.monotonic() - start
 
 
@@ -60,15 +60,15 @@ def fill(path):
 
 
 def main():
-    build()
+    program = build()
     with tempfile.TemporaryDirectory(dir=sys.argv[1] if len(sys.argv) > 1 else None) as folder:
         for size, count in COUNTS.items():
-            ours = program(["append", f"{folder}/journal{size}", str(count), str(size)])
+            ours = run(program, "append", f"{folder}/journal{size}", str(count), str(size))
             theirs = plain(f"{folder}/plain{size}", count, size)
             print(f"bodies of {size} bytes: {count / ours:.0f} appends/s, plain loop {count / theirs:.0f}/s, "
                   f"ratio {theirs / ours:.2f}")
         size = fill(f"{folder}/large")
-        seconds = program(["read", f"{folder}/large"])
+        seconds = run(program, "read", f"{folder}/large")
         print(f"opening {size / 1e6:.0f} MB: {size / 1e6 / seconds:.0f} MB/s")
     return 0
 

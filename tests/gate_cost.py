@@ -3,7 +3,8 @@
 
     tests/gate_cost.py run LOG [WORD..]   runs `rt ci WORD..` and writes to LOG what each of its commands took
     tests/gate_cost.py watch LOG PID      does so for an rt ci that is running, from now on
-    tests/gate_cost.py table LOG          makes the table of a log, for CONTRIBUTING.md
+    tests/gate_cost.py table LOG          makes the table of a log
+    tests/gate_cost.py write LOG          writes docs/gate-cost.md from the log of a run
     tests/gate_cost.py edits LOG          makes the table of the wrong bodies of a log
 
 rt prints no times, so its commands are looked at in /proc a few times a second while they run, with the processes that
@@ -18,11 +19,13 @@ import pathlib
 import re
 import subprocess
 import sys
+import textwrap
 import time
 
 TOP = pathlib.Path(__file__).resolve().parent.parent
 TICKS = os.sysconf("SC_CLK_TCK")
 PAUSE = 0.2
+PAGE = TOP / "docs/gate-cost.md"
 PARTS = ("proof", "tests", "wrong bodies")
 BUDGET = {"proof": 4, "tests": 4, "wrong bodies": 3}
 
@@ -99,9 +102,17 @@ def run(path, words):
         watch(program.pid, lambda: os.waitid(os.P_PID, program.pid, os.WEXITED | os.WNOHANG | os.WNOWAIT) is None, log)
         _, status, used = os.wait4(program.pid, 0)
         whole = {"seconds": used.ru_utime + used.ru_stime, "wall": time.time() - began, "words": words}
+        whole |= {"of": state(), "processors": len(os.sched_getaffinity(0)), "day": time.strftime("%Y-%m-%d", time.gmtime())}
         log.write(json.dumps(whole) + "\n")
-    table(path)
+    print("\n".join(table(path)))
     return os.waitstatus_to_exitcode(status)
+
+
+def state():
+    """Which sources under which kit."""
+    commit = subprocess.run(["git", "rev-parse", "--short", "HEAD"], cwd=TOP, capture_output=True, text=True).stdout.strip()
+    kit = subprocess.run(["rt", "version"], capture_output=True, text=True).stdout.strip()
+    return f"{commit}, with {kit}"
 
 
 def entries(path):
@@ -119,24 +130,43 @@ def minutes(seconds):
 
 
 def table(path):
+    """The lines of the table."""
     found, whole = entries(path)
     sums = collections.Counter()
     for entry in found:
         sums[entry["crate"], entry["part"]] += entry["seconds"]
-    print("| Crate | Proof | Tests | Wrong bodies | Of them |\n|---|---|---|---|---|")
+    lines = ["| Crate | Proof | Tests | Wrong bodies | Of them |", "|---|---|---|---|---|"]
     names = [name for name in crates() if any((name, part) in sums for part in PARTS)]
     for name in names:
         cells = []
         for part in PARTS:
             cost = sums[name, part]
-            cells.append(f"**{minutes(cost)}**" if cost > 60 * BUDGET[part] else minutes(cost))
+            cell = f"**{minutes(cost)}**" if cost > 60 * BUDGET[part] else minutes(cost)
+            cells.append(cell if cost else "")
         edits = len(list((TOP / "crates" / name / "must-fail").glob("*.edit")))
-        print(f"| `{name}` | {' | '.join(cells)} | {edits} |")
+        lines.append(f"| `{name}` | {' | '.join(cells)} | {edits} |".replace("|  |", "| |").replace("|  |", "| |"))
     totals = [sum(sums[name, part] for name in names) for part in PARTS]
-    print(f"| All | {' | '.join(minutes(total) for total in totals)} | |")
+    lines.append(f"| All | {' | '.join(minutes(total) for total in totals)} | |")
     if whole:
         rest = whole["seconds"] - sum(totals)
-        print(f"\n{minutes(whole['seconds'])} processor minutes in {minutes(whole['wall'])} minutes; {minutes(rest)} of them in no crate's row.")
+        lines += ["", f"{minutes(whole['seconds'])} processor minutes in {minutes(whole['wall'])} minutes for {len(names)} crates, "]
+        lines[-1] += f"{minutes(rest)} of them in no crate's row."
+    return lines
+
+
+def write_page(path):
+    whole = entries(path)[1]
+    if not whole:
+        sys.exit("only the log of a whole run says what the gate costs")
+    words = " ".join(["rt ci", *whole["words"]])
+    front = (
+        f"Written by `tests/gate_cost.py`, of `{words}` over {whole['of']}, on {whole['day']}, on a machine of "
+        f"{whole['processors']} processors. All figures are processor minutes, and bold is what is over the budget of "
+        "[CONTRIBUTING.md](../CONTRIBUTING.md#the-gates-budget). Another machine has been seen to take half as much again, "
+        "so that figures of one machine alone are compared."
+    )
+    lines = ["# What the gate costs", "", *textwrap.wrap(front, 120, break_on_hyphens=False), "", *table(path)]
+    PAGE.write_text("\n".join(lines) + "\n")
 
 
 def edits(path):
@@ -160,10 +190,13 @@ def main(words):
     if words[:1] == ["watch"] and len(words) == 3 and words[2].isdigit():
         with open(words[1], "w", encoding="utf-8") as log:
             watch(int(words[2]), lambda: stat_of(words[2]) is not None, log)
-        table(words[1])
+        print("\n".join(table(words[1])))
         return 0
-    if words[:1] in (["table"], ["edits"]) and len(words) == 2:
-        table(words[1]) if words[0] == "table" else edits(words[1])
+    if len(words) == 2 and words[0] in ("table", "write", "edits"):
+        if words[0] == "table":
+            print("\n".join(table(words[1])))
+        else:
+            (write_page if words[0] == "write" else edits)(words[1])
         return 0
     sys.exit(__doc__)
 

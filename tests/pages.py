@@ -15,12 +15,19 @@ import subprocess
 import sys
 import tempfile
 
+import sizes
+
 TOP = pathlib.Path(__file__).resolve().parent.parent
 WIDTH = 120
 HEADS = ["Stands on", "Calls", "Promises", "Definitions", "Only tested", "May touch"]
 MARKER = "MINUTES"  # stands in a page for a figure that is still to be measured
 HEADLINE = "**The headline.**"
-MOST_EDITS = 10
+STATUSES = "The command line, the exit status and the line on errors"
+README_LINES = 90
+FAILED = 70  # the status of ./rdb and build, which the program never has
+ENDINGS = "crates/rdb_program/src/ending.rt"
+MAP = "docs/architecture.md"
+KIT = "docs/audit.md"
 TOP_CALL = ("rdb_program", "src/run.rt", "run_program")
 
 TICKED = re.compile(r"`([^`\n]+)`")
@@ -253,17 +260,55 @@ def definitions(tree):
                 yield page, 0, f"Definitions doesn't name {path}"
 
 
-def crate_map(tree):
-    """The README's map has each crate once."""
-    page = tree.top / "README.md"
-    said = re.findall(r"\]\(crates/(\w+)/README\.md\)", section(tree.text(page), "The crates"))
+def each_once(tree, said):
+    """What is wrong where a list doesn't have each crate once."""
     if sorted(said) != sorted(tree.stands_on):
         odd = sorted((collections.Counter(said) - collections.Counter(list(tree.stands_on))).elements())
-        yield page, 0, f"the map lacks {sorted(set(tree.stands_on) - set(said))}, and has too often {odd}"
+        return f"lacks {sorted(set(tree.stands_on) - set(said))}, and has too often {odd}"
+
+
+def crate_map(tree):
+    """The map has each crate once, in the rows of the picture."""
+    page = tree.top / MAP
+    found = {cells[0]: re.findall(r"\]\(\.\./crates/(\w+)/README\.md\)", cells[1]) for _, cells in rows(tree.text(page), "The crates")}
+    wrong = each_once(tree, [name for names in found.values() for name in names])
+    if wrong:
+        yield page, 0, f"the map {wrong}"
+    for row, names in picture(tree).items():
+        if sorted(names) != sorted(found.get(row, [])):
+            yield page, 0, f"the picture's row {row} has {names}, and the map's {found.get(row, [])}"
+
+
+def picture(tree):
+    """The rows of the picture of layers, the lowest first: the crates of each, as they stand."""
+    drawn = re.search(r"^```\n(.*?)^```$", section(tree.text(tree.top / MAP), "The layers"), re.M | re.S)
+    lines = [re.split(r" {2,}", line.strip()) for line in drawn[1].splitlines() if line.strip()] if drawn else []
+    return {row: [name.rstrip("*") for name in names] for row, *names in reversed(lines)}
+
+
+def layers(tree):
+    """The picture has each crate once, and each stands only on crates further down, or before it in its row."""
+    page, seen = tree.top / MAP, set()
+    names = [name for row in picture(tree).values() for name in row]
+    wrong = each_once(tree, names)
+    if wrong:
+        yield page, 0, f"the picture {wrong}"
+    for name in names:
+        above = sorted(set(tree.stands_on.get(name, [])) & set(tree.stands_on) - seen)
+        if above:
+            yield page, 0, f"in the picture {name} stands on {above}, which don't stand below it"
+        seen.add(name)
+
+
+def short_readme(tree):
+    page = tree.top / "README.md"
+    lines = len(tree.text(page).splitlines())
+    if lines > README_LINES:
+        yield page, 0, f"{lines} lines, and {README_LINES} are the most"
 
 
 def kit_line(tree):
-    page = tree.top / "README.md"
+    page = tree.top / KIT
     if f"`{tree.kit}`" not in tree.text(page):
         yield page, 0, f"the kit's line is not `{tree.kit}`"
 
@@ -365,12 +410,19 @@ def limits(tree):
 
 
 def statuses(tree):
-    """The README's exit statuses are those of docs/formats.md, with the same words."""
-    page = tree.top / "README.md"
-    table = [cells for _, cells in rows(tree.text(page), "Exit statuses")]
-    formats = dict(re.findall(r"^\| (\d+) \| ([^|]*?) \| [^|]* \|$", tree.text(tree.top / "docs/formats.md"), re.M))
-    if not table or {cells[0] for cells in table} != set(formats):
-        yield page, 0, f"the exit statuses are {[c[0] for c in table]}, and docs/formats.md has {list(formats)}"
+    """The exit statuses of docs/formats.md are those that the program has; that of a failed build is another one."""
+    page, code = tree.top / "docs/formats.md", tree.top / ENDINGS
+    table = sorted(int(cells[0]) for _, cells in rows(tree.text(page), STATUSES))
+    there = sorted({int(number) for number in re.findall(r"=> (\d+),", tree.text(code))})
+    if table != there:
+        yield page, 0, f"the exit statuses are {table}, and {ENDINGS} has {there}"
+    if FAILED in there:
+        yield code, 0, f"the program has the status {FAILED}, which says that it wasn't built"
+    for file, wanted in ((tree.top / "rdb", f"exit {FAILED}"), (tree.top / "build", f"FAILED = {FAILED}")):
+        if wanted not in tree.text(file):
+            yield file, 0, f"a failed build isn't told by {FAILED}"
+    if f"`./rdb` and `build` end with {FAILED}" not in section(tree.text(page), STATUSES):
+        yield page, 0, f"the status {FAILED} isn't told"
 
 
 def squeezed(text):
@@ -418,12 +470,11 @@ def markers(tree):
 
 
 def house_rules(tree):
-    """Three rules of CONTRIBUTING that can be seen in the sources without a proof."""
+    """Rules of CONTRIBUTING that can be seen in the sources without a proof; those that are counted are in sizes.py."""
+    for kind, name, what in sizes.faults(tree.top, sizes.LISTED):
+        yield (tree.top / name if kind == "file" else tree.crate(name)), 0, what
     for name in tree.stands_on:
         folder = tree.crate(name)
-        edits = len(list(folder.glob("must-fail/*.edit")))
-        if edits > MOST_EDITS:
-            yield folder / "must-fail", 0, f"{edits} wrong bodies, and {MOST_EDITS} are the most"
         for spec in sorted(folder.glob("specs/**/*.antt")):
             if re.search(r"^use .*\bTheConstants\b", tree.text(spec), re.M):
                 yield spec, 0, "a word of specs/ is a constant of the code"
@@ -530,6 +581,8 @@ CHECKS = [
     calls_and_clauses,
     definitions,
     crate_map,
+    layers,
+    short_readme,
     kit_line,
     links,
     paths,
@@ -587,14 +640,24 @@ BREAKS = [
     ("a clause is renamed", edit("crates/fault_counts/src/counts.rt", "ensures cause {", "ensures reason {"), "no clause cause"),
     ("a call is renamed", edit("crates/lists/src/listed.rt", "pub fn into_vec", "pub fn to_vec"), "into_vec"),
     ("a definition is new", add("crates/lists/specs/More.antt", ""), "doesn't name specs/More.antt"),
-    ("the map lacks a crate", edit("README.md", "[lists](crates/lists/README.md), ", ""), "the map lacks"),
-    ("the kit is another", edit("README.md", "rattle-kit-", "rattle-kit-0"), "the kit's line"),
+    ("the map lacks a crate", edit(MAP, "[lists](../crates/lists/README.md), ", ""), "the map lacks"),
+    ("the picture lacks a crate", edit(MAP, "  fault_counts\n", "\n"), "the picture lacks"),
+    ("the picture's row is another", edit(MAP, "disks  result_journal  ", "result_journal  "), "the picture's row"),
+    ("the picture is upside down", edit(MAP, "disks  result_journal  ", "result_journal  disks  "), "don't stand below it"),
+    ("the README is long", edit("README.md", "\n## ", "\n" * 20 + "## "), "90 are the most"),
+    ("the kit is another", edit(KIT, "rattle-kit-", "rattle-kit-0"), "the kit's line"),
     ("a link leads nowhere", edit("README.md", "(docs/formats.md)", "(docs/forms.md)"), "leads nowhere"),
     ("an anchor is gone", edit("docs/audit.md", "## What is trusted", "## Trust"), "has no head"),
     ("a path leads nowhere", edit("docs/architecture.md", "`crates.txt`", "`crates.txts/x.md`"), "leads nowhere"),
     ("a script is new", add("bench/new.py", ""), "bench/new.py isn't named"),
     ("a limit is another", edit("crates/http_wire/src/buffer.rt", "16384", "16385"), "doesn't have 16,384"),
-    ("a status is gone", edit("README.md", "| 7 | ", "| 6 | "), "the exit statuses"),
+    ("a status is gone", edit("docs/formats.md", "| 7 | memory", "| 6 | memory"), "the exit statuses"),
+    ("a failed build is told as the program", edit("rdb", "exit 70", "exit 7"), "isn't told by 70"),
+    ("a crate grew", edit("crates/permissions/src/lib.rt", "\n", "\n\n"), "may only fall"),
+    ("a crate is too large", edit("crates/lists/src/lib.rt", "\n", "\n" * 1500), "1500 are the most"),
+    ("a listed number fell", remove("crates/outside/must-fail/" + min(p.name for p in TOP.glob("crates/outside/must-fail/*.edit"))), "--lower"),
+    ("a line of code is wide", edit("crates/lists/src/lib.rt", "\n", "\n" + "x" * 101 + "\n"), "over 100 columns"),
+    ("a file is too long", add("crates/outside/proofs/Long.antt", "\n" * 801), "800 are the most"),
     ("the clause is another", edit("README.md", "ensures run {", "ensures run { "[:-1] + " x"), "the sources don't have"),
     ("the headline is another", edit("docs/audit.md", "Whatever bytes", "Whichever bytes"), "isn't that of README.md"),
     ("a line is too long", edit("docs/audit.md", "\n## ", "\n" + "long " * 30 + "\n\n## "), "columns"),

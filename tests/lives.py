@@ -1,0 +1,115 @@
+"""What becomes of invocations: deadlines that are moved, tokens, full tables, and drawn graphs beside a model."""
+
+import random
+
+from harness import Wrong, adding, changing, named, new, request, same, told, token, updating
+from moments import micros, moment_in, now
+
+
+def a_deadline_that_is_moved(folder):
+    """An update sets the deadline alone where the mask names it alone; out of reach it is refused."""
+    near, given, far = moment_in(), moment_in(hours=1), moment_in(hours=121)
+    tags = [{"key": "k", "value": "v"}]
+    begun = now()
+    created, moved, again, cleared, *refused = told(
+        request("CreateInvocation", new("u-a"))
+        + changing("u-a", "UpdateInvocation", updating("u-a", "deadline", deadline=given, tags=tags))
+        + changing("u-a", "UpdateInvocation", updating("u-a", "tags,deadline", deadline=given, tags=tags))
+        + changing("u-a", "UpdateInvocation", updating("u-a", "tags", deadline="never"))
+        + changing("u-a", "UpdateInvocation", updating("u-a", "deadline", deadline=near))
+        + changing("u-a", "UpdateInvocation", updating("u-a", "deadline", deadline=far)),
+        folder,
+    )
+    shown = {**created[1], "deadline": given}
+    same((moved, again, cleared), ((200, shown), (200, {**shown, "tags": tags}), (200, shown)))
+    same(len(refused), 2)
+    for (status, text), deadline in zip(refused, (near, far)):
+        front, _, moment = text.rstrip("\n").rpartition(" ")
+        same((status, front), (400, f"13 DeadlineRange: {deadline}"))
+        if not begun <= micros(moment.encode()) <= now():
+            raise Wrong(f"{moment} lies outside the run")
+
+
+def tokens_and_many_names(folder):
+    """Update tokens that are there twice, or empty; and 501 names, and 500, of which each counts once."""
+    shown = f"Update-Token: {token('u-a')}"
+    create, get = request("CreateInvocation", new("u-a")), request("GetInvocation", named("u-a"))
+    twice = request("FinalizeInvocation", named("u-a"), shown, shown)
+    empty = request("FinalizeInvocation", named("u-a"), "Update-Token:")
+    many, most = (changing("u-a", "UpdateIncludedInvocations", adding("u-a", *["u-b"] * n)) for n in (501, 500))
+    got = told(create + request("CreateInvocation", new("u-b")) + twice + empty + many + most + get, folder)
+    same(got[2], (401, "9 NoUpdateToken: invocations/u-a\n"))
+    same(got[3], (403, "10 BadUpdateToken: invocations/u-a\n"))
+    same(got[4], (400, "15 TooMany: 501\n"))
+    same(got[5], (200, {}))
+    same(got[6], (200, {**got[0][1], "includedInvocations": ["invocations/u-b"]}))
+
+
+def full_tables(folder):
+    """The 65,537th invocation is refused, and the 262,145th inclusion, with all that its call names. What stands may be
+    asked for again."""
+    names = [f"u-{n}" for n in range(65_536)]
+    several, most, others = names[:524], names[524], names[1_000:1_500]
+
+    def including(name, count):
+        return changing(name, "UpdateIncludedInvocations", adding(name, *others[:count]))
+
+    got = told(
+        b"".join(request("CreateInvocation", new(name)) for name in [*names, "u-more", "u-0"])
+        + b"".join(including(name, 500) for name in several)
+        + b"".join(including(*row) for row in ((most, 145), (most, 144), (names[525], 1), (most, 144)))
+        + request("GetInvocation", named(most)),
+        folder,
+    )
+    created, got = got[: len(names)], got[len(names) :]
+    same({status for status, _ in created}, {200})
+    same(got[:2], [(429, "20 TableFull: invocations 65536\n"), (409, "19 Taken: invocations/u-0\n")])
+    same([row for row in got[2:526] if row != (200, {})], [])
+    same(got[526:528], [(429, "20 TableFull: inclusions 262000\n"), (200, {})])
+    same(got[528:530], [(429, "20 TableFull: inclusions 262144\n"), (200, {})])
+    same(got[530][1]["includedInvocations"], [f"invocations/{name}" for name in others[:144]])
+
+
+def reached(inclusions, start):
+    """Whom a walk of inclusions leads to, the start among them."""
+    found, left = set(), [start]
+    while left:
+        node = left.pop()
+        if node not in found:
+            found.add(node)
+            left += [to for by, to in inclusions if by == node]
+    return found
+
+
+def graphs_beside_a_model(folder):
+    """Drawn graphs, cycles among them, whose invocations are finalised in a drawn order: after each call, which are
+    final, and since when. One is final from the first call on after which no walk leads from it to an active one."""
+    for seed in range(8):
+        drawn = random.Random(seed)
+        names = [f"u-{n}" for n in range(7)]
+        pairs = [(by, to) for by in names for to in names if by != to]
+        inclusions, order = drawn.sample(pairs, 4 + seed), drawn.sample(names, len(names))
+        stream = b"".join(request("CreateInvocation", new(name)) for name in names)
+        stream += b"".join(changing(by, "UpdateIncludedInvocations", adding(by, to)) for by, to in inclusions)
+        looks = b"".join(request("GetInvocation", named(name)) for name in names)
+        stream += b"".join(changing(name, "FinalizeInvocation", named(name)) + looks for name in order)
+        got = iter(told(stream, folder)[len(names) + len(inclusions) :])
+        active, ends = set(names), {}
+        for name in order:
+            _, ended = next(got)
+            active.remove(name)
+            for other in names:
+                if other not in ends and not reached(inclusions, other) & active:
+                    ends[other] = ended["finalizeStartTime"]
+                status, shown = next(got)
+                state = "ACTIVE" if other in active else "FINALIZED" if other in ends else "FINALIZING"
+                same((status, shown["state"], shown.get("finalizeTime")), (200, state, ends.get(other)))
+                same(shown["name"], f"invocations/{other}")
+
+
+CHECKS = {
+    "a deadline that is moved": a_deadline_that_is_moved,
+    "tokens, and many names": tokens_and_many_names,
+    "graphs beside a model": graphs_beside_a_model,
+    "full tables": full_tables,
+}

@@ -1,0 +1,167 @@
+#!/usr/bin/env python3
+"""Counts what CONTRIBUTING.md limits: the sizes of crates and files, wide lines, and wrong bodies.
+
+    tests/sizes.py          tells what is over a limit, and ends with status 1 where there is any
+    tests/sizes.py --lower  takes down the numbers of what is listed below and fell; none is ever raised
+
+What doesn't keep a limit yet is listed here by name, each with its number, which may only fall. A number that fell and
+is still listed is told, too, so that it can't rise again unseen. tests/pages.py asks all of this.
+"""
+
+import pathlib
+import re
+import sys
+
+TOP = pathlib.Path(__file__).resolve().parent.parent
+WIDTH = 100
+
+# What is counted: the most that it may be, and what it is called.
+LIMITS = {
+    "lines": (1500, "lines without its tests"),
+    "functions": (100, "functions without its tests"),
+    "wrong bodies": (6, "wrong bodies"),
+    "wide lines": (0, f"lines of code and definitions over {WIDTH} columns"),
+    "file": (800, "lines in one file"),
+}
+
+# begin of the list
+LISTED = {
+    "lines": {
+        "http_wire": 1507,
+        "json_fields": 1557,
+        "junit_parts": 1589,
+        "message_forms": 1532,
+        "permissions": 1889,
+        "tap_reader": 1823,
+    },
+    "functions": {
+        "json_fields": 103,
+        "junit_parts": 105,
+        "permissions": 115,
+        "tap_reader": 103,
+    },
+    "wrong bodies": {
+        "disks": 10,
+        "finaliser": 10,
+        "http_wire": 10,
+        "inclusion_graph": 10,
+        "invocation_world": 10,
+        "invocations": 10,
+        "json_fields": 10,
+        "junit_parts": 8,
+        "message_forms": 10,
+        "moments_spans": 7,
+        "name_parts": 7,
+        "names_realms": 7,
+        "outside": 9,
+        "permissions": 7,
+        "rdb_program": 10,
+        "request_rules": 10,
+        "result_journal": 10,
+        "service_core": 9,
+        "tap_reader": 10,
+    },
+    "wide lines": {
+        "call_forms": 4,
+        "core_trial": 5,
+        "disks": 34,
+        "fault_counts": 3,
+        "field_kinds": 2,
+        "journal_trial": 4,
+        "junit_parts": 4,
+        "junit_reader": 5,
+        "junit_tree": 7,
+        "message_forms": 1,
+        "names_realms": 14,
+        "outside": 29,
+        "permissions": 1,
+        "policy_trial": 4,
+        "program_words": 12,
+        "record_desk": 5,
+        "request_rules": 4,
+        "result_journal": 28,
+        "service_core": 5,
+        "whole_reads": 10,
+    },
+}
+# end of the list
+
+FUNCTION = re.compile(r"\s*(?:pub(?:\([a-z]+\))? )?fn \w+")
+IMPORT = re.compile(r"\s*(?:pub |ghost )*use ")
+
+
+def lines_of(path):
+    return path.read_text().splitlines()
+
+
+def is_wide(line):
+    return len(line) > WIDTH and not IMPORT.match(line) and '"' not in line
+
+
+def counted(top):
+    """Each (kind, name, count)."""
+    for folder in sorted(path for path in (top / "crates").iterdir() if (path / "src").is_dir()):
+        name = folder.name
+        sources = sorted(folder.glob("src/**/*.rt"))
+        specs = sorted(folder.glob("specs/**/*.antt"))
+        code = [line for file in sources if file.name != "tests.rt" for line in lines_of(file)]
+        yield "lines", name, len(code)
+        yield "functions", name, sum(bool(FUNCTION.match(line)) for line in code)
+        yield "wrong bodies", name, len(list(folder.glob("must-fail/*.edit")))
+        yield "wide lines", name, sum(is_wide(line) for file in sources + specs for line in lines_of(file))
+        for file in sources + specs + sorted(folder.glob("proofs/**/*.antt")):
+            yield "file", str(file.relative_to(top)), len(lines_of(file))
+    for file in sorted([*top.glob("tests/*.py"), *top.glob("bench/*.py"), top / "build", top / "rdb"]):
+        yield "file", str(file.relative_to(top)), len(lines_of(file))
+
+
+def faults(top, listed):
+    """Each (kind, name, what is wrong): what is over its limit and not listed, or not what is listed."""
+    left = {(kind, name) for kind, names in listed.items() for name in names}
+    for kind, name, count in counted(top):
+        most, called = LIMITS[kind]
+        left.discard((kind, name))
+        number = listed.get(kind, {}).get(name)
+        if number is None and count > most:
+            yield kind, name, f"{count} {called}, and {most} are the most"
+        elif number is not None and count > number:
+            yield kind, name, f"{count} {called}, and the {number} that are listed may only fall"
+        elif number is not None and count < number:
+            yield kind, name, f"{count} {called}, and {number} are listed: tests/sizes.py --lower"
+        elif number is not None and count <= most:
+            yield kind, name, f"{count} {called}, which needs no place in the list: tests/sizes.py --lower"
+    for kind, name in sorted(left):
+        yield kind, name, f"listed for its {kind}, and it isn't there: tests/sizes.py --lower"
+
+
+def lower(path):
+    """Writes the list anew: what fell is lowered, and what keeps its limit now, or is gone, is taken out."""
+    found = {(kind, name): count for kind, name, count in counted(TOP)}
+    text = ["LISTED = {"]
+    for kind in LIMITS:
+        kept = {name: min(number, found[kind, name]) for name, number in LISTED.get(kind, {}).items() if (kind, name) in found}
+        kept = {name: number for name, number in kept.items() if number > LIMITS[kind][0]}
+        if kept:
+            text += [f'    "{kind}": {{', *(f'        "{name}": {number},' for name, number in sorted(kept.items())), "    },"]
+    text.append("}")
+    front, rest = path.read_text().split("# begin of the list\n", 1)
+    back = rest.split("# end of the list\n", 1)[1]
+    path.write_text(front + "# begin of the list\n" + "\n".join(text) + "\n# end of the list\n" + back)
+
+
+def main(words):
+    if words == ["--lower"]:
+        lower(pathlib.Path(__file__))
+        return 0
+    if words:
+        sys.exit(__doc__)
+    found = list(faults(TOP, LISTED))
+    for _, name, what in found:
+        print(f"{name}: {what}")
+    listed = sum(len(names) for names in LISTED.values())
+    print(f"sizes: {len(found)} faults, {listed} that are listed")
+    return 1 if found else 0
+
+
+if __name__ == "__main__":
+    sys.exit(main(sys.argv[1:]))

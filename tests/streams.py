@@ -1,0 +1,81 @@
+"""Streams that are no messages, or barely, and outputs that take nothing."""
+
+import os
+
+from harness import expect, not_implemented, run
+from stored_replies import example
+
+
+def empty_input(folder):
+    expect(run(b"", folder), b"", b"", 0)
+
+
+def closed_output(folder):
+    """Nobody reads the output."""
+    reader, writer = os.pipe()
+    os.close(reader)
+    try:
+        expect(run(example("create-invocation", "http"), folder, stdout=writer), None, b"rdb: fault of output\n", 4)
+    finally:
+        os.close(writer)
+
+
+def full_output(folder):
+    """The output has no room: Linux's /dev/full refuses each write."""
+    with open("/dev/full", "wb") as full:
+        expect(run(example("create-invocation", "http"), folder, stdout=full), None, b"rdb: fault of output\n", 4)
+
+
+def farewell(number, name):
+    body = b"wire %d %s\n" % (number, name)
+    return (
+        b"HTTP/1.1 400 Bad Request\r\nContent-Type: text/plain; charset=utf-8\r\nX-Prpc-Grpc-Code: 3\r\n"
+        b"Connection: close\r\nContent-Length: %d\r\n\r\n%s" % (len(body), body)
+    )
+
+
+def hostile_streams(folder):
+    """Each with its exact bytes and status."""
+    post, length = b"POST /x HTTP/1.1\r\n", b"Content-Length: 0\r\n"
+    filled = b"GET / HTTP/1.1\r\nX: "
+    bad = (3, b"BadHead")
+    for stream, fault in (
+        (filled + b"a" * (16383 - len(filled)), (8, b"CutShort")),
+        (filled + b"a" * (16384 - len(filled)), (1, b"HeadTooLong")),
+        (filled + b"a" * (16384 - 4 - len(filled)) + b"\r\n\r\n", None),
+        (filled + b"a" * (16385 - 4 - len(filled)) + b"\r\n\r\n", (1, b"HeadTooLong")),
+        (b"GET / HTTP/1.1\r\n" + b"X: y\r\n" * 64 + b"\r\n", None),
+        (b"GET / HTTP/1.1\r\n" + b"X: y\r\n" * 65 + b"\r\n", (2, b"TooManyHeaders")),
+        (post + b"X: a\r\n b\r\n" + length + b"\r\n", bad),
+        (post + b"X: a\rb\r\n" + length + b"\r\n", bad),
+        (post + b"X: a\0b\r\n" + length + b"\r\n", bad),
+        (post + b"Content-Length: 00000000000\r\n\r\n", bad),
+        (post + b"Content-Length: +5\r\n\r\nhello", bad),
+        (b"POST /x HTTP/1.2\r\n" + length + b"\r\n", bad),
+        (b"PRI * HTTP/2.0\r\n\r\nSM\r\n\r\n", bad),
+        (post + b"\r\n", (4, b"NoLength")),
+        (post + length + length + b"\r\n", (5, b"TwoLengths")),
+        (post + length + b"Content-Length: 1\r\n\r\n", (5, b"TwoLengths")),
+        (post + length + b"Transfer-Encoding: chunked\r\n\r\n", (6, b"TransferCoded")),
+        (post + b"Content-Length: 4194305\r\n\r\n", (7, b"BodyTooLong")),
+        (post + b"Content-Length: 4194304\r\n\r\n", (8, b"CutShort")),
+        (b"get / HTTP/1.1\r\n\r\n" + post, None),
+        (b"GET / HTTP/1.0\r\n\r\n" + post, None),
+        (b"GET / HTTP/1.1\r\nContent-Length: 4\r\n\r\nPOST", None),
+        (b"\r\n\n\r\nGET / HTTP/1.1\r\n\r\n", None),
+        (b"\r\n", (8, b"CutShort")),
+        (b"GET", (8, b"CutShort")),
+    ):
+        if fault is None:
+            expect(run(stream, folder), not_implemented(b"/"), b"", 0)
+        else:
+            reply = b"" if fault[0] == 8 else farewell(*fault)
+            expect(run(stream, folder), reply, b"rdb: wire %d %s\n" % fault, 8)
+
+
+CHECKS = {
+    "an empty input": empty_input,
+    "hostile streams": hostile_streams,
+    "a closed output": closed_output,
+    "a full output": full_output,
+}
