@@ -55,6 +55,8 @@ def kills(folder):
         if after - before not in (len(numbers), len(numbers) + 1):
             raise Wrong(f"kill {kill}: {before} records, {len(numbers)} acknowledged, {after} found")
         before = after
+    if not before:
+        raise Wrong("no record was ever found")
     return f"{KILLS} kills, {before} records"
 
 
