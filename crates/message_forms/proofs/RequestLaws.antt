@@ -21,7 +21,10 @@ use Rattle.message_forms.specs.declared.methods.Method.{Method}
 use Rattle.message_forms.specs.declared.methods.Method.TheVariants as method
 use Rattle.message_forms.specs.declared.requests.NewInvocation.{NewInvocation}
 use Rattle.message_forms.specs.declared.requests.Request.{Request}
-use Rattle.message_forms.specs.declared.requests.Request.TheVariants.{CreateInvocation, UpdateInvocation, FinalizeInvocation, UpdateIncludedInvocations, GetInvocation}
+use Rattle.message_forms.specs.declared.requests.Request.TheVariants as asks
+use Rattle.message_forms.specs.declared.requests.CreateInvocation.{CreateInvocation}
+use Rattle.message_forms.specs.declared.requests.UpdateIncludedInvocations.{UpdateIncludedInvocations}
+use Rattle.message_forms.specs.declared.updates.UpdateInvocation.{UpdateInvocation}
 
 new_one : (d : Data) (a b : NewInvocation) → IsNewInvocation d a → IsNewInvocation d b → a ≡ b
 new_one d a b h k =
@@ -49,36 +52,35 @@ where_one false holds law None None h k = refl
 where_one false holds law None (Some b) h k = absurd k
 where_one false holds law (Some a) p h k = absurd h
 
-create_one : (d : Data) (i j : List ℕ) (a b : NewInvocation) → IsCreate d i a → IsCreate d j b
-    → CreateInvocation i a.realm a.deadline a.tags ≡ CreateInvocation j b.realm b.deadline b.tags
-create_one d i j a b h k =
-    let ids : i ≡ j = holds_one (IsText IsSame) same_one (filled_at name.invocation_id empty_text d) i j h.id_is k.id_is in
-    let news : a ≡ b = holds_one IsNewInvocation new_one (filled_at name.invocation never_empty d) a b h.new_is k.new_is in
-    λ x. CreateInvocation (ids x) (news x).realm (news x).deadline (news x).tags
+create_one : (d : Data) (a b : CreateInvocation) → IsCreate d a → IsCreate d b → a ≡ b
+create_one d a b h k =
+    let ids : a.id ≡ b.id = holds_one (IsText IsSame) same_one (filled_at name.invocation_id empty_text d) a.id b.id h.id_is k.id_is in
+    let news : a.invocation ≡ b.invocation = holds_one IsNewInvocation new_one (filled_at name.invocation never_empty d) a.invocation b.invocation h.new_is k.new_is in
+    λ x. record { id = ids x; invocation = news x }
 
-update_one : (d : Data) (i j : List ℕ) (y z : Option ℤ) (s t : Option (List Pair)) → IsUpdate d i y s → IsUpdate d j z t
-    → UpdateInvocation i y s ≡ UpdateInvocation j z t
-update_one d i j y z s t h k =
+update_one : (d : Data) (a b : UpdateInvocation) → IsUpdate d a → IsUpdate d b → a ≡ b
+update_one d a b h k =
     let at : Option Data = filled_at name.invocation never_empty d in
-    let ids : i ≡ j = holds_one IsNamed named_one at i j h.id_is k.id_is in
-    let deadlines : y ≡ z = where_one (is_named name.deadline d) (Holds IsChangedDeadline at) (holds_one IsChangedDeadline deadline_one at) y z h.deadline_is k.deadline_is in
-    let tags : s ≡ t = where_one (is_named name.tags d) (Holds AreChangedTags at) (holds_one AreChangedTags tags_one at) s t h.tags_are k.tags_are in
-    λ x. UpdateInvocation (ids x) (deadlines x) (tags x)
+    let ids : a.id ≡ b.id = holds_one IsNamed named_one at a.id b.id h.id_is k.id_is in
+    let deadlines : a.deadline ≡ b.deadline = where_one (is_named name.deadline d) (Holds IsChangedDeadline at) (holds_one IsChangedDeadline deadline_one at) a.deadline b.deadline h.deadline_is k.deadline_is in
+    let tags : a.tags ≡ b.tags = where_one (is_named name.tags d) (Holds AreChangedTags at) (holds_one AreChangedTags tags_one at) a.tags b.tags h.tags_are k.tags_are in
+    λ x. record { id = ids x; deadline = deadlines x; tags = tags x }
 
-include_one : (d : Data) (i j : List ℕ) (a b : List (List ℕ)) → IsInclude d i a → IsInclude d j b
-    → UpdateIncludedInvocations i a ≡ UpdateIncludedInvocations j b
-include_one d i j a b h k =
-    let ids : i ≡ j = holds_one IsNameOf name_one (filled_at name.including_invocation empty_text d) i j h.including_is k.including_is in
-    let others : a ≡ b = list_one IsNameOf name_one (set_at name.add_invocations d) a b h.added_are k.added_are in
-    λ x. UpdateIncludedInvocations (ids x) (others x)
+include_one : (d : Data) (a b : UpdateIncludedInvocations) → IsInclude d a → IsInclude d b → a ≡ b
+include_one d a b h k =
+    let ids : a.including ≡ b.including = holds_one IsNameOf name_one (filled_at name.including_invocation empty_text d) a.including b.including h.including_is k.including_is in
+    let others : a.add ≡ b.add = list_one IsNameOf name_one (set_at name.add_invocations d) a.add b.add h.added_are k.added_are in
+    λ x. record { including = ids x; add = others x }
 
 one_of : (d : Data) (q r : Request) → method_asked q ≡ method_asked r → AsksFor d q → AsksFor d r → q ≡ r
-one_of d (CreateInvocation i realm deadline tags) (CreateInvocation j realm' deadline' tags') e h k =
-    create_one d i j (record { realm = realm; deadline = deadline; tags = tags }) (record { realm = realm'; deadline = deadline'; tags = tags' }) h k
-one_of d (UpdateInvocation i y s) (UpdateInvocation j z t) e h k = update_one d i j y z s t h k
-one_of d (FinalizeInvocation i) (FinalizeInvocation j) e h k = ap FinalizeInvocation (named_one d i j h k)
-one_of d (UpdateIncludedInvocations i a) (UpdateIncludedInvocations j b) e h k = include_one d i j a b h k
-one_of d (GetInvocation i) (GetInvocation j) e h k = ap GetInvocation (named_one d i j h k)
+one_of d (asks.CreateInvocation a) (asks.CreateInvocation b) e h k = ap asks.CreateInvocation (create_one d a b h k)
+one_of d (asks.UpdateInvocation a) (asks.UpdateInvocation b) e h k = ap asks.UpdateInvocation (update_one d a b h k)
+one_of d (asks.FinalizeInvocation a) (asks.FinalizeInvocation b) e h k =
+    let ids = named_one d a.id b.id h k in λ x. asks.FinalizeInvocation (record { id = ids x })
+one_of d (asks.UpdateIncludedInvocations a) (asks.UpdateIncludedInvocations b) e h k =
+    ap asks.UpdateIncludedInvocations (include_one d a b h k)
+one_of d (asks.GetInvocation a) (asks.GetInvocation b) e h k =
+    let ids = named_one d a.id b.id h k in λ x. asks.GetInvocation (record { id = ids x })
 one_of d q r e h k = absurd cc
 
 one_meant : (m : Method) (d : Data) (q r : Request) → Means m d q → Means m d r → q ≡ r
@@ -130,7 +132,7 @@ create_there d h =
     let three = first_right (required name.invocation_id empty_text (a_text invocation_id_fault) d) _ two in
     let id = required_there name.invocation_id empty_text (a_text invocation_id_fault) (IsText IsSame) (same_there invocation_id_fault) d (first_left _ _ two) in
     let new = required_there name.invocation never_empty a_new_invocation IsNewInvocation new_there d (first_left _ _ three) in
-    (CreateInvocation id.0 new.0.realm new.0.deadline new.0.tags, (refl, record { id_is = id.1; new_is = new.1 }))
+    (asks.CreateInvocation (record { id = id.0; invocation = new.0 }), (refl, record { id_is = id.1; new_is = new.1 }))
 
 update_there : (d : Data) → an_update_request d ≡ None → (q : Request) × Means method.UpdateInvocation d q
 unfolding an_update_request where_named
@@ -145,7 +147,7 @@ update_there d h =
     (required_there name.invocation never_empty a_changed_deadline IsChangedDeadline deadline_there d) (first_left _ _ three) in
     let tags = where_there (is_named name.tags d) _ (Holds AreChangedTags at)
     (required_there name.invocation never_empty some_changed_tags AreChangedTags tags_there d) (first_left _ _ four) in
-    (UpdateInvocation id.0 deadline.0 tags.0, (refl, record { id_is = id.1; deadline_is = deadline.1; tags_are = tags.1 }))
+    (asks.UpdateInvocation (record { id = id.0; deadline = deadline.0; tags = tags.0 }), (refl, record { id_is = id.1; deadline_is = deadline.1; tags_are = tags.1 }))
 
 include_there : (d : Data) → an_include_request d ≡ None → (q : Request) × Means method.UpdateIncludedInvocations d q
 unfolding an_include_request
@@ -154,11 +156,11 @@ include_there d h =
     let two = first_right (required name.including_invocation empty_text an_invocation_name d) _ one in
     let id = required_there name.including_invocation empty_text an_invocation_name IsNameOf name_there d (first_left _ _ one) in
     let others = list_there name.add_invocations an_invocation_name IsNameOf name_there d (first_left _ _ two) in
-    (UpdateIncludedInvocations id.0 others.0, (refl, record { including_is = id.1; added_are = others.1 }))
+    (asks.UpdateIncludedInvocations (record { including = id.0; add = others.0 }), (refl, record { including_is = id.1; added_are = others.1 }))
 
 pub asked_there : (m : Method) (d : Data) → request_fault m d ≡ None → (q : Request) × Means m d q
 asked_there method.CreateInvocation d h = create_there d h
 asked_there method.UpdateInvocation d h = update_there d h
-asked_there method.FinalizeInvocation d h = let there = named_there d h in (FinalizeInvocation there.0, (refl, there.1))
+asked_there method.FinalizeInvocation d h = let there = named_there d h in (asks.FinalizeInvocation (record { id = there.0 }), (refl, there.1))
 asked_there method.UpdateIncludedInvocations d h = include_there d h
-asked_there method.GetInvocation d h = let there = named_there d h in (GetInvocation there.0, (refl, there.1))
+asked_there method.GetInvocation d h = let there = named_there d h in (asks.GetInvocation (record { id = there.0 }), (refl, there.1))

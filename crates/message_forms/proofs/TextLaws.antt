@@ -17,15 +17,15 @@ use Rattle.message_forms.specs.declared.replies.Reply.TheVariants.{Empty, Invoca
 use Rattle.message_forms.specs.Shown.{InvocationShown}
 use Rattle.message_forms.specs.declared.requests.NewInvocation.{NewInvocation}
 use Rattle.message_forms.specs.declared.requests.Request.{Request}
-use Rattle.message_forms.specs.declared.requests.Request.TheVariants.{CreateInvocation, UpdateInvocation, FinalizeInvocation, UpdateIncludedInvocations, GetInvocation}
+use Rattle.message_forms.specs.declared.requests.Request.TheVariants as asks
 
 pub method_named : (q : Request) → method_of (service_of (method_asked q)) (name_of (method_asked q)) ≡ Some (method_asked q)
 unfolding method_of
-method_named (CreateInvocation id realm deadline tags) = refl
-method_named (UpdateInvocation id deadline tags) = refl
-method_named (FinalizeInvocation id) = refl
-method_named (UpdateIncludedInvocations including add) = refl
-method_named (GetInvocation id) = refl
+method_named (asks.CreateInvocation q) = refl
+method_named (asks.UpdateInvocation q) = refl
+method_named (asks.FinalizeInvocation q) = refl
+method_named (asks.UpdateIncludedInvocations q) = refl
+method_named (asks.GetInvocation q) = refl
 
 new_plain : (new : NewInvocation) → IsPlain 3 (new_invocation_data new)
 new_plain new =
@@ -64,17 +64,16 @@ include_plain including add =
     (plain-put_list 2 name.add_invocations name_data add no_members (λ id. plain_text 2 (invocation_name id)) (no_members_plain 3)))
 
 pub request_plain : (q : Request) → IsPlain 4 (request_data q)
-request_plain (CreateInvocation id realm deadline tags) =
-    let new : NewInvocation = record { realm = realm; deadline = deadline; tags = tags } in
-    let behind : Members = put_required name.invocation_id (λ text. string text) id no_members in
-    let one = plain-put 3 name.invocation_id.camel (string id) no_members (plain_text 3 id) (no_members_plain 3) in
-    plain_object 3 (put name.invocation.camel (new_invocation_data new) behind)
-    (plain-put 3 name.invocation.camel (new_invocation_data new) behind (new_plain new) one)
-request_plain (UpdateInvocation id deadline tags) =
-    update_plain (unwrap_or (mask_written deadline tags) []) (changed_data id deadline tags) (changed_plain id deadline tags)
-request_plain (FinalizeInvocation id) = named_plain id
-request_plain (UpdateIncludedInvocations including add) = include_plain including add
-request_plain (GetInvocation id) = named_plain id
+request_plain (asks.CreateInvocation q) =
+    let behind : Members = put_required name.invocation_id (λ text. string text) q.id no_members in
+    let one = plain-put 3 name.invocation_id.camel (string q.id) no_members (plain_text 3 q.id) (no_members_plain 3) in
+    plain_object 3 (put name.invocation.camel (new_invocation_data q.invocation) behind)
+    (plain-put 3 name.invocation.camel (new_invocation_data q.invocation) behind (new_plain q.invocation) one)
+request_plain (asks.UpdateInvocation q) =
+    update_plain (unwrap_or (mask_written q.deadline q.tags) []) (changed_data q.id q.deadline q.tags) (changed_plain q.id q.deadline q.tags)
+request_plain (asks.FinalizeInvocation q) = named_plain q.id
+request_plain (asks.UpdateIncludedInvocations q) = include_plain q.including q.add
+request_plain (asks.GetInvocation q) = named_plain q.id
 
 what_plain : (s : InvocationShown) → ArePlain 2 (what_members s)
 what_plain s =

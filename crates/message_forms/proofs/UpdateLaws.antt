@@ -3,14 +3,15 @@ use Rattle.std.proofs.Common.{◌≡◌, ◌==◌, ◌||◌, ◌&&◌, if◌then
 use Rattle.std.specs.List.{list_all, list_any, onto_first}
 use Rattle.std.specs.Str.{bytes_eq}
 use Rattle.serde_json.specs.Data.{Data, null, boolean, number, string, array, object}
-use Rattle.json_fields.specs.Fields.{required, filled_at, fault_required}
+use Rattle.json_fields.specs.Fields.{required, filled_at, fault_required, Holds}
 use Rattle.json_fields.specs.Kinds.{an_object, empty_text, never_empty}
 use Rattle.json_fields.specs.declared.faults.FieldFault.{FieldFault}
 use Rattle.json_fields.specs.declared.names.Step.TheVariants.{Member}
 use Rattle.json_fields.proofs.MeaningLaws.{first_left, first_right, moved_none}
 use Rattle.message_forms.specs.Names as name
 use Rattle.message_forms.specs.Masks.{a_mask, pieces, can_be_updated, named_by, is_named, HoldsWhere}
-use Rattle.message_forms.specs.Requests.{a_named, an_update_request, IsUpdate}
+use Rattle.message_forms.specs.Requests.{a_named, IsChangedDeadline, AreChangedTags, an_update_request, IsUpdate}
+use Rattle.message_forms.specs.declared.updates.UpdateInvocation.{UpdateInvocation}
 use Rattle.message_forms.specs.Methods.{request_fault}
 use Rattle.message_forms.specs.Laws.{UpdateChangesSomething}
 use Rattle.message_forms.specs.declared.methods.Method.{Method}
@@ -59,14 +60,16 @@ unnamed : {A : Type 0} (named : Bool) (holds : A → Type 0) → HoldsWhere name
 unnamed true holds h = absurd h
 unnamed false holds h = refl
 
-update_changes : (d : Data) (id : List ℕ) → an_update_request d ≡ None → IsUpdate d id None None → ⊥
+update_changes : (d : Data) (q : UpdateInvocation) → q.deadline ≡ None → q.tags ≡ None → an_update_request d ≡ None → IsUpdate d q → ⊥
 unfolding an_update_request required is_named
-update_changes d id h is =
+update_changes d q no_deadline no_tags h is =
     let one = first_right (an_object d) _ h in
     let two = first_right (required name.invocation never_empty a_named d) _ one in
-    mask_names_some (filled_at name.update_mask empty_text d) (first_left _ _ two) (unnamed (is_named name.deadline d) _ is.deadline_is)
-    (unnamed (is_named name.tags d) _ is.tags_are)
+    let at : Option Data = filled_at name.invocation never_empty d in
+    mask_names_some (filled_at name.update_mask empty_text d) (first_left _ _ two)
+    (unnamed (is_named name.deadline d) (Holds IsChangedDeadline at) (rw no_deadline at is.deadline_is))
+    (unnamed (is_named name.tags d) (Holds AreChangedTags at) (rw no_tags at is.tags_are))
 
 pub update_changes_something : UpdateChangesSomething
-update_changes_something service name body id asks =
-    update_changes asks.value id (subst (λ (m : Method). request_fault m asks.value ≡ None) (sym asks.meant.0) asks.no_fault) asks.meant.1
+update_changes_something service name body q no_deadline no_tags asks =
+    update_changes asks.value q no_deadline no_tags (subst (λ (m : Method). request_fault m asks.value ≡ None) (sym asks.meant.0) asks.no_fault) asks.meant.1

@@ -21,6 +21,9 @@ use Rattle.message_forms.specs.Masks.{a_mask, names, is_named, where_named, only
 use Rattle.message_forms.specs.Requests.{a_new_invocation, IsNewInvocation, a_create_request, IsCreate, an_invocation_name, IsNameOf, a_named, IsNamed, a_changed_deadline, IsChangedDeadline, some_changed_tags, AreChangedTags, an_update_request, IsUpdate, an_include_request, IsInclude}
 use Rattle.message_forms.specs.Writing.{create_data, name_data, named_data, changed_data, mask_written, update_data, include_data, IsChanged}
 use Rattle.message_forms.specs.declared.requests.NewInvocation.{NewInvocation}
+use Rattle.message_forms.specs.declared.requests.CreateInvocation.{CreateInvocation}
+use Rattle.message_forms.specs.declared.requests.UpdateIncludedInvocations.{UpdateIncludedInvocations}
+use Rattle.message_forms.specs.declared.updates.UpdateInvocation.{UpdateInvocation}
 
 pub name_written : (id : List ℕ) → IsInvocationId id → IsWritten an_invocation_name IsNameOf empty_text (λ _. false) id (name_data id)
 name_written id grammar =
@@ -74,7 +77,7 @@ module _ (realm : List ℕ) (deadline : Option ℤ) (tags : List Pair)
 pub create_written : (id : List ℕ) (new : NewInvocation) (d : Data)
     → IsWritten (a_text invocation_id_fault) (IsText IsSame) empty_text (λ _. false) id (string id)
     → IsWritten a_new_invocation IsNewInvocation never_empty (λ _. false) new d
-    → (a_create_request (create_data id d) ≡ None) × IsCreate (create_data id d) id new
+    → (a_create_request (create_data id d) ≡ None) × IsCreate (create_data id d) (record { id = id; invocation = new })
 unfolding a_create_request
 create_written id new d w v =
     let behind : Members = put_required name.invocation_id string id no_members in
@@ -224,7 +227,7 @@ module _ (mask : List ℕ) (changed : Data) (id : List ℕ) (deadline : Option �
   tags_none : IfSome tags (λ ts. required name.invocation never_empty some_changed_tags update ≡ None)
   tags_none = some_from tags _ _ (λ ts h. found some_changed_tags h.0) w.tags_said
 
-  pub update_written : (an_update_request update ≡ None) × IsUpdate update id deadline tags
+  pub update_written : (an_update_request update ≡ None) × IsUpdate update (record { id = id; deadline = deadline; tags = tags })
   unfolding an_update_request where_named
   update_written =
       let facts = mask_for deadline tags mask by in
@@ -248,7 +251,7 @@ module _ (mask : List ℕ) (changed : Data) (id : List ℕ) (deadline : Option �
 pub include_written : (including : List ℕ) (add : List (List ℕ))
     → IsWritten an_invocation_name IsNameOf empty_text (λ _. false) including (name_data including)
     → AllWritten an_invocation_name IsNameOf empty_text (λ _. false) name_data add
-    → (an_include_request (include_data including add) ≡ None) × IsInclude (include_data including add) including add
+    → (an_include_request (include_data including add) ≡ None) × IsInclude (include_data including add) (record { including = including; add = add })
 unfolding an_include_request
 include_written including add w all =
     let behind : Members = put_list name.add_invocations name_data add no_members in

@@ -11,7 +11,8 @@ use Rattle.message_forms.specs.Reading.{Asks, HasFault}
 use Rattle.message_forms.specs.Refusals.{refusal_of}
 use Rattle.message_forms.specs.declared.reading.FormFault.{FormFault}
 use Rattle.message_forms.specs.declared.requests.Request.{Request}
-use Rattle.message_forms.specs.declared.requests.Request.TheVariants.{UpdateInvocation}
+use Rattle.message_forms.specs.declared.requests.Request.TheVariants as asks
+use Rattle.message_forms.specs.declared.updates.UpdateInvocation.{UpdateInvocation}
 use Rattle.call_forms.specs.declared.forms.Refusal.{Refusal}
 
 -- One body asks for at most one request.
@@ -54,7 +55,8 @@ FaultIsRefused =
 -- No body asks for an update that changes nothing.
 abbrev pub UpdateChangesSomething : Type 0
 UpdateChangesSomething =
-    (service method body id : List ℕ) → ¬ Asks service method body (UpdateInvocation id None None)
+    (service method body : List ℕ) (q : UpdateInvocation) → q.deadline ≡ None → q.tags ≡ None
+    → ¬ Asks service method body (asks.UpdateInvocation q)
 
 -- What a row shows can be shown: its creator has the form of a user's name, and its tags are pairs
 -- of their grammar.

@@ -16,15 +16,18 @@ use Rattle.message_forms.specs.declared.methods.Method.{Method}
 use Rattle.message_forms.specs.declared.methods.Method.TheVariants as method
 use Rattle.message_forms.specs.declared.requests.NewInvocation.{NewInvocation}
 use Rattle.message_forms.specs.declared.requests.Request.{Request}
-use Rattle.message_forms.specs.declared.requests.Request.TheVariants.{CreateInvocation, UpdateInvocation, FinalizeInvocation, UpdateIncludedInvocations, GetInvocation}
+use Rattle.message_forms.specs.declared.requests.Request.TheVariants as asks
+use Rattle.message_forms.specs.declared.requests.CreateInvocation.{CreateInvocation}
+use Rattle.message_forms.specs.declared.requests.UpdateIncludedInvocations.{UpdateIncludedInvocations}
+use Rattle.message_forms.specs.declared.updates.UpdateInvocation.{UpdateInvocation}
 
 -- the method that a request is one of
 abbrev pub method_asked : Request → Method
-method_asked (CreateInvocation id realm deadline tags) = method.CreateInvocation
-method_asked (UpdateInvocation id deadline tags) = method.UpdateInvocation
-method_asked (FinalizeInvocation id) = method.FinalizeInvocation
-method_asked (UpdateIncludedInvocations including add) = method.UpdateIncludedInvocations
-method_asked (GetInvocation id) = method.GetInvocation
+method_asked (asks.CreateInvocation q) = method.CreateInvocation
+method_asked (asks.UpdateInvocation q) = method.UpdateInvocation
+method_asked (asks.FinalizeInvocation q) = method.FinalizeInvocation
+method_asked (asks.UpdateIncludedInvocations q) = method.UpdateIncludedInvocations
+method_asked (asks.GetInvocation q) = method.GetInvocation
 
 -- of the invocation in a request for a new one: a realm, maybe a deadline, and tags
 abbrev pub new_invocation_fields : List (Data → Option FieldFault)
@@ -56,10 +59,10 @@ create_fields =
 unfoldable pub a_create_request : Data → Option FieldFault
 a_create_request d = fault_of create_fields d
 
--- A value asks for a new invocation with this id and what its `invocation` says.
-pub record IsCreate (d : Data) (id : List ℕ) (new : NewInvocation) : Type 0 where
-  pub id_is : Holds (IsText IsSame) (filled_at name.invocation_id empty_text d) id
-  pub new_is : Holds IsNewInvocation (filled_at name.invocation never_empty d) new
+-- A value asks for a new invocation with its id and what its `invocation` says.
+pub record IsCreate (d : Data) (q : CreateInvocation) : Type 0 where
+  pub id_is : Holds (IsText IsSame) (filled_at name.invocation_id empty_text d) q.id
+  pub new_is : Holds IsNewInvocation (filled_at name.invocation never_empty d) q.invocation
 
 -- an invocation's name, and the id that it names
 abbrev pub an_invocation_name : Data → Option FieldFault
@@ -106,15 +109,14 @@ update_fields =
 unfoldable pub an_update_request : Data → Option FieldFault
 an_update_request d = fault_of update_fields d
 
--- A value asks to give the invocation with this id a deadline and tags, each where its mask names
+-- A value asks to give the invocation that it names a deadline and tags, each where its mask names
 -- it.
-pub record IsUpdate (d : Data) (id : List ℕ) (deadline : Option ℤ)
-    (tags : Option (List Pair)) : Type 0 where
-  pub id_is : Holds IsNamed (filled_at name.invocation never_empty d) id
+pub record IsUpdate (d : Data) (q : UpdateInvocation) : Type 0 where
+  pub id_is : Holds IsNamed (filled_at name.invocation never_empty d) q.id
   pub deadline_is : HoldsWhere (is_named name.deadline d)
-      (Holds IsChangedDeadline (filled_at name.invocation never_empty d)) deadline
+      (Holds IsChangedDeadline (filled_at name.invocation never_empty d)) q.deadline
   pub tags_are : HoldsWhere (is_named name.tags d)
-      (Holds AreChangedTags (filled_at name.invocation never_empty d)) tags
+      (Holds AreChangedTags (filled_at name.invocation never_empty d)) q.tags
 
 -- of a request to include invocations: the including one, those to add, and those to remove, which
 -- isn't built yet
@@ -129,16 +131,15 @@ include_fields =
 unfoldable pub an_include_request : Data → Option FieldFault
 an_include_request d = fault_of include_fields d
 
--- A value asks that the invocation with this id include those with the others.
-pub record IsInclude (d : Data) (including : List ℕ) (add : List (List ℕ)) : Type 0 where
-  pub including_is : Holds IsNameOf (filled_at name.including_invocation empty_text d) including
-  pub added_are : HoldsList IsNameOf (set_at name.add_invocations d) add
+-- A value asks that the invocation that it names include others.
+pub record IsInclude (d : Data) (q : UpdateIncludedInvocations) : Type 0 where
+  pub including_is : Holds IsNameOf (filled_at name.including_invocation empty_text d) q.including
+  pub added_are : HoldsList IsNameOf (set_at name.add_invocations d) q.add
 
 -- What a value asks for, by the fields of the request's method.
 abbrev pub AsksFor : Data → Request → Type 0
-AsksFor d (CreateInvocation id realm deadline tags) =
-    IsCreate d id (record { realm = realm; deadline = deadline; tags = tags })
-AsksFor d (UpdateInvocation id deadline tags) = IsUpdate d id deadline tags
-AsksFor d (FinalizeInvocation id) = IsNamed d id
-AsksFor d (UpdateIncludedInvocations including add) = IsInclude d including add
-AsksFor d (GetInvocation id) = IsNamed d id
+AsksFor d (asks.CreateInvocation q) = IsCreate d q
+AsksFor d (asks.UpdateInvocation q) = IsUpdate d q
+AsksFor d (asks.FinalizeInvocation q) = IsNamed d q.id
+AsksFor d (asks.UpdateIncludedInvocations q) = IsInclude d q
+AsksFor d (asks.GetInvocation q) = IsNamed d q.id

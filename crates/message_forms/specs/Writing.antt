@@ -11,7 +11,7 @@ use Rattle.message_forms.specs.Requests.{a_named, IsNamed, a_changed_deadline, I
 use Rattle.message_forms.specs.Names as name
 use Rattle.message_forms.specs.declared.requests.NewInvocation.{NewInvocation}
 use Rattle.message_forms.specs.declared.requests.Request.{Request}
-use Rattle.message_forms.specs.declared.requests.Request.TheVariants.{CreateInvocation, UpdateInvocation, FinalizeInvocation, UpdateIncludedInvocations, GetInvocation}
+use Rattle.message_forms.specs.declared.requests.Request.TheVariants as asks
 
 -- the invocation in a request for a new one, with what is unset or empty left out
 abbrev pub new_invocation_data : NewInvocation → Data
@@ -62,14 +62,13 @@ include_data including add =
 
 -- a request's members under their lowerCamelCase names, in byte order
 abbrev pub request_data : Request → Data
-request_data (CreateInvocation id realm deadline tags) =
-    create_data id (new_invocation_data
-    (record { realm = realm; deadline = deadline; tags = tags }))
-request_data (UpdateInvocation id deadline tags) =
-    update_data (unwrap_or (mask_written deadline tags) []) (changed_data id deadline tags)
-request_data (FinalizeInvocation id) = named_data id
-request_data (UpdateIncludedInvocations including add) = include_data including add
-request_data (GetInvocation id) = named_data id
+request_data (asks.CreateInvocation q) = create_data q.id (new_invocation_data q.invocation)
+request_data (asks.UpdateInvocation q) =
+    update_data (unwrap_or (mask_written q.deadline q.tags) [])
+    (changed_data q.id q.deadline q.tags)
+request_data (asks.FinalizeInvocation q) = named_data q.id
+request_data (asks.UpdateIncludedInvocations q) = include_data q.including q.add
+request_data (asks.GetInvocation q) = named_data q.id
 
 -- What is written of the invocation in an update is read as its name, and as the deadline and the
 -- tags that are given.

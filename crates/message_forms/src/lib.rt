@@ -22,5 +22,9 @@ pub use methods::Method;
 pub use reading::{FormFault, read_request};
 pub use refusals::refusal_of;
 pub use replies::{Reply, ShownInvocation, state_name, write_reply};
-pub use requests::{NewInvocation, Request};
+pub use requests::{
+    CreateInvocation, FinalizeInvocation, GetInvocation, NewInvocation, Request,
+    UpdateIncludedInvocations,
+};
+pub use updates::UpdateInvocation;
 pub use writing::write_request;

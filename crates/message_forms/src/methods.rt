@@ -5,8 +5,10 @@ ghost use Rattle.json_fields.specs.Faults.{Says};
 ghost use Rattle.std.specs.List.{find};
 ghost use Rattle.message_forms.specs.Methods.{is_called, method_of, service_of, name_of, request_fault, Means};
 
-use crate::requests::{Include, Request, read_create, read_include};
-use crate::updates::{Named, Update, read_update};
+use crate::requests::{
+    CreateInvocation, FinalizeInvocation, GetInvocation, Request, UpdateIncludedInvocations,
+};
+use crate::updates::{Named, UpdateInvocation};
 use json_fields::{Form, ReadFault};
 use serde_json::Value;
 use std::alloc::Global;
@@ -95,32 +97,30 @@ impl Method {
         ensures err { IfErr result (λ e. Says e (request_fault self (view value.now))) }
     {
         match self {
-            Method::CreateInvocation => match read_create(alloc, value) {
-                Ok(create) => Ok(create.into_request()),
+            Method::CreateInvocation => match CreateInvocation::read(alloc, value) {
+                Ok(request) => Ok(Request::CreateInvocation(request)),
                 Err(fault) => Err(fault),
             },
-            Method::UpdateInvocation => match read_update(alloc, value) {
-                Ok(Update { id, deadline, tags }) => {
-                    Ok(Request::UpdateInvocation { id, deadline, tags })
-                }
+            Method::UpdateInvocation => match UpdateInvocation::read(alloc, value) {
+                Ok(request) => Ok(Request::UpdateInvocation(request)),
                 Err(fault) => Err(fault),
             },
             Method::FinalizeInvocation => match Named::read(alloc, value) {
-                Ok(named) => Ok(Request::FinalizeInvocation {
+                Ok(named) => Ok(Request::FinalizeInvocation(FinalizeInvocation {
                     id: named.into_id(),
-                }),
+                })),
                 Err(fault) => Err(fault),
             },
-            Method::UpdateIncludedInvocations => match read_include(alloc, value) {
-                Ok(Include { including, add }) => {
-                    Ok(Request::UpdateIncludedInvocations { including, add })
+            Method::UpdateIncludedInvocations => {
+                match UpdateIncludedInvocations::read(alloc, value) {
+                    Ok(request) => Ok(Request::UpdateIncludedInvocations(request)),
+                    Err(fault) => Err(fault),
                 }
-                Err(fault) => Err(fault),
-            },
+            }
             Method::GetInvocation => match Named::read(alloc, value) {
-                Ok(named) => Ok(Request::GetInvocation {
+                Ok(named) => Ok(Request::GetInvocation(GetInvocation {
                     id: named.into_id(),
-                }),
+                })),
                 Err(fault) => Err(fault),
             },
         }

@@ -1,17 +1,18 @@
-//! What a request asks for.
+//! What a request asks for. Each method has a struct of its own, whose fields are read by name.
 ghost use Rattle.std.specs.Prelude.{◌≡◌, None, IfOk, IfErr};
 ghost use Rattle.serde_json.specs.View.{view};
 ghost use Rattle.json_fields.specs.Faults.{Says};
 ghost use Rattle.json_fields.specs.Fields.{optional, set_at};
 ghost use Rattle.json_fields.specs.Kinds.{a_list, HoldsList};
 ghost use Rattle.message_forms.specs.Names.{add_invocations};
-ghost use Rattle.message_forms.specs.Requests.{a_create_request, IsCreate, an_invocation_name, IsNameOf, an_include_request, IsInclude, method_asked};
+ghost use Rattle.message_forms.specs.Requests.{an_invocation_name, IsNameOf, method_asked};
 
 use crate::methods::Method;
 use crate::names::{
     add_invocations, deadline, including_invocation, invocation, invocation_id, realm,
     remove_invocations, request_id, tags,
 };
+use crate::updates::UpdateInvocation;
 use json_fields::{
     Form, InvocationName, ReadFault, Tag, UnbuiltList, UnbuiltText, ids_from, object, optional,
     optional_list, required,
@@ -24,33 +25,16 @@ use std::alloc::Global;
 /// What a request asks for.
 #[derive(Debug, Drop)]
 pub enum Request {
-    /// A new invocation with this id in this realm.
-    CreateInvocation {
-        id: InvocationId,
-        realm: Realm,
-        /// When it ends by itself, where the request says it.
-        deadline: Option<Moment>,
-        tags: Listed<Tag>,
-    },
-    /// Another deadline or other tags of this invocation, each where the request's mask names it.
-    UpdateInvocation {
-        id: InvocationId,
-        deadline: Option<Moment>,
-        tags: Option<Listed<Tag>>,
-    },
-    /// The end of this invocation.
-    FinalizeInvocation {
-        id: InvocationId,
-    },
-    /// That this invocation include others.
-    UpdateIncludedInvocations {
-        including: InvocationId,
-        add: Listed<InvocationId>,
-    },
-    /// What this invocation is.
-    GetInvocation {
-        id: InvocationId,
-    },
+    /// A new invocation.
+    CreateInvocation(CreateInvocation),
+    /// Another deadline or other tags of an invocation.
+    UpdateInvocation(UpdateInvocation),
+    /// The end of an invocation.
+    FinalizeInvocation(FinalizeInvocation),
+    /// That an invocation include others.
+    UpdateIncludedInvocations(UpdateIncludedInvocations),
+    /// What an invocation is.
+    GetInvocation(GetInvocation),
 }
 
 impl Request {
@@ -59,11 +43,11 @@ impl Request {
         ensures { result ≡ method_asked self.now }
     {
         match self {
-            Request::CreateInvocation { .. } => Method::CreateInvocation,
-            Request::UpdateInvocation { .. } => Method::UpdateInvocation,
-            Request::FinalizeInvocation { .. } => Method::FinalizeInvocation,
-            Request::UpdateIncludedInvocations { .. } => Method::UpdateIncludedInvocations,
-            Request::GetInvocation { .. } => Method::GetInvocation,
+            Request::CreateInvocation(_) => Method::CreateInvocation,
+            Request::UpdateInvocation(_) => Method::UpdateInvocation,
+            Request::FinalizeInvocation(_) => Method::FinalizeInvocation,
+            Request::UpdateIncludedInvocations(_) => Method::UpdateIncludedInvocations,
+            Request::GetInvocation(_) => Method::GetInvocation,
         }
     }
 }
@@ -72,6 +56,7 @@ impl Request {
 #[derive(Debug, Drop)]
 pub struct NewInvocation {
     pub realm: Realm,
+    /// When it ends by itself, where the request says it.
     pub deadline: Option<Moment>,
     pub tags: Listed<Tag>,
 }
@@ -106,46 +91,54 @@ impl Form for NewInvocation {
     }
 }
 
-/// A request for a new invocation.
+/// A request for a new invocation with this id.
 #[derive(Debug, Drop)]
-pub(crate) struct Create {
+pub struct CreateInvocation {
     pub id: InvocationId,
-    pub new: NewInvocation,
+    pub invocation: NewInvocation,
 }
 
-impl Create {
-    pub fn into_request(self) -> Request
-        ensures { result ≡ Request.CreateInvocation
-            self.id self.new.realm self.new.deadline self.new.tags }
-    {
-        Request::CreateInvocation {
-            id: self.id,
-            realm: self.new.realm,
-            deadline: self.new.deadline,
-            tags: self.new.tags,
+impl Form for CreateInvocation {
+    ghost use Rattle.json_fields.specs.Kinds.{never_empty};
+    ghost use Rattle.message_forms.specs.Requests.{a_create_request, IsCreate};
+
+    ghost fault = { a_create_request };
+
+    ghost means = { IsCreate };
+
+    ghost empty = { never_empty };
+
+    fn is_empty(_value: &Value) -> bool {
+        false
+    }
+
+    #[tactic(auto, unfolding(crate::proofs::Opened::request_fields))]
+    fn read(alloc: Global, value: &Value) -> Result<CreateInvocation, ReadFault> {
+        object(alloc, value)?;
+        optional::<UnbuiltText>(alloc, value, request_id())?;
+        let id = required(alloc, value, invocation_id())?;
+        match required(alloc, value, invocation()) {
+            Ok(invocation) => Ok(CreateInvocation { id, invocation }),
+            Err(fault) => Err(fault),
         }
     }
 }
 
-/// Reads a request for a new invocation.
-#[tactic(auto, unfolding(crate::proofs::Opened::request_fields))]
-pub(crate) fn read_create(alloc: Global, value: &Value) -> Result<Create, ReadFault>
-    ensures ok { IfOk result (λ q. (a_create_request (view value.now) ≡ None)
-        × IsCreate (view value.now) q.id q.new) }
-    ensures err { IfErr result (λ e. Says e (a_create_request (view value.now))) }
-{
-    object(alloc, value)?;
-    optional::<UnbuiltText>(alloc, value, request_id())?;
-    let id = required(alloc, value, invocation_id())?;
-    match required(alloc, value, invocation()) {
-        Ok(new) => Ok(Create { id, new }),
-        Err(fault) => Err(fault),
-    }
+/// A request to end the invocation with this id.
+#[derive(Debug, Drop)]
+pub struct FinalizeInvocation {
+    pub id: InvocationId,
 }
 
-/// A request to include invocations.
+/// A request to show the invocation with this id.
 #[derive(Debug, Drop)]
-pub(crate) struct Include {
+pub struct GetInvocation {
+    pub id: InvocationId,
+}
+
+/// A request that the invocation with this id include others.
+#[derive(Debug, Drop)]
+pub struct UpdateIncludedInvocations {
     pub including: InvocationId,
     pub add: Listed<InvocationId>,
 }
@@ -167,19 +160,29 @@ fn read_added(alloc: Global, value: &Value) -> Result<Listed<InvocationId>, Read
     }
 }
 
-/// Reads a request to include invocations.
-#[tactic(auto, unfolding(crate::proofs::Opened::request_fields))]
-pub(crate) fn read_include(alloc: Global, value: &Value) -> Result<Include, ReadFault>
-    ensures ok { IfOk result (λ q. (an_include_request (view value.now) ≡ None)
-        × IsInclude (view value.now) q.including q.add) }
-    ensures err { IfErr result (λ e. Says e (an_include_request (view value.now))) }
-{
-    object(alloc, value)?;
-    let including: InvocationName = required(alloc, value, including_invocation())?;
-    let add = read_added(alloc, value)?;
-    optional::<UnbuiltList>(alloc, value, remove_invocations())?;
-    Ok(Include {
-        including: including.into_id(),
-        add,
-    })
+impl Form for UpdateIncludedInvocations {
+    ghost use Rattle.json_fields.specs.Kinds.{never_empty};
+    ghost use Rattle.message_forms.specs.Requests.{an_include_request, IsInclude};
+
+    ghost fault = { an_include_request };
+
+    ghost means = { IsInclude };
+
+    ghost empty = { never_empty };
+
+    fn is_empty(_value: &Value) -> bool {
+        false
+    }
+
+    #[tactic(auto, unfolding(crate::proofs::Opened::request_fields))]
+    fn read(alloc: Global, value: &Value) -> Result<UpdateIncludedInvocations, ReadFault> {
+        object(alloc, value)?;
+        let including: InvocationName = required(alloc, value, including_invocation())?;
+        let add = read_added(alloc, value)?;
+        optional::<UnbuiltList>(alloc, value, remove_invocations())?;
+        Ok(UpdateIncludedInvocations {
+            including: including.into_id(),
+            add,
+        })
+    }
 }

@@ -5,8 +5,8 @@ ghost use Rattle.std.specs.Str.{IsUtf8};
 ghost use Rattle.message_forms.specs.Shown.{IsUtf8Pair};
 
 use crate::{
-    FormFault, Reply, Request, ShownInvocation, laws, read_request, refusal_of, write_refusal,
-    write_reply, write_request,
+    FormFault, Reply, Request, ShownInvocation, UpdateInvocation, laws, read_request, refusal_of,
+    write_refusal, write_reply, write_request,
 };
 use lists::Bytes;
 use names_realms::{InvocationId, Moment, Pair, Realm, State};
@@ -206,11 +206,11 @@ fn reads_refuses_and_writes_requests(rt: HostRuntime) -> Result<(), Fail> {
         is_read(&rt, rt.alloc(), *method, *body, *text)?;
     }
     let id = InvocationId::parse(rt.alloc(), b"u-a").map_err(|_| "no id")?;
-    let nothing = Request::UpdateInvocation {
+    let nothing = Request::UpdateInvocation(UpdateInvocation {
         id,
         deadline: None,
         tags: None,
-    };
+    });
     assert!(rt; write_request(rt.alloc(), &nothing).is_err());
     Ok(())
 }

@@ -7,7 +7,7 @@ ghost use Rattle.json_fields.specs.Kinds.{empty_text, never_empty};
 ghost use Rattle.json_fields.specs.Texts.{IsText};
 ghost use Rattle.message_forms.specs.Masks.{where_named, is_named, HoldsWhere, IsMask};
 ghost use Rattle.message_forms.specs.Names.{invocation, update_mask, deadline, tags};
-ghost use Rattle.message_forms.specs.Requests.{a_changed_deadline, IsChangedDeadline, some_changed_tags, AreChangedTags, an_update_request, IsUpdate};
+ghost use Rattle.message_forms.specs.Requests.{a_changed_deadline, IsChangedDeadline, some_changed_tags, AreChangedTags};
 
 use crate::masks::{UpdateMask, where_named};
 use crate::names::{deadline, invocation, name, tags, update_mask};
@@ -181,29 +181,40 @@ fn read_tags(
     }
 }
 
-/// An update.
+/// A request to give the invocation with this id another deadline or other tags, each where the
+/// request's mask names it.
 #[derive(Debug, Drop)]
-pub(crate) struct Update {
+pub struct UpdateInvocation {
     pub id: InvocationId,
     pub deadline: Option<Moment>,
     pub tags: Option<Listed<Tag>>,
 }
 
-/// Reads an update.
-#[tactic(auto, unfolding(crate::specs::Requests::an_update_request))]
-pub(crate) fn read_update(alloc: Global, value: &Value) -> Result<Update, ReadFault>
-    ensures ok { IfOk result (λ u. (an_update_request (view value.now) ≡ None)
-        × IsUpdate (view value.now) u.id u.deadline u.tags) }
-    ensures err { IfErr result (λ e. Says e (an_update_request (view value.now))) }
-{
-    object(alloc, value)?;
-    let named: Named = required(alloc, value, invocation())?;
-    let mask: UpdateMask = required(alloc, value, update_mask())?;
-    let deadline = read_deadline(alloc, value, mask)?;
-    let tags = read_tags(alloc, value, mask)?;
-    Ok(Update {
-        id: named.into_id(),
-        deadline,
-        tags,
-    })
+impl Form for UpdateInvocation {
+    ghost use Rattle.json_fields.specs.Kinds.{never_empty};
+    ghost use Rattle.message_forms.specs.Requests.{an_update_request, IsUpdate};
+
+    ghost fault = { an_update_request };
+
+    ghost means = { IsUpdate };
+
+    ghost empty = { never_empty };
+
+    fn is_empty(_value: &Value) -> bool {
+        false
+    }
+
+    #[tactic(auto, unfolding(crate::specs::Requests::an_update_request))]
+    fn read(alloc: Global, value: &Value) -> Result<UpdateInvocation, ReadFault> {
+        object(alloc, value)?;
+        let named: Named = required(alloc, value, invocation())?;
+        let mask: UpdateMask = required(alloc, value, update_mask())?;
+        let deadline = read_deadline(alloc, value, mask)?;
+        let tags = read_tags(alloc, value, mask)?;
+        Ok(UpdateInvocation {
+            id: named.into_id(),
+            deadline,
+            tags,
+        })
+    }
 }

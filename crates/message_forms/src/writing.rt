@@ -17,33 +17,25 @@ use crate::names::{
     add_invocations, deadline, including_invocation, invocation, invocation_id, name, realm, tags,
     update_mask,
 };
-use crate::requests::Request;
+use crate::requests::{CreateInvocation, NewInvocation, Request, UpdateIncludedInvocations};
 use crate::shown::{name_value, put_names};
+use crate::updates::UpdateInvocation;
 use json_fields::{Name, Tag, put, write_list, write_optional, write_required};
 use lists::{Bytes, Listed};
-use names_realms::{InvocationId, Moment, Realm};
+use names_realms::{InvocationId, Moment};
 use serde_json::{Map, Value};
 use std::alloc::{AllocError, Global};
 
 /// What is written of the invocation in a request for a new one.
-fn new_invocation_value(
-    alloc: Global,
-    new_realm: &Realm,
-    new_deadline: &Option<Moment>,
-    new_tags: &[Tag],
-) -> Result<Value, AllocError>
-    ensures value { IfOk result (λ v. view v
-        ≡ new_invocation_data
-        (record { realm = new_realm.now; deadline = new_deadline.now; tags = new_tags.now })) }
+fn new_invocation_value(alloc: Global, new: &NewInvocation) -> Result<Value, AllocError>
+    ensures value { IfOk result (λ v. view v ≡ new_invocation_data new.now) }
     ensures again { OnOk result (IsWritten a_new_invocation IsNewInvocation never_empty (λ _. false)
-        (record { realm = new_realm.now; deadline = new_deadline.now; tags = new_tags.now })
-        (new_invocation_data
-        (record { realm = new_realm.now; deadline = new_deadline.now; tags = new_tags.now }))) }
+        new.now (new_invocation_data new.now)) }
 {
     let mut map = Map::new(alloc);
-    write_list(alloc, &mut map, tags(), new_tags)?;
-    write_required(alloc, &mut map, realm(), new_realm)?;
-    write_optional(alloc, &mut map, deadline(), new_deadline)?;
+    write_list(alloc, &mut map, tags(), new.tags.as_slice())?;
+    write_required(alloc, &mut map, realm(), &new.realm)?;
+    write_optional(alloc, &mut map, deadline(), &new.deadline)?;
     Ok(Value::Object(map))
 }
 
@@ -61,21 +53,14 @@ fn create_value(alloc: Global, id: &InvocationId, new: Value) -> Result<Value, A
 }
 
 /// What is written of a request for a new invocation.
-fn create_request_value(
-    alloc: Global,
-    id: &InvocationId,
-    new_realm: &Realm,
-    new_deadline: &Option<Moment>,
-    new_tags: &[Tag],
-) -> Result<Value, AllocError>
-    ensures value { IfOk result (λ v. view v
-        ≡ request_data (Request.CreateInvocation id.now new_realm.now new_deadline.now new_tags.now)) }
-    ensures again { OnOk result (IsReadAgain
-        (request_data (Request.CreateInvocation id.now new_realm.now new_deadline.now new_tags.now))
-        (Request.CreateInvocation id.now new_realm.now new_deadline.now new_tags.now)) }
+fn create_request_value(alloc: Global, request: &CreateInvocation) -> Result<Value, AllocError>
+    ensures value { IfOk result (λ v.
+        view v ≡ request_data (Request.CreateInvocation request.now)) }
+    ensures again { OnOk result (IsReadAgain (request_data (Request.CreateInvocation request.now))
+        (Request.CreateInvocation request.now)) }
 {
-    let new = new_invocation_value(alloc, new_realm, new_deadline, new_tags)?;
-    create_value(alloc, id, new)
+    let new = new_invocation_value(alloc, &request.invocation)?;
+    create_value(alloc, &request.id, new)
 }
 
 /// Puts an invocation's name under the name of a member.
@@ -157,40 +142,33 @@ fn update_value(alloc: Global, mask: &str, changed: Value) -> Result<Value, Allo
 }
 
 /// What is written of an update. `Err` also where it changes nothing: no request asks for that.
-fn update_request_value(
-    alloc: Global,
-    id: &InvocationId,
-    new_deadline: &Option<Moment>,
-    new_tags: &Option<Listed<Tag>>,
-) -> Result<Value, AllocError>
-    ensures value { IfOk result (λ v. view v ≡ request_data
-        (Request.UpdateInvocation id.now new_deadline.now new_tags.now)) }
-    ensures again { OnOk result (IsReadAgain
-        (request_data (Request.UpdateInvocation id.now new_deadline.now new_tags.now))
-        (Request.UpdateInvocation id.now new_deadline.now new_tags.now)) }
+fn update_request_value(alloc: Global, request: &UpdateInvocation) -> Result<Value, AllocError>
+    ensures value { IfOk result (λ v.
+        view v ≡ request_data (Request.UpdateInvocation request.now)) }
+    ensures again { OnOk result (IsReadAgain (request_data (Request.UpdateInvocation request.now))
+        (Request.UpdateInvocation request.now)) }
 {
-    let Some(mask) = mask_of(new_deadline, new_tags) else {
+    let Some(mask) = mask_of(&request.deadline, &request.tags) else {
         return Err(AllocError);
     };
-    let changed = changed_value(alloc, id, new_deadline, new_tags)?;
+    let changed = changed_value(alloc, &request.id, &request.deadline, &request.tags)?;
     update_value(alloc, mask, changed)
 }
 
 /// What is written of a request to include invocations.
 fn include_request_value(
     alloc: Global,
-    including: &InvocationId,
-    add: &[InvocationId],
+    request: &UpdateIncludedInvocations,
 ) -> Result<Value, AllocError>
-    ensures value { IfOk result (λ v. view v ≡ request_data
-        (Request.UpdateIncludedInvocations including.now add.now)) }
+    ensures value { IfOk result (λ v. view v
+        ≡ request_data (Request.UpdateIncludedInvocations request.now)) }
     ensures again { OnOk result (IsReadAgain
-        (request_data (Request.UpdateIncludedInvocations including.now add.now))
-        (Request.UpdateIncludedInvocations including.now add.now)) }
+        (request_data (Request.UpdateIncludedInvocations request.now))
+        (Request.UpdateIncludedInvocations request.now)) }
 {
     let mut map = Map::new(alloc);
-    put_names(alloc, &mut map, add_invocations(), add)?;
-    put_name(alloc, &mut map, including_invocation(), including)?;
+    put_names(alloc, &mut map, add_invocations(), request.add.as_slice())?;
+    put_name(alloc, &mut map, including_invocation(), &request.including)?;
     Ok(Value::Object(map))
 }
 
@@ -200,20 +178,11 @@ fn request_value(alloc: Global, request: &Request) -> Result<Value, AllocError>
     ensures again { OnOk result (IsReadAgain (request_data request.now) request.now) }
 {
     match request {
-        Request::CreateInvocation {
-            id,
-            realm,
-            deadline,
-            tags,
-        } => create_request_value(alloc, id, realm, deadline, tags.as_slice()),
-        Request::UpdateInvocation { id, deadline, tags } => {
-            update_request_value(alloc, id, deadline, tags)
-        }
-        Request::FinalizeInvocation { id } => named_value(alloc, id),
-        Request::UpdateIncludedInvocations { including, add } => {
-            include_request_value(alloc, including, add.as_slice())
-        }
-        Request::GetInvocation { id } => named_value(alloc, id),
+        Request::CreateInvocation(request) => create_request_value(alloc, request),
+        Request::UpdateInvocation(request) => update_request_value(alloc, request),
+        Request::FinalizeInvocation(request) => named_value(alloc, &request.id),
+        Request::UpdateIncludedInvocations(request) => include_request_value(alloc, request),
+        Request::GetInvocation(request) => named_value(alloc, &request.id),
     }
 }
 

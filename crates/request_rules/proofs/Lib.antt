@@ -1,11 +1,10 @@
 pub mod FormLaws
-pub mod PolicyLaws
-pub mod RuleOrder
-pub mod OrderLaws
-pub mod PlaceLaws
+pub mod Firsts
+pub mod Judged
 pub mod RuleFacts
-pub mod RuleChain
-pub mod RightLaws
+pub mod PlaceLaws
+pub mod PolicyLaws
 pub mod ReadLaws
 pub mod CauseLaws
-pub mod JudgeLaws
+pub mod RightLaws
+pub mod Decided

@@ -14,13 +14,6 @@ use Rattle.policy_checks.proofs.PlaceLemmas.{place_step, place_of-within}
 use Rattle.invocations.specs.declared.invocation.Invocation.{Invocation}
 use Rattle.invocations.specs.Rows.{HasId, IsPlaceOf, IsTable, ids_of}
 use Rattle.request_rules.specs.Named.{named, place_named, places_named, row_at}
-use Rattle.message_forms.specs.declared.requests.Request.{Request}
-use Rattle.request_rules.specs.Demands.{ids_asked, included_ids, own_id, with_own}
-use Rattle.request_rules.specs.Order.{IsFirst, IsFirstOf, IsNoneOf, IsUnbroken}
-use Rattle.request_rules.specs.Broken.{NamesNone, of_invocation}
-use Rattle.request_rules.proofs.OrderLaws.{first_in_front, first_in_more, none_both}
-use Rattle.request_rules.proofs.RuleOrder.{first_alone}
-use Rattle.request_rules.proofs.RuleFacts.{one_names_none}
 
 -- the place of a name has it
 pub place_holds : (x : List ℕ) (names : List (List ℕ)) (q : ℕ) → place_of x names ≡ Some q → slice_get names q ≡ Some x
@@ -85,50 +78,8 @@ pub row_found : (rows : List Invocation) (id : List ℕ) (place : ℕ) (row : In
     → slice_get rows place ≡ Some row → Some row ≡ named rows id
 row_found rows id place row at stands = sym (place-named rows id place (sym at) ∙ stands)
 
--- the invocation that a request is about stands before those that it includes
-pub own_first : (own : Option (List ℕ)) (ids : List (List ℕ)) → with_own own ids ≡ with_own own [] ++ ids
-own_first None ids = refl
-own_first (Some id) ids = refl
-
 pub place_of-has : (rows : List Invocation) (id : List ℕ) (place : ℕ) → IsPlaceOf rows id place → HasId rows id
 place_of-has rows id place is = slice_get-Contains (ids_of rows) place id is
-
--- the first missing one of those that a request names: what it is about, or of what it includes
-abbrev IsMissing : List Invocation → List ℕ → Type 0
-IsMissing rows id = ¬ HasId rows id
-
-named_ids : (request : Request) (own : Option (List ℕ)) (ids : List (List ℕ)) → own ≡ own_id request → ids ≡ included_ids request
-    → with_own own [] ++ ids ≡ ids_asked request
-named_ids request own ids own_is ids_are =
-    sym (own_first own ids) ∙ (ap (λ (o : Option (List ℕ)). with_own o ids) own_is ∙ ap (with_own (own_id request)) ids_are)
-
-named_first : (rows : List Invocation) (request : Request) (id : List ℕ) → IsFirstOf (IsMissing rows) (ids_asked request) id
-    → IsFirst (NamesNone rows request) (of_invocation 8 id)
-named_first rows request id first =
-    first_alone (NamesNone rows request) (one_names_none rows request) (of_invocation 8 id)
-    (record { id = id; first = first; refusal_is = refl })
-
-pub first_of_own : (rows : List Invocation) (request : Request) (own : Option (List ℕ)) (id : List ℕ) → own ≡ own_id request
-    → IsFirstOf (IsMissing rows) (with_own own []) id → IsFirst (NamesNone rows request) (of_invocation 8 id)
-first_of_own rows request own id own_is first =
-    named_first rows request id
-    (subst (λ (xs : List (List ℕ)). IsFirstOf (IsMissing rows) xs id) (named_ids request own (included_ids request) own_is refl)
-    (first_in_front (IsMissing rows) (with_own own []) (included_ids request) id first))
-
-pub first_of_included : (rows : List Invocation) (request : Request) (own : Option (List ℕ)) (ids : List (List ℕ)) (id : List ℕ)
-    → own ≡ own_id request → ids ≡ included_ids request → IsNoneOf (IsMissing rows) (with_own own [])
-    → IsFirstOf (IsMissing rows) ids id → IsFirst (NamesNone rows request) (of_invocation 8 id)
-first_of_included rows request own ids id own_is ids_are none first =
-    named_first rows request id
-    (subst (λ (xs : List (List ℕ)). IsFirstOf (IsMissing rows) xs id) (named_ids request own ids own_is ids_are)
-    (first_in_more (IsMissing rows) (with_own own []) ids id none first))
-
-pub none_of_named : (rows : List Invocation) (request : Request) (own : Option (List ℕ)) (ids : List (List ℕ))
-    → own ≡ own_id request → ids ≡ included_ids request → IsNoneOf (IsMissing rows) (with_own own [])
-    → IsNoneOf (IsMissing rows) ids → IsUnbroken (NamesNone rows request)
-none_of_named rows request own ids own_is ids_are none also r is =
-    subst (IsNoneOf (IsMissing rows)) (named_ids request own ids own_is ids_are)
-    (none_both (IsMissing rows) (with_own own []) ids none also) is.id is.first
 
 -- the places of one more
 pub places_more : (rows : List Invocation) (ids : List (List ℕ)) (i : ℕ) (id : List ℕ) → i < length ids → get_or ids i id ≡ id

@@ -4,16 +4,14 @@ use Rattle.permissions.specs.Hash.{token_text}
 use Rattle.call_forms.specs.declared.asked.Asked.{Asked}
 use Rattle.call_forms.specs.declared.forms.Refusal.{Refusal}
 use Rattle.call_forms.specs.Rules.{refusal_answer}
-use Rattle.message_forms.specs.declared.requests.Request.{Request}
 use Rattle.request_rules.specs.declared.reading.Call.{Call}
 use Rattle.request_rules.specs.declared.reading.TokenCheck.{TokenCheck}
 use Rattle.request_rules.specs.declared.reading.TokenCheck.TheVariants.{New, Missing, Wrong, Right, Unasked}
 use Rattle.request_rules.specs.declared.reading.Understood.{Understood}
 use Rattle.request_rules.specs.declared.reading.Understood.TheVariants.{Refused, Wanted}
 use Rattle.request_rules.specs.Settings.{Settings, secret_of}
-use Rattle.request_rules.specs.Demands.{changed_id, new_id}
-use Rattle.request_rules.specs.Order.{IsFirst}
-use Rattle.request_rules.specs.Broken.{Wants, BrokenAlone}
+use Rattle.request_rules.specs.Demands.{Demand, demand_of}
+use Rattle.request_rules.specs.Broken.{Wants, IsRefusedAlone}
 
 -- The update token of the invocation with this id.
 abbrev pub token_for : Settings → List ℕ → List ℕ
@@ -21,17 +19,17 @@ token_for s id = token_text (secret_of s) id
 
 -- A request that changes an invocation shows no token, another one, or the right one. A request for
 -- a new invocation will hand out its token. Of other requests none is asked.
-abbrev pub IsChecked : Settings → Asked → Request → TokenCheck → Type 0
-IsChecked s asked request (New token) =
-    (id : List ℕ) × (new_id request ≡ Some id) × (token ≡ token_for s id)
-IsChecked s asked request Missing =
-    (id : List ℕ) × (changed_id request ≡ Some id) × (asked.update_token ≡ None)
-IsChecked s asked request Wrong =
-    (id : List ℕ) × (token : List ℕ) × (changed_id request ≡ Some id)
+abbrev pub IsChecked : Settings → Asked → Demand → TokenCheck → Type 0
+IsChecked s asked d (New token) =
+    (id : List ℕ) × (d.changed ≡ None) × (d.makes ≡ Some id) × (token ≡ token_for s id)
+IsChecked s asked d Missing =
+    (id : List ℕ) × (d.changed ≡ Some id) × (asked.update_token ≡ None)
+IsChecked s asked d Wrong =
+    (id : List ℕ) × (token : List ℕ) × (d.changed ≡ Some id)
     × (asked.update_token ≡ Some token) × (token ≢ token_for s id)
-IsChecked s asked request Right =
-    (id : List ℕ) × (changed_id request ≡ Some id) × (asked.update_token ≡ Some (token_for s id))
-IsChecked s asked request Unasked = (new_id request ≡ None) × (changed_id request ≡ None)
+IsChecked s asked d Right =
+    (id : List ℕ) × (d.changed ≡ Some id) × (asked.update_token ≡ Some (token_for s id))
+IsChecked s asked d Unasked = (d.makes ≡ None) × (d.changed ≡ None)
 
 -- the token that is handed out
 abbrev pub token_handed : TokenCheck → Option (List ℕ)
@@ -44,11 +42,11 @@ token_handed Unasked = None
 -- A call is what a caller asks for, with what its update token comes to.
 pub record IsCallOf (s : Settings) (asked : Asked) (call : Call) : Type 0 where
   pub wants : Wants s asked call.caller call.request
-  pub token_is : IsChecked s asked call.request call.token
+  pub token_is : IsChecked s asked (demand_of call.request) call.token
 
 -- The request breaks a rule by itself, and this answers the first one; or a caller wants this, and
 -- so it breaks none.
 abbrev pub IsUnderstood : Settings → Asked → Understood → Type 0
 IsUnderstood s asked (Refused answer) =
-    (r : Refusal) × IsFirst (BrokenAlone s asked) r × (answer ≡ refusal_answer r)
+    (r : Refusal) × IsRefusedAlone s asked r × (answer ≡ refusal_answer r)
 IsUnderstood s asked (Wanted call) = IsCallOf s asked call

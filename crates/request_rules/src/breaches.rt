@@ -2,12 +2,13 @@
 ghost use Rattle.std.specs.Prelude.{◌≡◌, ◌++◌, IfOk, codes, decimal};
 ghost use Rattle.moments_spans.specs.Moments.{moment_text};
 ghost use Rattle.policy_checks.specs.Permissions.{permission_text};
-ghost use Rattle.call_forms.specs.Rules.{IsRuleNumber, refusal_answer};
+ghost use Rattle.call_forms.specs.Rules.{refusal_answer};
 ghost use Rattle.message_forms.specs.Replies.{state_text};
-ghost use Rattle.request_rules.specs.Broken.{table_full};
+ghost use Rattle.request_rules.specs.Broken.{number_of, table_full};
 ghost use Rattle.request_rules.specs.Breaches.{refusal_of};
 
 use crate::refusals::refused;
+use crate::rules::Rule;
 use call_forms::Answer;
 use message_forms::state_name;
 use names_realms::{InvocationId, Moment, Realm, State};
@@ -21,29 +22,29 @@ const TABLE_FULL: u8 = 20;
 #[derive(Clone, Copy)]
 pub enum Breach<'r> {
     /// An invocation that the request names isn't there.
-    NotThere {
+    NotFound {
         id: &'r InvocationId,
     },
     /// The request changes the invocation, and shows no update token.
-    NoToken {
+    NoUpdateToken {
         id: &'r InvocationId,
     },
     /// It shows another token than the invocation's.
-    BadToken {
+    BadUpdateToken {
         id: &'r InvocationId,
     },
     /// The caller lacks the permission in the realm.
-    LacksRight {
+    Denied {
         permission: Permission,
         realm: &'r Realm,
     },
     /// The invocation that the request changes isn't active.
-    Inactive {
+    NotActive {
         id: &'r InvocationId,
         state: State,
     },
     /// The deadline isn't in reach of the moment of the call.
-    BadDeadline {
+    DeadlineRange {
         deadline: Moment,
         moment: Moment,
     },
@@ -56,7 +57,7 @@ pub enum Breach<'r> {
         count: usize,
     },
     /// An invocation has the id.
-    NameTaken {
+    Taken {
         id: &'r InvocationId,
     },
 }
@@ -126,21 +127,20 @@ fn inclusions_text(alloc: Global, count: u32) -> Result<Vec<u8>, AllocError>
 }
 
 impl Breach<'_> {
-    /// The number of the broken rule.
-    fn rule(&self) -> u8
-        ensures number { result ≡ (refusal_of self.now).rule }
-        ensures known { IsRuleNumber result }
+    /// The broken rule.
+    fn rule(&self) -> Rule
+        ensures { number_of result ≡ (refusal_of self.now).rule }
     {
         match self {
-            Breach::NotThere { .. } => 8,
-            Breach::NoToken { .. } => 9,
-            Breach::BadToken { .. } => 10,
-            Breach::LacksRight { .. } => 11,
-            Breach::Inactive { .. } => 12,
-            Breach::BadDeadline { .. } => 13,
-            Breach::Itself { .. } => 14,
-            Breach::TooMany { .. } => 15,
-            Breach::NameTaken { .. } => 19,
+            Breach::NotFound { .. } => Rule::NotFound,
+            Breach::NoUpdateToken { .. } => Rule::NoUpdateToken,
+            Breach::BadUpdateToken { .. } => Rule::BadUpdateToken,
+            Breach::Denied { .. } => Rule::Denied,
+            Breach::NotActive { .. } => Rule::NotActive,
+            Breach::DeadlineRange { .. } => Rule::DeadlineRange,
+            Breach::Itself { .. } => Rule::Itself,
+            Breach::TooMany { .. } => Rule::TooMany,
+            Breach::Taken { .. } => Rule::Taken,
         }
     }
 
@@ -149,15 +149,15 @@ impl Breach<'_> {
         ensures { IfOk result (λ text. text.items ≡ (refusal_of self.now).subject) }
     {
         match *self {
-            Breach::NotThere { id } => name_text(alloc, id),
-            Breach::NoToken { id } => name_text(alloc, id),
-            Breach::BadToken { id } => name_text(alloc, id),
-            Breach::LacksRight { permission, realm } => right_text(alloc, permission, realm),
-            Breach::Inactive { id, state } => state_of(alloc, id, state),
-            Breach::BadDeadline { deadline, moment } => moments_text(alloc, deadline, moment),
+            Breach::NotFound { id } => name_text(alloc, id),
+            Breach::NoUpdateToken { id } => name_text(alloc, id),
+            Breach::BadUpdateToken { id } => name_text(alloc, id),
+            Breach::Denied { permission, realm } => right_text(alloc, permission, realm),
+            Breach::NotActive { id, state } => state_of(alloc, id, state),
+            Breach::DeadlineRange { deadline, moment } => moments_text(alloc, deadline, moment),
             Breach::Itself { id } => name_text(alloc, id),
             Breach::TooMany { count } => number_text(alloc, count),
-            Breach::NameTaken { id } => name_text(alloc, id),
+            Breach::Taken { id } => name_text(alloc, id),
         }
     }
 
@@ -166,7 +166,7 @@ impl Breach<'_> {
     pub fn answer(&self, alloc: Global) -> Result<Answer, AllocError>
         ensures { IfOk result (λ answer. answer ≡ refusal_answer (refusal_of self.now)) }
     {
-        refused(alloc, self.rule(), self.subject(alloc)?)
+        refused(alloc, self.rule().number(), self.subject(alloc)?)
     }
 }
 

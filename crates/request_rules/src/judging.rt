@@ -1,19 +1,20 @@
-//! Which rule a caller's request breaks, if any. Nothing here takes memory.
-ghost use Rattle.std.specs.Prelude.{◌≡◌, ◌<◌, ◌↔◌, ℤ, List, IsTrue, Contains, length, option_map};
-ghost use Rattle.inclusion_graph.specs.declared.edge.Edge.{Edge};
+//! Which rule a demand breaks, if any. Nothing here takes memory.
+ghost use Rattle.std.specs.Prelude.{◌≡◌, ◌<◌, ◌↔◌, IsTrue, Contains, length, option_map};
 ghost use Rattle.call_forms.specs.declared.asked.Asked.{Asked};
-ghost use Rattle.request_rules.specs.Demands.{active_id, changed_id, deadline_asked, included_ids, new_id};
-ghost use Rattle.request_rules.specs.Broken.{HasBadDeadline, HasBadToken, HasNoToken, IncludesItself, IsInReach, MeetsInactive, NamesTooMany, TakesName};
+ghost use Rattle.request_rules.specs.Demands.{demand_of};
+ghost use Rattle.request_rules.specs.Broken.{IsBroken, BadUpdateToken, DeadlineRange, Denied, IsInReach, Itself, NoUpdateToken, NotActive, NotFound, Taken, TooMany};
+ghost use Rattle.request_rules.specs.Order.{Judges};
 ghost use Rattle.request_rules.specs.Settings.{Settings};
 ghost use Rattle.request_rules.specs.Understood.{IsCallOf, IsChecked};
-ghost use Rattle.request_rules.specs.Breaches.{BrokenBelow, Finds};
+ghost use Rattle.request_rules.specs.Breaches.{Finds, case_of, refusal_of};
 
 use crate::breaches::Breach;
-use crate::locating::{included_ids, names_none, row_of};
+use crate::demand::{Demand, demand_of};
+use crate::locating::{first_missing, place_of, row_of};
 use crate::reading::{Call, TokenCheck};
 use crate::rights::Asker;
+use crate::rules::Rule;
 use invocations::Table;
-use message_forms::Request;
 use names_realms::{InvocationId, Moment, State};
 use permissions::Policy;
 
@@ -26,101 +27,65 @@ const GREATEST_LIFETIME: i64 = 432_000_000_000;
 /// How many invocations a request may name to include.
 const MOST_NAMES: usize = 500;
 
-/// The invocation that a request changes.
-pub(crate) fn changed_id(request: &Request) -> Option<&InvocationId>
-    ensures { option_map (λ id. id.now) result ≡ changed_id request.now }
+/// The first invocation that is named and isn't there.
+fn not_found<'r>(table: &Table, demand: &Demand<'r>) -> Option<Breach<'r>>
+    ensures { Finds (NotFound table.now.rows demand.now) result }
 {
-    match request {
-        Request::CreateInvocation { .. } => None,
-        Request::UpdateInvocation { id, .. } => Some(id),
-        Request::FinalizeInvocation { id } => Some(id),
-        Request::UpdateIncludedInvocations { including, .. } => Some(including),
-        Request::GetInvocation { .. } => None,
+    match first_missing(table, demand) {
+        Some(id) => Some(Breach::NotFound { id }),
+        None => None,
     }
 }
 
-/// The invocation that has to be active.
-fn active_id(request: &Request) -> Option<&InvocationId>
-    ensures { option_map (λ id. id.now) result ≡ active_id request.now }
+/// The invocation that is changed without an update token.
+fn no_update_token<'r>(token: TokenCheck, demand: &Demand<'r>) -> Option<Breach<'r>>
+    ensures { (s : Settings) (asked : Asked) → IsChecked s asked demand.now token
+        → Finds (NoUpdateToken asked demand.now) result }
 {
-    match request {
-        Request::CreateInvocation { .. } => None,
-        Request::UpdateInvocation { id, .. } => Some(id),
-        Request::FinalizeInvocation { .. } => None,
-        Request::UpdateIncludedInvocations { including, .. } => Some(including),
-        Request::GetInvocation { .. } => None,
-    }
-}
-
-/// The id of a new invocation.
-pub(crate) fn new_id(request: &Request) -> Option<&InvocationId>
-    ensures { option_map (λ id. id.now) result ≡ new_id request.now }
-{
-    match request {
-        Request::CreateInvocation { id, .. } => Some(id),
-        Request::UpdateInvocation { .. } => None,
-        Request::FinalizeInvocation { .. } => None,
-        Request::UpdateIncludedInvocations { .. } => None,
-        Request::GetInvocation { .. } => None,
-    }
-}
-
-/// The deadline that a request gives.
-fn deadline_asked(request: &Request) -> Option<Moment>
-    ensures { result ≡ deadline_asked request.now }
-{
-    match request {
-        Request::CreateInvocation { deadline, .. } => *deadline,
-        Request::UpdateInvocation { deadline, .. } => *deadline,
-        Request::FinalizeInvocation { .. } => None,
-        Request::UpdateIncludedInvocations { .. } => None,
-        Request::GetInvocation { .. } => None,
-    }
-}
-
-/// Whether the request changes an invocation and shows no token.
-fn has_no_token(call: &Call) -> Option<Breach<'_>>
-    ensures { (s : Settings) (asked : Asked) → IsChecked s asked call.now.request call.now.token
-        → Finds (HasNoToken asked call.now.request) result }
-{
-    match call.token {
-        TokenCheck::Missing => match changed_id(&call.request) {
-            Some(id) => Some(Breach::NoToken { id }),
-            None => None,
-        },
+    let id = demand.changed?;
+    match token {
+        TokenCheck::Missing => Some(Breach::NoUpdateToken { id }),
         _ => None,
     }
 }
 
-/// Whether the request changes an invocation and shows another token than its own.
-fn has_bad_token(call: &Call) -> Option<Breach<'_>>
-    ensures { (s : Settings) (asked : Asked) → IsChecked s asked call.now.request call.now.token
-        → Finds (HasBadToken s asked call.now.request) result }
+/// The invocation that is changed by another token than its own.
+fn bad_update_token<'r>(token: TokenCheck, demand: &Demand<'r>) -> Option<Breach<'r>>
+    ensures { (s : Settings) (asked : Asked) → IsChecked s asked demand.now token
+        → Finds (BadUpdateToken s asked demand.now) result }
 {
-    match call.token {
-        TokenCheck::Wrong => match changed_id(&call.request) {
-            Some(id) => Some(Breach::BadToken { id }),
-            None => None,
-        },
+    let id = demand.changed?;
+    match token {
+        TokenCheck::Wrong => Some(Breach::BadUpdateToken { id }),
         _ => None,
     }
 }
 
-/// Whether the invocation that has to be active isn't.
-fn meets_inactive<'r>(table: &Table, request: &'r Request) -> Option<Breach<'r>>
-    ensures { Finds (MeetsInactive table.now.rows request.now) result }
+/// The first right that the caller lacks.
+fn denied<'r>(asker: &Asker<'r>, table: &'r Table, demand: &Demand<'r>) -> Option<Breach<'r>>
+    requires { asker.now.caller < length asker.now.policy.now.users }
+    ensures { Finds (Denied asker.now.policy.now table.now.rows asker.now.caller demand.now)
+        result }
 {
-    let Some(id) = active_id(request) else {
-        return None;
-    };
-    let Some(row) = row_of(table, id) else {
-        return None;
-    };
-    let state = row.state;
+    match asker.lacking(table, demand) {
+        Some(lacking) => Some(Breach::Denied {
+            permission: lacking.permission,
+            realm: lacking.realm,
+        }),
+        None => None,
+    }
+}
+
+/// The invocation that has to be active and isn't.
+fn not_active<'r>(table: &Table, demand: &Demand<'r>) -> Option<Breach<'r>>
+    ensures { Finds (NotActive table.now.rows demand.now) result }
+{
+    let id = demand.active?;
+    let state = row_of(table, id)?.state;
     if state == State::Active {
         return None;
     }
-    Some(Breach::Inactive { id, state })
+    Some(Breach::NotActive { id, state })
 }
 
 /// Whether a deadline is in reach of the moment of a call.
@@ -138,16 +103,15 @@ fn is_in_reach(moment: Moment, deadline: Moment) -> bool
     true
 }
 
-/// Whether the request gives a deadline that isn't in reach.
-fn has_bad_deadline<'r>(moment: Moment, request: &'r Request) -> Option<Breach<'r>>
-    ensures { Finds (HasBadDeadline moment request.now) result }
+/// The deadline that is given and isn't in reach.
+fn deadline_range<'r>(moment: Moment, demand: &Demand<'r>) -> Option<Breach<'r>>
+    ensures { Finds (DeadlineRange moment demand.now) result }
 {
-    match deadline_asked(request) {
-        Some(deadline) if !is_in_reach(moment, deadline) => {
-            Some(Breach::BadDeadline { deadline, moment })
-        }
-        _ => None,
+    let deadline = demand.deadline?;
+    if is_in_reach(moment, deadline) {
+        return None;
     }
+    Some(Breach::DeadlineRange { deadline, moment })
 }
 
 /// Whether an id is one of these.
@@ -162,41 +126,35 @@ fn is_among(id: &InvocationId, ids: &[InvocationId]) -> bool
     false
 }
 
-/// Whether an invocation would include itself.
-fn includes_itself(request: &Request) -> Option<Breach<'_>>
-    ensures { Finds (IncludesItself request.now) result }
+/// The invocation that would include itself.
+fn itself<'r>(demand: &Demand<'r>) -> Option<Breach<'r>>
+    ensures { Finds (Itself demand.now) result }
 {
-    let Some(id) = changed_id(request) else {
-        return None;
-    };
-    if is_among(id, included_ids(request)) {
+    let id = demand.changed?;
+    if is_among(id, demand.included) {
         return Some(Breach::Itself { id });
     }
     None
 }
 
-/// Whether the request names more invocations to include than it may.
-fn names_too_many(request: &Request) -> Option<Breach<'_>>
-    ensures { Finds (NamesTooMany request.now) result }
+/// How many invocations are named to be included, where they are more than may be.
+fn too_many<'r>(demand: &Demand<'r>) -> Option<Breach<'r>>
+    ensures { Finds (TooMany demand.now) result }
 {
-    let count = included_ids(request).len();
+    let count = demand.included.len();
     if count > MOST_NAMES {
         return Some(Breach::TooMany { count });
     }
     None
 }
 
-/// Whether the name of what the request makes is taken.
-fn takes_name<'r>(table: &Table, request: &'r Request) -> Option<Breach<'r>>
-    ensures { Finds (TakesName table.now.rows request.now) result }
+/// The id that has to be free and isn't.
+fn taken<'r>(table: &Table, demand: &Demand<'r>) -> Option<Breach<'r>>
+    ensures { Finds (Taken table.now.rows demand.now) result }
 {
-    let Some(id) = new_id(request) else {
-        return None;
-    };
-    match table.find(id) {
-        Some(_) => Some(Breach::NameTaken { id }),
-        None => None,
-    }
+    let id = demand.makes?;
+    place_of(table, id)?;
+    Some(Breach::Taken { id })
 }
 
 /// What a call is judged by: who may do what, the invocations that are there, and its moment.
@@ -208,44 +166,55 @@ pub struct Situation<'r> {
 }
 
 impl<'r> Situation<'r> {
-    /// The first of the rules 8 to 19 that a call breaks, if any.
-    pub fn judge(&self, call: &'r Call) -> Option<Breach<'r>>
+    /// What breaks one rule, if it is broken.
+    fn broken_by(&self, call: &Call, demand: &Demand<'r>, rule: Rule) -> Option<Breach<'r>>
         requires { call.now.caller < length self.now.policy.now.users }
-        ensures { (asked : Asked) (edges : List Edge)
-            → IsCallOf (record { policy = self.now.policy.now }) asked call.now
-            → Finds (BrokenBelow 20 (record { policy = self.now.policy.now })
-            (record { rows = self.now.table.now.rows; inclusions = edges; moment = self.now.moment })
-            asked call.now.caller call.now.request) result }
+        ensures { (asked : Asked)
+            → IsChecked (record { policy = self.now.policy.now }) asked demand.now call.now.token
+            → Finds (IsBroken (case_of self.now asked call.now.caller) demand.now rule) result }
     {
-        let request = &call.request;
         let asker = Asker {
             policy: self.policy,
             caller: call.caller,
         };
-        if let Some(breach) = names_none(self.table, request) {
-            return Some(breach);
+        match rule {
+            Rule::NotFound => not_found(self.table, demand),
+            Rule::NoUpdateToken => no_update_token(call.token, demand),
+            Rule::BadUpdateToken => bad_update_token(call.token, demand),
+            Rule::Denied => denied(&asker, self.table, demand),
+            Rule::NotActive => not_active(self.table, demand),
+            Rule::DeadlineRange => deadline_range(self.moment, demand),
+            Rule::Itself => itself(demand),
+            Rule::TooMany => too_many(demand),
+            Rule::Taken => taken(self.table, demand),
         }
-        if let Some(breach) = has_no_token(call) {
-            return Some(breach);
+    }
+
+    /// The first of these rules that a demand breaks, if any.
+    fn judge_demand(&self, rules: &[Rule], call: &Call, demand: &Demand<'r>) -> Option<Breach<'r>>
+        requires { call.now.caller < length self.now.policy.now.users }
+        ensures { (asked : Asked)
+            → IsChecked (record { policy = self.now.policy.now }) asked demand.now call.now.token
+            → Judges (IsBroken (case_of self.now asked call.now.caller) demand.now) rules.now
+            (option_map refusal_of result) }
+    {
+        for rule in rules {
+            if let Some(breach) = self.broken_by(call, demand, *rule) {
+                return Some(breach);
+            }
         }
-        if let Some(breach) = has_bad_token(call) {
-            return Some(breach);
-        }
-        if let Some(breach) = asker.lacks_right(self.table, request) {
-            return Some(breach);
-        }
-        if let Some(breach) = meets_inactive(self.table, request) {
-            return Some(breach);
-        }
-        if let Some(breach) = has_bad_deadline(self.moment, request) {
-            return Some(breach);
-        }
-        if let Some(breach) = includes_itself(request) {
-            return Some(breach);
-        }
-        if let Some(breach) = names_too_many(request) {
-            return Some(breach);
-        }
-        takes_name(self.table, request)
+        None
+    }
+
+    /// The first of these rules that a call breaks, if any.
+    pub fn judge(&self, rules: &[Rule], call: &'r Call) -> Option<Breach<'r>>
+        requires { call.now.caller < length self.now.policy.now.users }
+        ensures { (asked : Asked)
+            → IsCallOf (record { policy = self.now.policy.now }) asked call.now
+            → Judges
+            (IsBroken (case_of self.now asked call.now.caller) (demand_of call.now.request))
+            rules.now (option_map refusal_of result) }
+    {
+        self.judge_demand(rules, call, &demand_of(&call.request))
     }
 }

@@ -1,14 +1,19 @@
-//! Which rule a request breaks: what it says by itself, and what it asks of the invocations that are there.
+//! Which rule a request breaks: what it says by itself, and what it demands of the invocations that
+//! are there.
 #![tactic(auto)]
 
 mod breaches;
+mod demand;
 mod judging;
 mod locating;
 mod reading;
 mod refusals;
 mod rights;
+mod rules;
 
 pub use breaches::{Breach, inclusions_full, rows_full};
+pub use demand::{Demand, demand_of};
 pub use judging::Situation;
-pub use locating::{included_ids, own_id, place_of, places_of};
+pub use locating::{place_of, places_of};
 pub use reading::{Call, TokenCheck, Understood, understand};
+pub use rules::Rule;

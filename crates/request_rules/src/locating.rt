@@ -1,44 +1,14 @@
 //! The invocations that a request names, and where they stand.
-ghost use Rattle.std.specs.Prelude.{◌≡◌, ◌++◌, [], IfOk, MatchOption, OnOk, option_map};
+ghost use Rattle.std.specs.Prelude.{◌≡◌, ◌++◌, [], IfOk, OnOk, option_map};
 ghost use Rattle.std.specs.List.{cons_option};
-ghost use Rattle.invocations.specs.Rows.{HasId};
-ghost use Rattle.request_rules.specs.Demands.{included_ids, own_id, with_own};
 ghost use Rattle.request_rules.specs.Named.{named, place_named, places_named};
-ghost use Rattle.request_rules.specs.Broken.{NamesNone};
-ghost use Rattle.request_rules.specs.Order.{IsFirstOf, IsNoneOf};
-ghost use Rattle.request_rules.specs.Breaches.{Finds};
+ghost use Rattle.request_rules.specs.Order.{FirstOf};
+ghost use Rattle.request_rules.specs.Broken.{IsMissing};
 
-use crate::breaches::Breach;
+use crate::demand::Demand;
 use invocations::{Invocation, Table};
-use message_forms::Request;
 use names_realms::InvocationId;
 use std::alloc::{AllocError, Global};
-
-/// The invocation that a request is about, and that has to be there.
-pub fn own_id(request: &Request) -> Option<&InvocationId>
-    ensures { option_map (λ id. id.now) result ≡ own_id request.now }
-{
-    match request {
-        Request::CreateInvocation { .. } => None,
-        Request::UpdateInvocation { id, .. } => Some(id),
-        Request::FinalizeInvocation { id } => Some(id),
-        Request::UpdateIncludedInvocations { including, .. } => Some(including),
-        Request::GetInvocation { id } => Some(id),
-    }
-}
-
-/// The invocations that a request includes in another one.
-pub fn included_ids(request: &Request) -> &[InvocationId]
-    ensures { result.now ≡ included_ids request.now }
-{
-    match request {
-        Request::UpdateIncludedInvocations { add, .. } => add.as_slice(),
-        Request::CreateInvocation { .. } => &[],
-        Request::UpdateInvocation { .. } => &[],
-        Request::FinalizeInvocation { .. } => &[],
-        Request::GetInvocation { .. } => &[],
-    }
-}
 
 /// The place of the invocation with this id.
 pub fn place_of(table: &Table, id: &InvocationId) -> Option<u32>
@@ -80,43 +50,40 @@ pub fn places_of(alloc: Global, table: &Table, ids: &[InvocationId]) -> Result<V
 }
 
 /// The first of these ids that no invocation has.
-fn first_missing<'r>(table: &Table, ids: &'r [InvocationId]) -> Option<&'r InvocationId>
-    ensures { MatchOption result (IsNoneOf (λ id. ¬ HasId table.now.rows id) ids.now)
-        (λ id. IsFirstOf (λ id. ¬ HasId table.now.rows id) ids.now id.now) }
+fn first_missing_of<'r>(table: &Table, ids: &'r [InvocationId]) -> Option<&'r InvocationId>
+    ensures { FirstOf (IsMissing table.now.rows) ids.now (option_map (λ id. id.now) result) }
 {
     for id in ids {
-        let Some(_) = table.find(id) else {
+        if place_of(table, id).is_none() {
             return Some(id);
-        };
+        }
     }
     None
 }
 
-/// The invocation that a request is about, if it has to be there and isn't.
-fn own_missing<'r>(table: &Table, own: Option<&'r InvocationId>) -> Option<&'r InvocationId>
-    ensures { MatchOption result
-        (IsNoneOf (λ id. ¬ HasId table.now.rows id) (with_own (option_map (λ id. id.now) own.entry) []))
-        (λ id. IsFirstOf (λ id. ¬ HasId table.now.rows id)
-        (with_own (option_map (λ id. id.now) own.entry) []) id.now) }
+/// The first invocation that has to be there and isn't.
+fn missing_named<'r>(table: &Table, demand: &Demand<'r>) -> Option<&'r InvocationId>
+    ensures { FirstOf (IsMissing table.now.rows) demand.now.named
+        (option_map (λ id. id.now) result) }
 {
-    let Some(id) = own else {
-        return None;
-    };
-    match table.find(id) {
-        Some(_) => None,
-        None => Some(id),
-    }
+    first_missing_of(table, demand.named)
 }
 
-/// Whether an invocation that the request names isn't there.
-pub(crate) fn names_none<'r>(table: &Table, request: &'r Request) -> Option<Breach<'r>>
-    ensures { Finds (NamesNone table.now.rows request.now) result }
+/// The first invocation that is to be included and isn't there.
+fn missing_included<'r>(table: &Table, demand: &Demand<'r>) -> Option<&'r InvocationId>
+    ensures { FirstOf (IsMissing table.now.rows) demand.now.included
+        (option_map (λ id. id.now) result) }
 {
-    if let Some(id) = own_missing(table, own_id(request)) {
-        return Some(Breach::NotThere { id });
+    first_missing_of(table, demand.included)
+}
+
+/// The first invocation that is named and isn't there.
+pub(crate) fn first_missing<'r>(table: &Table, demand: &Demand<'r>) -> Option<&'r InvocationId>
+    ensures { FirstOf (IsMissing table.now.rows) (demand.now.named ++ demand.now.included)
+        (option_map (λ id. id.now) result) }
+{
+    if let Some(id) = missing_named(table, demand) {
+        return Some(id);
     }
-    match first_missing(table, included_ids(request)) {
-        Some(id) => Some(Breach::NotThere { id }),
-        None => None,
-    }
+    missing_included(table, demand)
 }

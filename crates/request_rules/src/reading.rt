@@ -1,12 +1,11 @@
 //! What a request says by itself, whatever the world and the moment.
 ghost use Rattle.std.specs.Prelude.{◌≡◌, ◌<◌, Some, IfOk, IfSome, IsSome, length};
 ghost use Rattle.message_forms.specs.Methods.{method_of};
-ghost use Rattle.message_forms.specs.declared.requests.Request.{Request};
 ghost use Rattle.request_rules.specs.Settings.{caller_of};
-ghost use Rattle.request_rules.specs.Demands.{changed_id};
+ghost use Rattle.request_rules.specs.Demands.{Demand, demand_of};
 ghost use Rattle.request_rules.specs.Understood.{IsChecked, IsUnderstood, token_handed};
 
-use crate::judging::{changed_id, new_id};
+use crate::demand::{Demand, demand_of};
 use crate::refusals::{bad_body, no_caller, no_method};
 use call_forms::{Answer, Asked};
 use message_forms::{Method, Request, read_request};
@@ -75,8 +74,8 @@ fn caller_of(policy: &Policy, asked: &Asked) -> Option<CallerId>
 /// What the update token that a request shows comes to, where it changes the invocation with this
 /// id. The token is compared in the same time wherever it differs.
 fn check_shown(policy: &Policy, asked: &Asked, id: &InvocationId) -> TokenCheck
-    ensures { (request : Request) → changed_id request ≡ Some id.now
-        → IsChecked (record { policy = policy.now }) asked.now request result }
+    ensures { (d : Demand) → d.changed ≡ Some id.now
+        → IsChecked (record { policy = policy.now }) asked.now d result }
 {
     match &asked.update_token {
         None => TokenCheck::Missing,
@@ -90,17 +89,24 @@ fn check_shown(policy: &Policy, asked: &Asked, id: &InvocationId) -> TokenCheck
     }
 }
 
-/// What the update token of a request comes to.
-fn check_token(policy: &Policy, asked: &Asked, request: &Request) -> TokenCheck
-    ensures { IsChecked (record { policy = policy.now }) asked.now request.now result }
+/// What the update token of a request comes to, by what the request demands.
+fn check_demand(policy: &Policy, asked: &Asked, demand: &Demand) -> TokenCheck
+    ensures { IsChecked (record { policy = policy.now }) asked.now demand.now result }
 {
-    if let Some(id) = changed_id(request) {
+    if let Some(id) = demand.changed {
         return check_shown(policy, asked, id);
     }
-    match new_id(request) {
+    match demand.makes {
         Some(id) => TokenCheck::New(update_token(policy.secret(), id)),
         None => TokenCheck::Unasked,
     }
+}
+
+/// What the update token of a request comes to.
+fn check_token(policy: &Policy, asked: &Asked, request: &Request) -> TokenCheck
+    ensures { IsChecked (record { policy = policy.now }) asked.now (demand_of request.now) result }
+{
+    check_demand(policy, asked, &demand_of(request))
 }
 
 /// Understands the body of a request whose method is there.

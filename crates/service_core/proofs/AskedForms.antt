@@ -32,8 +32,10 @@ use Rattle.message_forms.specs.Names as name
 use Rattle.message_forms.specs.Masks.{a_mask, is_named, only_where, where_named, HoldsWhere}
 use Rattle.message_forms.specs.declared.methods.Method.{Method}
 use Rattle.message_forms.specs.declared.requests.NewInvocation.{NewInvocation}
+use Rattle.message_forms.specs.declared.requests.CreateInvocation.{CreateInvocation}
+use Rattle.message_forms.specs.declared.updates.UpdateInvocation.{UpdateInvocation}
 use Rattle.message_forms.specs.declared.requests.Request.{Request}
-use Rattle.message_forms.specs.declared.requests.Request.TheVariants.{CreateInvocation, UpdateInvocation, FinalizeInvocation, UpdateIncludedInvocations, GetInvocation}
+use Rattle.message_forms.specs.declared.requests.Request.TheVariants as asks
 use Rattle.message_forms.specs.Methods.{request_fault}
 use Rattle.message_forms.specs.Reading.{Asks}
 use Rattle.message_forms.specs.Requests.{a_changed_deadline, a_create_request, a_named, a_new_invocation, an_update_request, method_asked, some_changed_tags, AreChangedTags, AsksFor, IsCreate, IsNewInvocation, IsUpdate}
@@ -204,28 +206,27 @@ new_right d new none is =
 
 -- The parts that a request hands on are of their forms: the id, the realm and the tags of a new invocation, and new tags.
 abbrev pub HasForms : Request → Type 0
-HasForms (CreateInvocation id realm deadline tags) = IsInvocationId id × IsRealm realm × All IsPair tags
-HasForms (UpdateInvocation id deadline tags) = ForSome tags (All IsPair)
-HasForms (FinalizeInvocation id) = ⊤
-HasForms (UpdateIncludedInvocations including add) = ⊤
-HasForms (GetInvocation id) = ⊤
+HasForms (asks.CreateInvocation q) = IsInvocationId q.id × IsRealm q.invocation.realm × All IsPair q.invocation.tags
+HasForms (asks.UpdateInvocation q) = ForSome q.tags (All IsPair)
+HasForms (asks.FinalizeInvocation q) = ⊤
+HasForms (asks.UpdateIncludedInvocations q) = ⊤
+HasForms (asks.GetInvocation q) = ⊤
 
-create_right : (d : Data) (id realm : List ℕ) (deadline : Option ℤ) (tags : List Pair) → a_create_request d ≡ None
-    → IsCreate d id (record { realm = realm; deadline = deadline; tags = tags })
-    → IsInvocationId id × IsRealm realm × All IsPair tags
+create_right : (d : Data) (q : CreateInvocation) → a_create_request d ≡ None → IsCreate d q
+    → IsInvocationId q.id × IsRealm q.invocation.realm × All IsPair q.invocation.tags
 unfolding a_create_request
-create_right d id realm deadline tags none is =
+create_right d q none is =
     let number : Field = optional name.request_id an_unbuilt_text in
     let id_field : Field = required name.invocation_id empty_text (a_text invocation_id_fault) in
     let new_field : Field = required name.invocation never_empty a_new_invocation in
-    let new : NewInvocation = record { realm = realm; deadline = deadline; tags = tags } in
+    let new : NewInvocation = q.invocation in
     let fields =
     behind_right number (id_field ∷ new_field ∷ []) d (behind_right an_object (number ∷ id_field ∷ new_field ∷ []) d none) in
     let parts =
     required_right name.invocation never_empty a_new_invocation IsNewInvocation (λ n. IsRealm n.realm × All IsPair n.tags) new_right d new
     (front_right new_field [] d (behind_right id_field (new_field ∷ []) d fields)) is.new_is in (
       required_right name.invocation_id empty_text (a_text invocation_id_fault) (IsText IsSame) IsInvocationId
-          (part_right (Letters alphabet.Invocation)) d id (front_right id_field (new_field ∷ []) d fields) is.id_is,
+          (part_right (Letters alphabet.Invocation)) d q.id (front_right id_field (new_field ∷ []) d fields) is.id_is,
       parts.0,
       parts.1,
     )
@@ -241,10 +242,9 @@ where_right true fault holds P law none (Some b) h a e = subst P (same_Some b a 
 where_right false fault holds P law none None h a e = absurd (none-some a e)
 where_right false fault holds P law none (Some b) h a e = absurd h
 
-update_right : (d : Data) (id : List ℕ) (deadline : Option ℤ) (tags : Option (List Pair)) → an_update_request d ≡ None
-    → IsUpdate d id deadline tags → ForSome tags (All IsPair)
+update_right : (d : Data) (q : UpdateInvocation) → an_update_request d ≡ None → IsUpdate d q → ForSome q.tags (All IsPair)
 unfolding an_update_request where_named
-update_right d id deadline tags none is =
+update_right d q none is =
     let at : Option Data = filled_at name.invocation never_empty d in
     let one = first_right (an_object d) _ none in
     let two = first_right (required name.invocation never_empty a_named d) _ one in
@@ -253,15 +253,15 @@ update_right d id deadline tags none is =
     where_right (is_named name.tags d) (required name.invocation never_empty some_changed_tags d) (Holds AreChangedTags at) (All IsPair)
     (λ right given are.
     required_right name.invocation never_empty some_changed_tags AreChangedTags (All IsPair) changed_tags_right d given right are)
-    (first_left _ _ four) tags is.tags_are
+    (first_left _ _ four) q.tags is.tags_are
 
 asks_right : (d : Data) (q : Request) → request_fault (method_asked q) d ≡ None → AsksFor d q → HasForms q
-asks_right d (CreateInvocation id realm deadline tags) none is = create_right d id realm deadline tags none is
-asks_right d (UpdateInvocation id deadline tags) none is = update_right d id deadline tags none is
-asks_right d (FinalizeInvocation id) none is = tt
-asks_right d (UpdateIncludedInvocations including add) none is = tt
-asks_right d (GetInvocation id) none is = tt
+asks_right d (asks.CreateInvocation q) none is = create_right d q none is
+asks_right d (asks.UpdateInvocation q) none is = update_right d q none is
+asks_right d (asks.FinalizeInvocation q) none is = tt
+asks_right d (asks.UpdateIncludedInvocations q) none is = tt
+asks_right d (asks.GetInvocation q) none is = tt
 
 pub asked_has_forms : (service name body : List ℕ) (q : Request) → Asks service name body q → HasForms q
-asked_has_forms service name body q asks =
-    asks_right asks.value q (subst (λ (m : Method). request_fault m asks.value ≡ None) (sym asks.meant.0) asks.no_fault) asks.meant.1
+asked_has_forms service name body q is =
+    asks_right is.value q (subst (λ (m : Method). request_fault m is.value ≡ None) (sym is.meant.0) is.no_fault) is.meant.1

@@ -10,11 +10,11 @@ use Rattle.inclusion_graph.specs.Edges.{edges_from, fresh, targets_of}
 use Rattle.invocations.specs.declared.invocation.Invocation.{Invocation}
 use Rattle.invocations.specs.Rows.{IsInState, begun, states_of, with_changed}
 use Rattle.message_forms.specs.declared.requests.Request.{Request}
-use Rattle.message_forms.specs.declared.requests.Request.TheVariants.{CreateInvocation, UpdateInvocation, FinalizeInvocation, UpdateIncludedInvocations, GetInvocation}
+use Rattle.message_forms.specs.declared.requests.Request.TheVariants as asks
 use Rattle.invocation_world.specs.World.{World, new_row}
 use Rattle.invocation_world.specs.Changes.{is_update, updated, with_begun, with_edges, with_inclusions, with_row_updated, with_update}
 use Rattle.request_rules.specs.Settings.{Settings, caller_name}
-use Rattle.request_rules.specs.Demands.{active_id}
+use Rattle.request_rules.specs.Demands.{demand_of}
 use Rattle.request_rules.specs.Named.{place_named, places_named}
 use Rattle.service_core.specs.Step.{begun_from, changed, changed_at, with_end_begun}
 
@@ -25,7 +25,7 @@ pub record Kept (Holds : List Invocation → List Invocation → Type 0) (moment
   pub when_same : Holds rows rows
   pub when_added : (new : Invocation) → new.state ≡ Active → Holds rows (rows ++ new ∷ [])
   pub when_updated : (deadline : Option ℤ) (tags : Option (List Pair)) (id : List ℕ) (p : ℕ)
-      → active_id request ≡ Some id → place_named rows id ≡ Some p
+      → (demand_of request).active ≡ Some id → place_named rows id ≡ Some p
       → Holds rows (with_changed (updated deadline tags) rows p)
   pub when_begun : (p : ℕ) → IsInState Active rows p → Holds rows (with_changed (begun moment) rows p)
 
@@ -65,18 +65,18 @@ module _ (Holds : List Invocation → List Invocation → Type 0) (moment : ℤ)
 
 pub change_keeps : (Holds : List Invocation → List Invocation → Type 0) (s : Settings) (w : World) (moment : ℤ) (caller : ℕ) (request : Request)
     → Kept Holds moment w.invocations request → Holds w.invocations (changed s w moment caller request).invocations
-change_keeps Holds s w moment caller (CreateInvocation id realm deadline tags) kept =
-    kept.when_added (new_row moment (caller_name s caller) id realm deadline tags) refl
-change_keeps Holds s w moment caller (UpdateInvocation id deadline tags) kept =
-    keeps_at Holds moment w kept.when_same (λ p. with_update moment p deadline tags w) (place_named w.invocations id)
-    (λ p at. update_keeps Holds moment w kept.when_same p deadline tags (slice_get w.invocations p)
-    (kept.when_updated deadline tags id p refl at))
-change_keeps Holds s w moment caller (FinalizeInvocation id) kept =
-    keeps_at Holds moment w kept.when_same (λ p. with_end_begun moment p w) (place_named w.invocations id)
+change_keeps Holds s w moment caller (asks.CreateInvocation q) kept =
+    kept.when_added (new_row moment (caller_name s caller) q.id q.invocation.realm q.invocation.deadline q.invocation.tags) refl
+change_keeps Holds s w moment caller (asks.UpdateInvocation q) kept =
+    keeps_at Holds moment w kept.when_same (λ p. with_update moment p q.deadline q.tags w) (place_named w.invocations q.id)
+    (λ p at. update_keeps Holds moment w kept.when_same p q.deadline q.tags (slice_get w.invocations p)
+    (kept.when_updated q.deadline q.tags q.id p refl at))
+change_keeps Holds s w moment caller (asks.FinalizeInvocation q) kept =
+    keeps_at Holds moment w kept.when_same (λ p. with_end_begun moment p w) (place_named w.invocations q.id)
     (λ p at. end_keeps Holds moment w kept.when_same p (slice_get (states_of w.invocations) p) refl (kept.when_begun p))
-change_keeps Holds s w moment caller (UpdateIncludedInvocations including add) kept =
-    keeps_at Holds moment w kept.when_same (λ p. with_inclusions moment p (places_named w.invocations add) w)
-    (place_named w.invocations including)
+change_keeps Holds s w moment caller (asks.UpdateIncludedInvocations q) kept =
+    keeps_at Holds moment w kept.when_same (λ p. with_inclusions moment p (places_named w.invocations q.add) w)
+    (place_named w.invocations q.including)
     (λ p at. edges_keep Holds moment w kept.when_same
-    (edges_from p (fresh (targets_of w.inclusions p) (places_named w.invocations add))))
-change_keeps Holds s w moment caller (GetInvocation id) kept = kept.when_same
+    (edges_from p (fresh (targets_of w.inclusions p) (places_named w.invocations q.add))))
+change_keeps Holds s w moment caller (asks.GetInvocation q) kept = kept.when_same

@@ -10,7 +10,7 @@ use Rattle.call_forms.specs.declared.forms.Standin.TheVariants.{Unavailable, Mem
 use Rattle.call_forms.specs.declared.forms.Told.{Told}
 use Rattle.call_forms.specs.declared.forms.Told.TheVariants.{Made, Standin as Instead}
 use Rattle.message_forms.specs.declared.requests.Request.{Request}
-use Rattle.message_forms.specs.declared.requests.Request.TheVariants.{CreateInvocation, UpdateInvocation, FinalizeInvocation, UpdateIncludedInvocations, GetInvocation}
+use Rattle.message_forms.specs.declared.requests.Request.TheVariants as asks
 use Rattle.invocation_world.specs.World.{World, IsValid, new_row}
 use Rattle.invocation_world.specs.Advancing.{Advances}
 use Rattle.invocation_world.specs.Changes.{with_begun, with_inclusions, with_update}
@@ -19,11 +19,10 @@ use Rattle.invocation_world.proofs.FinalFacts.{advance_final, begin_final, inclu
 use Rattle.invocation_world.proofs.RowFacts.{row_in, state_is}
 use Rattle.request_rules.specs.Settings.{Settings, caller_name}
 use Rattle.request_rules.specs.Named.{place_named, places_named}
-use Rattle.request_rules.specs.Broken.{still_active}
 use Rattle.service_core.specs.Step.{IsAccepted, Performs, Refuses, begun_from, changed, changed_at, with_end_begun}
 use Rattle.service_core.specs.History.{Entry, Leads, Tells}
 use Rattle.service_core.specs.Laws.{FinalStays}
-use Rattle.service_core.proofs.StepLaws.{active_at, unbroken_rule}
+use Rattle.service_core.proofs.ClearedLaws.{is_still_active, was_cleared}
 use Rattle.service_core.proofs.HistoryLaws.{advanced_may, leads_valid}
 
 pub all_final : (w : World) → KeepsFinal w w
@@ -62,22 +61,22 @@ end_final moment w p (Some Finalized) e = all_final w
 -- what an accepted request changes
 change_final : (s : Settings) (w : World) (moment : ℤ) (asked : Asked) (caller : ℕ) (request : Request) → IsValid w
     → IsAccepted s w moment asked caller request → KeepsFinal w (changed s w moment caller request)
-change_final s w moment asked caller (CreateInvocation id realm deadline tags) valid accepted =
-    row_final w (new_row moment (caller_name s caller) id realm deadline tags)
-change_final s w moment asked caller (UpdateInvocation id deadline tags) valid accepted =
-    at_final w (λ p. with_update moment p deadline tags w) (place_named w.invocations id)
-    (λ p at. update_final moment w p deadline tags
-    (active_at w.invocations (UpdateInvocation id deadline tags) id p
-    (unbroken_rule s w moment asked caller (UpdateInvocation id deadline tags) accepted still_active) refl at))
-change_final s w moment asked caller (FinalizeInvocation id) valid accepted =
-    at_final w (λ p. with_end_begun moment p w) (place_named w.invocations id)
+change_final s w moment asked caller (asks.CreateInvocation q) valid accepted =
+    row_final w (new_row moment (caller_name s caller) q.id q.invocation.realm q.invocation.deadline q.invocation.tags)
+change_final s w moment asked caller (asks.UpdateInvocation q) valid accepted =
+    let request : Request = asks.UpdateInvocation q in
+    at_final w (λ p. with_update moment p q.deadline q.tags w) (place_named w.invocations q.id)
+    (λ p at. update_final moment w p q.deadline q.tags
+    (is_still_active s w moment asked caller request q.id p (was_cleared s w moment asked caller request accepted) refl at))
+change_final s w moment asked caller (asks.FinalizeInvocation q) valid accepted =
+    at_final w (λ p. with_end_begun moment p w) (place_named w.invocations q.id)
     (λ p at. end_final moment w p (slice_get (states_of w.invocations) p) refl)
-change_final s w moment asked caller (UpdateIncludedInvocations including add) valid accepted =
-    at_final w (λ p. with_inclusions moment p (places_named w.invocations add) w) (place_named w.invocations including)
-    (λ p at. inclusions_final moment w p (places_named w.invocations add) valid
-    (active_at w.invocations (UpdateIncludedInvocations including add) including p
-    (unbroken_rule s w moment asked caller (UpdateIncludedInvocations including add) accepted still_active) refl at))
-change_final s w moment asked caller (GetInvocation id) valid accepted = all_final w
+change_final s w moment asked caller (asks.UpdateIncludedInvocations q) valid accepted =
+    let request : Request = asks.UpdateIncludedInvocations q in
+    at_final w (λ p. with_inclusions moment p (places_named w.invocations q.add) w) (place_named w.invocations q.including)
+    (λ p at. inclusions_final moment w p (places_named w.invocations q.add) valid
+    (is_still_active s w moment asked caller request q.including p (was_cleared s w moment asked caller request accepted) refl at))
+change_final s w moment asked caller (asks.GetInvocation q) valid accepted = all_final w
 
 pub judged_final : (s : Settings) (w : World) (moment : ℤ) (asked : Asked) (answer : Answer) (after : World) → IsValid w
     → Refuses s w moment asked after answer ⊎ Performs s w moment asked after answer → KeepsFinal w after

@@ -19,7 +19,7 @@ use Rattle.call_forms.specs.declared.forms.Standin.TheVariants.{Unavailable, Mem
 use Rattle.call_forms.specs.declared.forms.Told.{Told}
 use Rattle.call_forms.specs.declared.forms.Told.TheVariants.{Made, Standin as Instead}
 use Rattle.message_forms.specs.declared.requests.Request.{Request}
-use Rattle.message_forms.specs.declared.requests.Request.TheVariants.{CreateInvocation, UpdateInvocation, FinalizeInvocation, UpdateIncludedInvocations, GetInvocation}
+use Rattle.message_forms.specs.declared.requests.Request.TheVariants as asks
 use Rattle.invocation_world.specs.World.{World, IsCallMoment, IsRow, IsStage, IsValid, new_row}
 use Rattle.invocation_world.specs.Settling.{SettlesRows}
 use Rattle.invocation_world.specs.Advancing.{Advances, CarriesOut, IsLeast, all_begun}
@@ -32,14 +32,13 @@ use Rattle.invocation_world.proofs.SettleFacts.{ended_or_same, row_stays}
 use Rattle.invocation_world.proofs.ValidFacts.{all_begin, valid_settled}
 use Rattle.request_rules.specs.Settings.{Settings, HasNames, caller_name}
 use Rattle.request_rules.specs.Named.{place_named, places_named}
-use Rattle.request_rules.specs.Broken.{still_active}
 use Rattle.service_core.specs.Finality.{CarriesInTime, EndsInTime, ToldInTime}
 use Rattle.service_core.specs.Step.{IsAccepted, Performs, Refuses, begun_from, changed, changed_at, with_end_begun}
 use Rattle.service_core.specs.History.{Entry, Leads, Tells}
 use Rattle.service_core.specs.Laws.{FinalInTime}
 use Rattle.service_core.proofs.ChangeLaws.{change_keeps}
 use Rattle.service_core.proofs.StayLaws.{advanced_rows}
-use Rattle.service_core.proofs.StepLaws.{active_at, unbroken_rule}
+use Rattle.service_core.proofs.ClearedLaws.{is_still_active, was_cleared}
 use Rattle.service_core.proofs.HistoryLaws.{advanced_may, leads_valid}
 use Rattle.service_core.proofs.FinalLaws.{all_final, judged_final}
 
@@ -245,13 +244,13 @@ added_waiting rows new p row e is = at_front rows new row p e
 change_waiting : (s : Settings) (w : World) (moment : ℤ) (asked : Asked) (caller : ℕ) (request : Request)
     → IsAccepted s w moment asked caller request → WaitingStay w.invocations (changed s w moment caller request).invocations
 change_waiting s w moment asked caller request accepted =
-    let none = unbroken_rule s w moment asked caller request accepted still_active in
+    let none = was_cleared s w moment asked caller request accepted in
     change_keeps WaitingStay s w moment caller request
     (record {
       when_same = all_waiting w.invocations;
       when_added = λ new active. added_waiting w.invocations new;
       when_updated = λ deadline tags id p changes at.
-          changed_waiting (updated deadline tags) w.invocations p (active_at w.invocations request id p none changes at);
+          changed_waiting (updated deadline tags) w.invocations p (is_still_active s w moment asked caller request id p none changes at);
       when_begun = changed_waiting (begun moment) w.invocations;
     })
 

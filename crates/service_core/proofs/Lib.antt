@@ -9,10 +9,11 @@ pub mod FinalLaws
 pub mod FinalityLaws
 pub mod AllowLaws
 pub mod DecideLaws
+pub mod Asks
 pub mod ThereLaws
 pub mod ShowableLaws
 pub mod ShowLaws
-pub mod PlanRuleLaws
+pub mod ClearedLaws
 pub mod PlanLaws
 pub mod PlanMadeLaws
 pub mod PlanCallLaws

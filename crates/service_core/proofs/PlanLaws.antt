@@ -16,7 +16,8 @@ use Rattle.call_forms.specs.declared.asked.Asked.{Asked}
 use Rattle.call_forms.specs.declared.forms.Answer.{Answer}
 use Rattle.message_forms.specs.declared.replies.Reply.TheVariants as reply
 use Rattle.message_forms.specs.declared.requests.Request.{Request}
-use Rattle.message_forms.specs.declared.requests.Request.TheVariants.{CreateInvocation, UpdateInvocation, FinalizeInvocation, UpdateIncludedInvocations, GetInvocation}
+use Rattle.message_forms.specs.declared.requests.Request.TheVariants as asks
+use Rattle.service_core.proofs.Asks.{create, update, finalize, include, get}
 use Rattle.invocation_world.specs.World.{World, IsPair, IsValid, ReachesActive, new_row, with_row}
 use Rattle.invocation_world.specs.States as states
 use Rattle.invocation_world.specs.Settling.{Settles}
@@ -39,7 +40,7 @@ use Rattle.service_core.specs.Plans.{Fits, IsPlanOf, IsPrepared, IsTimely}
 use Rattle.service_core.specs.Step.{IsAccepted, Performs, begun_from, changed, changed_at, with_end_begun}
 use Rattle.service_core.proofs.CoreLaws.{may_change}
 use Rattle.service_core.proofs.ShowLaws.{after_is, end_shows, new_shows, row_placed, shows_itself, update_none, update_shows}
-use Rattle.service_core.proofs.PlanRuleLaws.{IsCleared, accepted, deadline_ahead, is_still_active, new_is_row, refused_full, tags_are_pairs}
+use Rattle.service_core.proofs.ClearedLaws.{IsCleared, accepted, deadline_ahead, is_still_active, new_is_row, refused_full, tags_are_pairs}
 
 -- a plan that is the same as one that was told of
 same_plan : (core : CoreState) (moment : ℤ) (asked : Asked) (plan told : PlanState) → plan ≡ told
@@ -52,7 +53,7 @@ same_plan core moment asked plan told is h =
 
 row_planned : (core : CoreState) (moment : ℤ) (asked : Asked) (caller : ℕ) (id realm : List ℕ) (deadline : Option ℤ) (tags : List Pair)
     (answer : Answer) → HasNames core.settings → IsTimely core.world moment
-    → IsCleared core.settings core.world moment asked caller (CreateInvocation id realm deadline tags)
+    → IsCleared core.settings core.world moment asked caller (create id realm deadline tags)
     → CanAdd core.world.invocations id → 0 < core.spare_rows
     → answer ≡ done (Some (token_for core.settings id))
     (reply.Invocation (shown_with (new_row moment (caller_name core.settings caller) id realm deadline tags) []))
@@ -61,7 +62,7 @@ row_planned : (core : CoreState) (moment : ℤ) (asked : Asked) (caller : ℕ) (
 row_planned core moment asked caller id realm deadline tags answer names timely h can room is =
     let s = core.settings in
     let w = core.world in
-    let request : Request = CreateInvocation id realm deadline tags in
+    let request : Request = create id realm deadline tags in
     let row : Invocation = new_row moment (caller_name s caller) id realm deadline tags in
     let is_row = new_is_row s w moment asked caller id realm deadline tags names timely.call h in
     let valid = keeps_added moment w row (may_change w moment timely) can is_row refl refl in (
@@ -82,11 +83,11 @@ row_planned core moment asked caller id realm deadline tags answer names timely 
 
 row_is_prepared : (core : CoreState) (moment : ℤ) (asked : Asked) (caller : ℕ) (id realm : List ℕ) (deadline : Option ℤ) (tags : List Pair)
     (p : Prepared) → HasNames core.settings → IsTimely core.world moment
-    → IsCleared core.settings core.world moment asked caller (CreateInvocation id realm deadline tags)
+    → IsCleared core.settings core.world moment asked caller (create id realm deadline tags)
     → IsRowPlanned (held_by core) (new_row moment (caller_name core.settings caller) id realm deadline tags) (Some (token_for core.settings id)) p
     → IsPrepared core moment asked p
 row_is_prepared core moment asked caller id realm deadline tags (prepared.Refused answer) names timely h planned =
-    refused_full core.settings core.world moment asked caller (CreateInvocation id realm deadline tags)
+    refused_full core.settings core.world moment asked caller (create id realm deadline tags)
     (table_full (codes "invocations") (length core.world.invocations)) answer h (planned.0, refl) planned.1
 row_is_prepared core moment asked caller id realm deadline tags (prepared.Answered answer) names timely h planned = absurd planned
 row_is_prepared core moment asked caller id realm deadline tags (prepared.Change plan) names timely h planned =
@@ -97,7 +98,7 @@ row_is_prepared core moment asked caller id realm deadline tags (prepared.Change
 
 pub row_prepared : (core : CoreState) (moment : ℤ) (asked : Asked) (caller : ℕ) (id realm : List ℕ) (deadline : Option ℤ) (tags : List Pair)
     (row : Invocation) (token : Option (List ℕ)) (p : Prepared) → HasNames core.settings → IsTimely core.world moment
-    → IsCleared core.settings core.world moment asked caller (CreateInvocation id realm deadline tags)
+    → IsCleared core.settings core.world moment asked caller (create id realm deadline tags)
     → row ≡ new_row moment (caller_name core.settings caller) id realm deadline tags → token ≡ Some (token_for core.settings id)
     → IsRowPlanned (held_by core) row token p → IsPrepared core moment asked p
 row_prepared core moment asked caller id realm deadline tags row token p names timely h row_is token_is planned =
@@ -109,20 +110,20 @@ row_prepared core moment asked caller id realm deadline tags row token p names t
 
 update_at : (s : Settings) (w : World) (moment : ℤ) (caller : ℕ) (id : List ℕ) (deadline : Option ℤ) (tags : Option (List Pair)) (place : ℕ)
     → place_named w.invocations id ≡ Some place
-    → changed s w moment caller (UpdateInvocation id deadline tags) ≡ with_update moment place deadline tags w
+    → changed s w moment caller (update id deadline tags) ≡ with_update moment place deadline tags w
 update_at s w moment caller id deadline tags place at =
     ap (changed_at w (λ (p : ℕ). with_update moment p deadline tags w)) at
 
 update_is_prepared : (core : CoreState) (asked : Asked) (caller : ℕ) (id : List ℕ) (deadline : Option ℤ) (tags : Option (List Pair))
     (at : Place) (p : Prepared) → IsTimely core.world at.moment
-    → IsCleared core.settings core.world at.moment asked caller (UpdateInvocation id deadline tags)
+    → IsCleared core.settings core.world at.moment asked caller (update id deadline tags)
     → place_named core.world.invocations id ≡ Some at.place → IsUpdatePlanned core.world at deadline tags p
     → IsPrepared core at.moment asked p
 update_is_prepared core asked caller id deadline tags at (prepared.Refused answer) timely h here planned = absurd planned
 update_is_prepared core asked caller id deadline tags at (prepared.Answered answer) timely h here planned =
     let s = core.settings in
     let w = core.world in
-    let request : Request = UpdateInvocation id deadline tags in
+    let request : Request = update id deadline tags in
     let row = row_placed w.invocations id at.place here in
     let told = planned row.0 row.1 in
     let same : changed s w at.moment caller request ≡ w =
@@ -137,7 +138,7 @@ update_is_prepared core asked caller id deadline tags at (prepared.Answered answ
 update_is_prepared core asked caller id deadline tags at (prepared.Change plan) timely h here planned =
     let s = core.settings in
     let w = core.world in
-    let request : Request = UpdateInvocation id deadline tags in
+    let request : Request = update id deadline tags in
     let row = row_placed w.invocations id at.place here in
     let told = planned row.0 row.1 in
     let answer : Answer = showing w at.place (updated deadline tags row.0) in
@@ -169,15 +170,15 @@ At core asked caller request p moment =
 pub update_prepared : (core : CoreState) (moment : ℤ) (asked : Asked) (caller : ℕ) (id : List ℕ) (deadline : Option ℤ) (tags : Option (List Pair))
     (at : Place) (p : Prepared) → at.moment ≡ moment → place_named core.world.invocations id ≡ Some at.place
     → IsUpdatePlanned core.world at deadline tags p → IsTimely core.world moment
-    → IsCleared core.settings core.world moment asked caller (UpdateInvocation id deadline tags) → IsPrepared core moment asked p
+    → IsCleared core.settings core.world moment asked caller (update id deadline tags) → IsPrepared core moment asked p
 update_prepared core moment asked caller id deadline tags at p same here planned =
-    subst (At core asked caller (UpdateInvocation id deadline tags) p) same
+    subst (At core asked caller (update id deadline tags) p) same
     (λ timely h. update_is_prepared core asked caller id deadline tags at p timely h here planned)
 
 -- ---- the end
 
 end_active : (s : Settings) (w : World) (moment : ℤ) (caller : ℕ) (id : List ℕ) (place : ℕ) → place_named w.invocations id ≡ Some place
-    → IsInState Active w.invocations place → changed s w moment caller (FinalizeInvocation id) ≡ with_begun moment place w
+    → IsInState Active w.invocations place → changed s w moment caller (finalize id) ≡ with_begun moment place w
 end_active s w moment caller id place at active =
     ap (changed_at w (λ (p : ℕ). with_end_begun moment p w)) at
     ∙ ap (λ (o : Option State). begun_from o (with_begun moment place w) w) active
@@ -189,19 +190,19 @@ begun_unless (Some Finalizing) b w not = refl
 begun_unless (Some Finalized) b w not = refl
 
 end_inactive : (s : Settings) (w : World) (moment : ℤ) (caller : ℕ) (id : List ℕ) (place : ℕ) → place_named w.invocations id ≡ Some place
-    → (IsInState Active w.invocations place → ⊥) → changed s w moment caller (FinalizeInvocation id) ≡ w
+    → (IsInState Active w.invocations place → ⊥) → changed s w moment caller (finalize id) ≡ w
 end_inactive s w moment caller id place at not =
     ap (changed_at w (λ (p : ℕ). with_end_begun moment p w)) at
     ∙ begun_unless (slice_get (states_of w.invocations) place) (with_begun moment place w) w not
 
 end_is_prepared : (core : CoreState) (asked : Asked) (caller : ℕ) (id : List ℕ) (at : Place) (p : Prepared) → IsTimely core.world at.moment
-    → IsCleared core.settings core.world at.moment asked caller (FinalizeInvocation id)
+    → IsCleared core.settings core.world at.moment asked caller (finalize id)
     → place_named core.world.invocations id ≡ Some at.place → IsEndPlanned core.world at p → IsPrepared core at.moment asked p
 end_is_prepared core asked caller id at (prepared.Refused answer) timely h here planned = absurd planned
 end_is_prepared core asked caller id at (prepared.Answered answer) timely h here planned =
     let s = core.settings in
     let w = core.world in
-    let request : Request = FinalizeInvocation id in
+    let request : Request = finalize id in
     let row = row_placed w.invocations id at.place here in
     record {
       caller = caller;
@@ -214,7 +215,7 @@ end_is_prepared core asked caller id at (prepared.Answered answer) timely h here
 end_is_prepared core asked caller id at (prepared.Change plan) timely h here planned =
     let s = core.settings in
     let w = core.world in
-    let request : Request = FinalizeInvocation id in
+    let request : Request = finalize id in
     let row = row_in Active w.invocations at.place planned.0 in
     let told = planned.1 row.0 row.1 in
     let answer : Answer = showing w at.place (ended_if told.0 at.moment (begun at.moment row.0)) in
@@ -235,25 +236,25 @@ end_is_prepared core asked caller id at (prepared.Change plan) timely h here pla
 
 pub end_prepared : (core : CoreState) (moment : ℤ) (asked : Asked) (caller : ℕ) (id : List ℕ) (at : Place) (p : Prepared) → at.moment ≡ moment
     → place_named core.world.invocations id ≡ Some at.place → IsEndPlanned core.world at p → IsTimely core.world moment
-    → IsCleared core.settings core.world moment asked caller (FinalizeInvocation id) → IsPrepared core moment asked p
+    → IsCleared core.settings core.world moment asked caller (finalize id) → IsPrepared core moment asked p
 end_prepared core moment asked caller id at p same here planned =
-    subst (At core asked caller (FinalizeInvocation id) p) same
+    subst (At core asked caller (finalize id) p) same
     (λ timely h. end_is_prepared core asked caller id at p timely h here planned)
 
 -- ---- inclusions
 
 include_at : (s : Settings) (w : World) (moment : ℤ) (caller : ℕ) (including : List ℕ) (add : List (List ℕ)) (place : ℕ)
     → place_named w.invocations including ≡ Some place
-    → changed s w moment caller (UpdateIncludedInvocations including add) ≡ with_inclusions moment place (places_named w.invocations add) w
+    → changed s w moment caller (include including add) ≡ with_inclusions moment place (places_named w.invocations add) w
 include_at s w moment caller including add place at =
     ap (changed_at w (λ (p : ℕ). with_inclusions moment p (places_named w.invocations add) w)) at
 
 room_left_for : (s : Settings) (w : World) (moment : ℤ) (asked : Asked) (caller : ℕ) (including : List ℕ) (add : List (List ℕ)) (place : ℕ)
-    → IsCleared s w moment asked caller (UpdateIncludedInvocations including add) → place_named w.invocations including ≡ Some place
+    → IsCleared s w moment asked caller (include including add) → place_named w.invocations including ≡ Some place
     → length w.inclusions + length (fresh (targets_of w.inclusions place) (places_named w.invocations add)) ≤ 262_144
-    → IsAccepted s w moment asked caller (UpdateIncludedInvocations including add)
+    → IsAccepted s w moment asked caller (include including add)
 room_left_for s w moment asked caller including add place h at few =
-    accepted s w moment asked caller (UpdateIncludedInvocations including add) h
+    accepted s w moment asked caller (include including add) h
     (λ r full.
     let same : full.place ≡ place = same_Some full.place place (sym full.stands ∙ at) in
     let many : 262_144 < length w.inclusions + length (fresh (targets_of w.inclusions place) (places_named w.invocations add)) =
@@ -273,14 +274,14 @@ few_enough core at targets edges h =
 
 edges_are_prepared : (core : CoreState) (asked : Asked) (caller : ℕ) (including : List ℕ) (add : List (List ℕ)) (at : Place) (edges : EdgePlanState)
     (p : Prepared) → IsTimely core.world at.moment
-    → IsCleared core.settings core.world at.moment asked caller (UpdateIncludedInvocations including add)
+    → IsCleared core.settings core.world at.moment asked caller (include including add)
     → place_named core.world.invocations including ≡ Some at.place
     → AreAllNew core at (places_named core.world.invocations add) edges → AreEdgesPlanned at.moment edges p → IsPrepared core at.moment asked p
 edges_are_prepared core asked caller including add at edges (prepared.Refused answer) timely h here all planned = absurd planned
 edges_are_prepared core asked caller including add at edges (prepared.Answered answer) timely h here all planned =
     let s = core.settings in
     let w = core.world in
-    let request : Request = UpdateIncludedInvocations including add in
+    let request : Request = include including add in
     let none : fresh (targets_of w.inclusions at.place) (places_named w.invocations add) ≡ [] = sym all.all ∙ planned.0 in
     let same : changed s w at.moment caller request ≡ w =
     include_at s w at.moment caller including add at.place here ∙ ap (λ (ts : List ℕ). with_edges at.moment (edges_from at.place ts) w) none in
@@ -294,7 +295,7 @@ edges_are_prepared core asked caller including add at edges (prepared.Answered a
 edges_are_prepared core asked caller including add at edges (prepared.Change plan) timely h here all planned =
     let s = core.settings in
     let w = core.world in
-    let request : Request = UpdateIncludedInvocations including add in
+    let request : Request = include including add in
     let answer : Answer = done None reply.Empty in
     let same : with_edges at.moment (edges_from edges.from edges.targets) w ≡ changed s w at.moment caller request =
     ap (λ (q : ℕ). with_edges at.moment (edges_from q edges.targets) w) all.from
@@ -315,11 +316,11 @@ edges_are_prepared core asked caller including add at edges (prepared.Change pla
 
 include_is_prepared : (core : CoreState) (asked : Asked) (caller : ℕ) (including : List ℕ) (add : List (List ℕ)) (at : Place) (p : Prepared)
     → IsTimely core.world at.moment
-    → IsCleared core.settings core.world at.moment asked caller (UpdateIncludedInvocations including add)
+    → IsCleared core.settings core.world at.moment asked caller (include including add)
     → place_named core.world.invocations including ≡ Some at.place
     → IsIncludePlanned (held_by core) at (places_named core.world.invocations add) p → IsPrepared core at.moment asked p
 include_is_prepared core asked caller including add at (prepared.Refused answer) timely h here planned =
-    refused_full core.settings core.world at.moment asked caller (UpdateIncludedInvocations including add)
+    refused_full core.settings core.world at.moment asked caller (include including add)
     (table_full (codes "inclusions") (length core.world.inclusions)) answer h
     (record { place = at.place; stands = here; many = planned.0; refusal_is = refl }) planned.1
 include_is_prepared core asked caller including add at (prepared.Answered answer) timely h here planned =
@@ -332,9 +333,9 @@ include_is_prepared core asked caller including add at (prepared.Change plan) ti
 pub include_prepared : (core : CoreState) (moment : ℤ) (asked : Asked) (caller : ℕ) (including : List ℕ) (add : List (List ℕ)) (at : Place)
     (targets : List ℕ) (p : Prepared) → at.moment ≡ moment → place_named core.world.invocations including ≡ Some at.place
     → targets ≡ places_named core.world.invocations add → IsIncludePlanned (held_by core) at targets p → IsTimely core.world moment
-    → IsCleared core.settings core.world moment asked caller (UpdateIncludedInvocations including add) → IsPrepared core moment asked p
+    → IsCleared core.settings core.world moment asked caller (include including add) → IsPrepared core moment asked p
 include_prepared core moment asked caller including add at targets p same here all planned =
-    subst (At core asked caller (UpdateIncludedInvocations including add) p) same
+    subst (At core asked caller (include including add) p) same
     (λ timely h. include_is_prepared core asked caller including add at p timely h here
     (subst (λ (ts : List ℕ). IsIncludePlanned (held_by core) at ts p) all planned))
 
@@ -343,14 +344,14 @@ include_prepared core moment asked caller including add at targets p same here a
 pub get_prepared : (core : CoreState) (moment : ℤ) (asked : Asked) (caller : ℕ) (id : List ℕ) (place : ℕ) (answer : Answer)
     → place_named core.world.invocations id ≡ Some place
     → ((row : Invocation) → slice_get core.world.invocations place ≡ Some row → answer ≡ showing core.world place row)
-    → IsTimely core.world moment → IsCleared core.settings core.world moment asked caller (GetInvocation id)
+    → IsTimely core.world moment → IsCleared core.settings core.world moment asked caller (get id)
     → Performs core.settings core.world moment asked core.world answer
 get_prepared core moment asked caller id place answer here shows timely h =
     let row = row_placed core.world.invocations id place here in
     record {
       caller = caller;
-      request = GetInvocation id;
-      accepted = accepted core.settings core.world moment asked caller (GetInvocation id) h (λ r never. never);
+      request = get id;
+      accepted = accepted core.settings core.world moment asked caller (get id) h (λ r never. never);
       acts = valid_settles moment core.world timely.valid;
       replied = shows_itself core.world id place row.0 answer here row.1 (shows row.0 row.1);
     }

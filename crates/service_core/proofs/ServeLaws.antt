@@ -1,7 +1,6 @@
 -- Calls that are judged, and due deadlines that are carried out.
-use Rattle.std.proofs.Common.{◌≡◌, ◌<◌, ℕ, ℤ, ◌≤ℤ◌, List, [], ◌∷◌, length, refl, sym, ap, ◌∙◌, subst, arith}
+use Rattle.std.proofs.Common.{◌≡◌, ◌<◌, ℕ, ℤ, ◌≤ℤ◌, List, [], ◌∷◌, length, Option, Some, refl, sym, ap, ◌∙◌, subst, inl, inr, arith}
 use Rattle.std.proofs.lemmas.Int.{ints}
-use Rattle.inclusion_graph.specs.declared.edge.Edge.{Edge}
 use Rattle.invocations.specs.declared.invocation.Invocation.{Invocation}
 use Rattle.call_forms.specs.declared.asked.Asked.{Asked}
 use Rattle.call_forms.specs.declared.forms.Answer.{Answer}
@@ -11,21 +10,21 @@ use Rattle.invocation_world.specs.World.{World, IsCallMoment, IsValid}
 use Rattle.invocation_world.specs.Advancing.{Advances, after_deadlines}
 use Rattle.invocation_world.proofs.AdvanceFacts.{advance_valid}
 use Rattle.request_rules.specs.declared.reading.Call.{Call}
+use Rattle.request_rules.specs.declared.rules.Rule.{Rule}
 use Rattle.request_rules.specs.declared.reading.Understood.{Understood}
 use Rattle.request_rules.specs.declared.reading.Understood.TheVariants.{Refused}
 use Rattle.request_rules.specs.Settings.{Settings}
-use Rattle.request_rules.specs.Order.{IsFirst}
-use Rattle.request_rules.specs.Broken.{BrokenAlone}
-use Rattle.request_rules.specs.Breaches.{BrokenBelow}
+use Rattle.request_rules.specs.Demands.{demand_of}
+use Rattle.request_rules.specs.Order.{Judges}
+use Rattle.request_rules.specs.Broken.{IsBroken, order}
 use Rattle.request_rules.specs.Understood.{IsCallOf, IsUnderstood}
 use Rattle.request_rules.proofs.PolicyLaws.{caller_is_there}
-use Rattle.request_rules.proofs.RuleChain.{broken_alone, broken_in, first_of_below}
 use Rattle.service_core.specs.declared.plan.Change.{Change}
 use Rattle.service_core.specs.declared.plan.Change.TheVariants.{Tick}
 use Rattle.service_core.specs.CoreState.{CoreState}
 use Rattle.service_core.specs.Judged.{IsJudged}
 use Rattle.service_core.specs.Plans.{Carries, IsTimely}
-use Rattle.service_core.specs.Step.{Refuses, scene_of}
+use Rattle.service_core.specs.Step.{IsJudgedAs, Refuses}
 
 -- due deadlines lead to a world in which nothing is due
 last_after : (moment : ℤ) (deadlines : List ℤ) (rows : List Invocation) (w : World) → w.last ≤ℤ moment
@@ -63,32 +62,32 @@ pub record IsSituation (core : CoreState) (moment : ℤ) (s : Settings) (rows : 
 
 -- whatever was found there of a call
 pub found_there : (core : CoreState) (moment : ℤ) (s : Settings) (rows : List Invocation) (at : ℤ) (asked : Asked) (call : Call)
-    (Is : (Refusal → Type 0) → Type 0) → IsSituation core moment s rows at → IsCallOf core.settings asked call
-    → ((asked : Asked) (edges : List Edge) → IsCallOf s asked call
-    → Is (BrokenBelow 20 s (record { rows = rows; inclusions = edges; moment = at }) asked call.caller call.request))
-    → Is (BrokenBelow 20 core.settings (scene_of core.world moment) asked call.caller call.request)
-found_there core moment s rows at asked call Is there is found =
+    (ks : List Rule) (found : Option Refusal) → IsSituation core moment s rows at → IsCallOf core.settings asked call → ks ≡ order
+    → ((asked : Asked) → IsCallOf s asked call
+    → Judges (IsBroken (record { settings = s; rows = rows; moment = at; asked = asked; caller = call.caller }) (demand_of call.request)) ks found)
+    → IsJudgedAs core.settings core.world moment asked call.caller call.request found
+found_there core moment s rows at asked call ks found there is all judged =
     let w = core.world in
-    let here = found asked w.inclusions (subst (λ (x : Settings). IsCallOf x asked call) (sym there.by_settings) is) in
+    let here =
+    subst (λ (l : List Rule). Judges (IsBroken (record { settings = s; rows = rows; moment = at; asked = asked; caller = call.caller })
+    (demand_of call.request)) l found) all
+    (judged asked (subst (λ (x : Settings). IsCallOf x asked call) (sym there.by_settings) is)) in
     let One : Settings → List Invocation → ℤ → Type 0 =
-    λ x rs m. Is (BrokenBelow 20 x (record { rows = rs; inclusions = w.inclusions; moment = m }) asked call.caller call.request) in
+    λ x rs m. Judges (IsBroken (record { settings = x; rows = rs; moment = m; asked = asked; caller = call.caller }) (demand_of call.request)) order found in
     subst (λ (m : ℤ). One core.settings w.invocations m) there.by_moment
     (subst (λ (rs : List Invocation). One core.settings rs at) there.by_rows
     (subst (λ (x : Settings). One x rows at) there.by_settings here))
 
 pub refuses_first : (core : CoreState) (moment : ℤ) (asked : Asked) (call : Call) (r : Refusal) (answer : Answer)
     → IsCallOf core.settings asked call
-    → IsFirst (BrokenBelow 20 core.settings (scene_of core.world moment) asked call.caller call.request) r
+    → IsJudgedAs core.settings core.world moment asked call.caller call.request (Some r)
     → answer ≡ refusal_answer r → Refuses core.settings core.world moment asked core.world answer
-refuses_first core moment asked call r answer is first told =
-    let s = core.settings in
-    let x = scene_of core.world moment in
-    record {
-      refusal = r;
-      is_refusal = broken_in s x asked call.caller call.request r is.wants (first_of_below s x asked call.caller call.request 20 r first);
-      same = refl;
-      answer_is = told;
-    }
+refuses_first core moment asked call r answer is first told = record {
+  refusal = r;
+  is_refusal = inr (call.caller, call.request, is.wants, inl first);
+  same = refl;
+  answer_is = told;
+}
 
 -- what is refused by itself is refused in each world
 pub refuses_alone : (core inside : CoreState) (moment : ℤ) (asked : Asked) (understood : Understood) (answer : Answer) → inside ≡ core
@@ -99,7 +98,7 @@ refuses_alone core inside moment asked understood answer same is told =
     (subst (λ (c : CoreState). IsUnderstood c.settings asked understood) same told) in
     record {
       refusal = alone.0;
-      is_refusal = broken_alone core.settings (scene_of core.world moment) asked alone.0 alone.1;
+      is_refusal = inl alone.1;
       same = refl;
       answer_is = alone.2;
     }

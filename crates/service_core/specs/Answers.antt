@@ -8,7 +8,7 @@ use Rattle.call_forms.specs.declared.forms.Answer.{Answer}
 use Rattle.message_forms.specs.declared.replies.Reply.{Reply}
 use Rattle.message_forms.specs.declared.replies.Reply.TheVariants as reply
 use Rattle.message_forms.specs.declared.requests.Request.{Request}
-use Rattle.message_forms.specs.declared.requests.Request.TheVariants.{CreateInvocation, UpdateInvocation, FinalizeInvocation, UpdateIncludedInvocations, GetInvocation}
+use Rattle.message_forms.specs.declared.requests.Request.TheVariants as asks
 use Rattle.message_forms.specs.Replies.{reply_text}
 use Rattle.message_forms.specs.Shown.{InvocationShown}
 use Rattle.invocation_world.specs.World.{World}
@@ -55,9 +55,8 @@ pub record Shows (w : World) (id : List ℕ) (token : Option (List ℕ)) (answer
 -- The reply to a request, in the world that it leaves: the invocation that it is about, with its
 -- update token where it is new.
 abbrev pub IsReplyTo : Settings → World → Request → Answer → Type 0
-IsReplyTo s w (CreateInvocation id realm deadline tags) answer =
-    Shows w id (Some (token_for s id)) answer
-IsReplyTo s w (UpdateInvocation id deadline tags) answer = Shows w id None answer
-IsReplyTo s w (FinalizeInvocation id) answer = Shows w id None answer
-IsReplyTo s w (UpdateIncludedInvocations including add) answer = answer ≡ done None reply.Empty
-IsReplyTo s w (GetInvocation id) answer = Shows w id None answer
+IsReplyTo s w (asks.CreateInvocation q) answer = Shows w q.id (Some (token_for s q.id)) answer
+IsReplyTo s w (asks.UpdateInvocation q) answer = Shows w q.id None answer
+IsReplyTo s w (asks.FinalizeInvocation q) answer = Shows w q.id None answer
+IsReplyTo s w (asks.UpdateIncludedInvocations q) answer = answer ≡ done None reply.Empty
+IsReplyTo s w (asks.GetInvocation q) answer = Shows w q.id None answer

@@ -1,6 +1,6 @@
 -- The code's own words: a call that was judged, and what was told for a request at a moment at
 -- which nothing is due.
-use Rattle.std.specs.Prelude.{◌≡◌, ℤ}
+use Rattle.std.specs.Prelude.{◌≡◌, ℤ, None}
 use Rattle.call_forms.specs.declared.asked.Asked.{Asked}
 use Rattle.call_forms.specs.declared.forms.Standin.TheVariants.{Unavailable, Memory, Spent}
 use Rattle.call_forms.specs.declared.forms.Told.{Told}
@@ -9,17 +9,14 @@ use Rattle.std.specs.Prelude.{◌⊎◌}
 use Rattle.invocation_world.specs.World.{World}
 use Rattle.request_rules.specs.declared.reading.Call.{Call}
 use Rattle.request_rules.specs.Settings.{Settings}
-use Rattle.request_rules.specs.Order.{IsUnbroken}
 use Rattle.request_rules.specs.Understood.{IsCallOf}
-use Rattle.request_rules.specs.Breaches.{BrokenBelow}
 use Rattle.service_core.specs.CoreState.{CoreState}
-use Rattle.service_core.specs.Step.{scene_of, Refuses, Performs}
+use Rattle.service_core.specs.Step.{IsJudgedAs, Refuses, Performs}
 
--- The call is of the request, and breaks no rule below the last one.
+-- The call is of the request, and breaks no rule for what is demanded.
 pub record IsJudged (core : CoreState) (moment : ℤ) (asked : Asked) (call : Call) : Type 0 where
   pub call_is : IsCallOf core.settings asked call
-  pub none : IsUnbroken
-      (BrokenBelow 20 core.settings (scene_of core.world moment) asked call.caller call.request)
+  pub none : IsJudgedAs core.settings core.world moment asked call.caller call.request None
 
 -- The request is refused or performed, or want of memory was told and nothing changed.
 abbrev pub IsAnswered : Settings → World → ℤ → Asked → Told → World → Type 0

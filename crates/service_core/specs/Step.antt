@@ -9,15 +9,16 @@ use Rattle.call_forms.specs.declared.forms.Answer.{Answer}
 use Rattle.call_forms.specs.declared.forms.Refusal.{Refusal}
 use Rattle.call_forms.specs.Rules.{refusal_answer}
 use Rattle.message_forms.specs.declared.requests.Request.{Request}
-use Rattle.message_forms.specs.declared.requests.Request.TheVariants.{CreateInvocation, UpdateInvocation, FinalizeInvocation, UpdateIncludedInvocations, GetInvocation}
+use Rattle.message_forms.specs.declared.requests.Request.TheVariants as asks
 use Rattle.invocation_world.specs.World.{World, new_row, with_row, latest_call}
 use Rattle.invocation_world.specs.Settling.{Settles}
 use Rattle.invocation_world.specs.Changes.{with_begun, with_inclusions, with_update}
 use Rattle.invocation_world.specs.Advancing.{Advances}
 use Rattle.request_rules.specs.Settings.{Settings, caller_name}
 use Rattle.request_rules.specs.Named.{place_named, places_named}
-use Rattle.request_rules.specs.Order.{IsFirst, IsUnbroken}
-use Rattle.request_rules.specs.Broken.{Scene, Wants, Broken}
+use Rattle.request_rules.specs.Demands.{demand_of}
+use Rattle.request_rules.specs.Order.{IsUnbroken, Judges}
+use Rattle.request_rules.specs.Broken.{Case, IsBroken, IsRefusedAlone, TableFull, Wants, order}
 use Rattle.service_core.specs.Answers.{IsReplyTo}
 
 -- The moment of a call: what the clock says, brought into 1970-01-01T00:00:00Z to
@@ -25,19 +26,46 @@ use Rattle.service_core.specs.Answers.{IsReplyTo}
 abbrev pub moment_of : ℤ → ℤ → ℤ
 moment_of last now = int_max last (int_max (pos 0) (int_min now latest_call))
 
--- what rules look at in a world, at a moment
-abbrev pub scene_of : World → ℤ → Scene
-scene_of w moment = record { rows = w.invocations; inclusions = w.inclusions; moment = moment }
+-- what rules look at in a world, at a moment, of what a caller asked
+abbrev pub case_in : Settings → World → ℤ → Asked → ℕ → Case
+case_in s w moment asked caller = record {
+  settings = s;
+  rows = w.invocations;
+  moment = moment;
+  asked = asked;
+  caller = caller;
+}
 
--- What is refused is the broken rule that comes first.
+-- what the rules for what is demanded say of what a caller wants: the first that is broken, if any
+abbrev pub IsJudgedAs : Settings → World → ℤ → Asked → ℕ → Request → Option Refusal → Type 0
+IsJudgedAs s w moment asked caller request found =
+    Judges (IsBroken (case_in s w moment asked caller) (demand_of request)) order found
+
+-- what a caller wants finds a table full
+abbrev pub FindsFull : World → Request → Refusal → Type 0
+FindsFull w request r = TableFull w.invocations w.inclusions request r
+
+-- What a caller wants is refused: by the first rule that it breaks of those for what is demanded,
+-- and where it breaks none, by a table that is full.
+abbrev pub IsRefusedOf : Settings → World → ℤ → Asked → ℕ → Request → Refusal → Type 0
+IsRefusedOf s w moment asked caller request r =
+    IsJudgedAs s w moment asked caller request (Some r)
+    ⊎ (IsJudgedAs s w moment asked caller request None × FindsFull w request r)
+
+-- A request is refused by the first rule that it breaks by itself; or else a caller wants something
+-- that is refused.
 abbrev pub IsRefusal : Settings → World → ℤ → Asked → Refusal → Type 0
-IsRefusal s w moment asked r = IsFirst (Broken s (scene_of w moment) asked) r
+IsRefusal s w moment asked r =
+    IsRefusedAlone s asked r
+    ⊎ ((caller : ℕ) × (request : Request) × Wants s asked caller request
+    × IsRefusedOf s w moment asked caller request r)
 
--- The request breaks no rule, and this caller asks for this.
+-- This caller asks for this, and it breaks no rule.
 pub record IsAccepted (s : Settings) (w : World) (moment : ℤ) (asked : Asked)
     (caller : ℕ) (request : Request) : Type 0 where
   pub wants : Wants s asked caller request
-  pub unbroken : IsUnbroken (Broken s (scene_of w moment) asked)
+  pub judged : IsJudgedAs s w moment asked caller request None
+  pub room : IsUnbroken (FindsFull w request)
 
 -- the world changed at this place, if there is one
 abbrev pub changed_at : World → (ℕ → World) → Option ℕ → World
@@ -59,16 +87,18 @@ with_end_begun moment place w =
 -- deadline or other tags; it begins the finalization of an active one; it adds the inclusions that
 -- aren't there yet; or it only reads.
 abbrev pub changed : Settings → World → ℤ → ℕ → Request → World
-changed s w moment caller (CreateInvocation id realm deadline tags) =
-    with_row w (new_row moment (caller_name s caller) id realm deadline tags)
-changed s w moment caller (UpdateInvocation id deadline tags) =
-    changed_at w (λ place. with_update moment place deadline tags w) (place_named w.invocations id)
-changed s w moment caller (FinalizeInvocation id) =
-    changed_at w (λ place. with_end_begun moment place w) (place_named w.invocations id)
-changed s w moment caller (UpdateIncludedInvocations including add) =
-    changed_at w (λ place. with_inclusions moment place (places_named w.invocations add) w)
-    (place_named w.invocations including)
-changed s w moment caller (GetInvocation id) = w
+changed s w moment caller (asks.CreateInvocation q) =
+    with_row w (new_row moment (caller_name s caller) q.id
+    q.invocation.realm q.invocation.deadline q.invocation.tags)
+changed s w moment caller (asks.UpdateInvocation q) =
+    changed_at w (λ place. with_update moment place q.deadline q.tags w)
+    (place_named w.invocations q.id)
+changed s w moment caller (asks.FinalizeInvocation q) =
+    changed_at w (λ place. with_end_begun moment place w) (place_named w.invocations q.id)
+changed s w moment caller (asks.UpdateIncludedInvocations q) =
+    changed_at w (λ place. with_inclusions moment place (places_named w.invocations q.add) w)
+    (place_named w.invocations q.including)
+changed s w moment caller (asks.GetInvocation q) = w
 
 -- An accepted request is acted on: what it changes is changed, and what then reaches no active
 -- invocation becomes final.

@@ -23,7 +23,7 @@ use invocations::Invocation;
 use message_forms::Request;
 use names_realms::{InvocationId, Moment};
 use permissions::Policy;
-use request_rules::{Call, Situation, Understood, place_of, places_of, understand};
+use request_rules::{Call, Rule, Situation, Understood, place_of, places_of, understand};
 use std::alloc::{AllocError, Global};
 use std::marker::Model;
 
@@ -133,7 +133,7 @@ impl Core {
         }
     }
 
-    /// What a call comes to that breaks no rule below 20.
+    /// What a call comes to that breaks no rule for what is demanded.
     fn plan(
         &mut self,
         alloc: Global,
@@ -156,37 +156,32 @@ impl Core {
             token,
         } = call;
         match request {
-            Request::CreateInvocation {
-                id,
-                realm,
-                deadline,
-                tags,
-            } => {
+            Request::CreateInvocation(q) => {
                 let wish = Wish {
-                    id,
-                    realm,
-                    deadline,
-                    tags,
+                    id: q.id,
+                    realm: q.invocation.realm,
+                    deadline: q.invocation.deadline,
+                    tags: q.invocation.tags,
                 };
                 let row = wish.into_row(alloc, &self.policy, caller, moment)?;
                 plan_row(alloc, &mut self.world, row, token.handed_out())
             }
-            Request::UpdateInvocation { id, deadline, tags } => {
-                let at = self.place(moment, &id);
-                let tags = pairs_of(alloc, tags)?;
-                plan_update(alloc, &self.world, at, deadline, tags)
+            Request::UpdateInvocation(q) => {
+                let at = self.place(moment, &q.id);
+                let tags = pairs_of(alloc, q.tags)?;
+                plan_update(alloc, &self.world, at, q.deadline, tags)
             }
-            Request::FinalizeInvocation { id } => {
-                let at = self.place(moment, &id);
+            Request::FinalizeInvocation(q) => {
+                let at = self.place(moment, &q.id);
                 plan_end(alloc, &mut self.world, at)
             }
-            Request::UpdateIncludedInvocations { including, add } => {
-                let at = self.place(moment, &including);
-                let targets = places_of(alloc, self.world.table(), add.as_slice())?;
+            Request::UpdateIncludedInvocations(q) => {
+                let at = self.place(moment, &q.including);
+                let targets = places_of(alloc, self.world.table(), q.add.as_slice())?;
                 plan_inclusions(alloc, &mut self.world, at, targets.as_slice())
             }
-            Request::GetInvocation { id } => {
-                let at = self.place(moment, &id);
+            Request::GetInvocation(q) => {
+                let at = self.place(moment, &q.id);
                 Ok(Prepared::Answered(show_at(alloc, &self.world, at.place)?))
             }
         }
@@ -210,7 +205,7 @@ impl Core {
         ensures spare_inclusions { self.old.spare_inclusions ≤ self.new.spare_inclusions }
         ensures prepared { IfOk result (IsPrepared self.new moment asked.now) }
     {
-        if let Some(breach) = self.situation(moment).judge(&call) {
+        if let Some(breach) = self.situation(moment).judge(Rule::order(), &call) {
             return Ok(Prepared::Refused(breach.answer(alloc)?));
         }
         self.plan(alloc, moment, asked, call)

@@ -7,9 +7,9 @@ use Rattle.message_forms.proofs.writing.update_request_value.Goals as goal
 
 pub returns-clause-again : goal.returns-clause-again
 returns-clause-again c =
-    let id = c.args.id.now in
-    let deadline = c.args.new_deadline.now in
-    let tags = c.args.new_tags.now in
+    let id = c.args.request.now.id in
+    let deadline = c.args.request.now.deadline in
+    let tags = c.args.request.now.tags in
     let by : mask_written deadline tags ≡ Some c.in-Some.mask.now =
     sym c.mask_of.ensures ∙ ap (λ (o : Option (Bor (List ℕ))). option_map (λ b. b.now) o) c.in-Some.is in
     let r = update_written c.in-Some.mask.now (changed_data id deadline tags) id deadline tags by c.in_ok-changed.ensures.again in

@@ -17,47 +17,47 @@ into_row-requires-clause-there c =
 pub plan_row-requires-clause-free : goal.plan_row-requires-clause-free
 plan_row-requires-clause-free c =
     row_free c.args.self.now c.args.moment c.args.asked.now c.args.call
-    c.in-CreateInvocation.id c.in-CreateInvocation.realm c.in-CreateInvocation.deadline c.in-CreateInvocation.tags
+    c.in-CreateInvocation.q.id c.in-CreateInvocation.q.invocation.realm c.in-CreateInvocation.q.invocation.deadline c.in-CreateInvocation.q.invocation.tags
     (record { policy = c.self.inside.policy }) c.self.inside.world.world c.in_ok-row-in-CreateInvocation.row c.requires.judged
     c.in-CreateInvocation.is (ap (λ (s : CoreState). s.world) c.self.view_is) c.in_ok-row-in-CreateInvocation.ensures
 
 pub plan_row-requires-clause-row : goal.plan_row-requires-clause-row
 plan_row-requires-clause-row c =
     row_is_row c.args.self.now c.args.moment c.args.asked.now c.args.call
-    c.in-CreateInvocation.id c.in-CreateInvocation.realm c.in-CreateInvocation.deadline c.in-CreateInvocation.tags
+    c.in-CreateInvocation.q.id c.in-CreateInvocation.q.invocation.realm c.in-CreateInvocation.q.invocation.deadline c.in-CreateInvocation.q.invocation.tags
     (record { policy = c.self.inside.policy }) c.in_ok-row-in-CreateInvocation.row c.self.invariant
     (ap (λ (s : CoreState). s.settings) c.self.view_is) c.requires.timely c.requires.judged c.in-CreateInvocation.is
     c.in_ok-row-in-CreateInvocation.ensures
 
 pub place-at-requires : goal.place-at-requires
 place-at-requires c =
-    own_there c.args.self.now c.args.moment c.args.asked.now c.args.call _ c.in-UpdateInvocation.id c.requires.judged
+    own_there c.args.self.now c.args.moment c.args.asked.now c.args.call _ c.in-UpdateInvocation.q.id c.requires.judged
     c.in-UpdateInvocation.is refl
 
 pub place-at-requires-in-FinalizeInvocation : goal.place-at-requires-in-FinalizeInvocation
 place-at-requires-in-FinalizeInvocation c =
-    own_there c.args.self.now c.args.moment c.args.asked.now c.args.call _ c.in-FinalizeInvocation.id c.requires.judged
+    own_there c.args.self.now c.args.moment c.args.asked.now c.args.call _ c.in-FinalizeInvocation.q.id c.requires.judged
     c.in-FinalizeInvocation.is refl
 
 pub place-at-requires-in-UpdateIncludedInvocations : goal.place-at-requires-in-UpdateIncludedInvocations
 place-at-requires-in-UpdateIncludedInvocations c =
-    own_there c.args.self.now c.args.moment c.args.asked.now c.args.call _ c.in-UpdateIncludedInvocations.including c.requires.judged
+    own_there c.args.self.now c.args.moment c.args.asked.now c.args.call _ c.in-UpdateIncludedInvocations.q.including c.requires.judged
     c.in-UpdateIncludedInvocations.is refl
 
 pub place-at-requires-in-GetInvocation : goal.place-at-requires-in-GetInvocation
 place-at-requires-in-GetInvocation c =
-    own_there c.args.self.now c.args.moment c.args.asked.now c.args.call _ c.in-GetInvocation.id c.requires.judged
+    own_there c.args.self.now c.args.moment c.args.asked.now c.args.call _ c.in-GetInvocation.q.id c.requires.judged
     c.in-GetInvocation.is refl
 
 pub plan_update-requires-clause-tags : goal.plan_update-requires-clause-tags
 plan_update-requires-clause-tags c =
-    tags_fit c.args.self.now c.args.moment c.args.asked.now c.args.call c.in-UpdateInvocation.id c.in-UpdateInvocation.deadline
-    c.in-UpdateInvocation.tags c.in_ok-tags-in-UpdateInvocation.tags c.requires.judged c.in-UpdateInvocation.is
+    tags_fit c.args.self.now c.args.moment c.args.asked.now c.args.call c.in-UpdateInvocation.q.id c.in-UpdateInvocation.q.deadline
+    c.in-UpdateInvocation.q.tags c.in_ok-tags-in-UpdateInvocation.tags c.requires.judged c.in-UpdateInvocation.is
     c.in_ok-tags-in-UpdateInvocation.ensures
 
 pub plan_inclusions-requires-clause-active : goal.plan_inclusions-requires-clause-active
 plan_inclusions-requires-clause-active c =
-    including_active c.args.self.now c.args.moment c.args.asked.now c.args.call c.in-UpdateIncludedInvocations.including c.in-UpdateIncludedInvocations.add
+    including_active c.args.self.now c.args.moment c.args.asked.now c.args.call c.in-UpdateIncludedInvocations.q.including c.in-UpdateIncludedInvocations.q.add
     c.place-at-in-UpdateIncludedInvocations.result.place c.self.inside.world.world c.requires.judged c.in-UpdateIncludedInvocations.is
     c.place-at-in-UpdateIncludedInvocations.ensures.place (ap (λ (s : CoreState). s.world) c.self.view_is)
 
@@ -67,7 +67,7 @@ plan_inclusions-requires-clause-there c =
     ∙ (c.in_ok-targets-in-UpdateIncludedInvocations.ensures
     ∙ (ap (λ (rows : List Invocation). places_named rows c.as_slice.result.now) c.table.ensures.rows
     ∙ ap (places_named c.self.inside.world.world.invocations) c.as_slice.ensures)) in
-    targets_there c.self.inside.world.world.invocations c.in-UpdateIncludedInvocations.add c.as_slice-in-UpdateIncludedInvocations.result.now
+    targets_there c.self.inside.world.world.invocations c.in-UpdateIncludedInvocations.q.add c.as_slice-in-UpdateIncludedInvocations.result.now
     targets
 
 pub plan_inclusions-requires-clause-elsewhere : goal.plan_inclusions-requires-clause-elsewhere
@@ -77,7 +77,7 @@ plan_inclusions-requires-clause-elsewhere c =
     ∙ (ap (λ (rows : List Invocation). places_named rows c.as_slice.result.now) c.table.ensures.rows
     ∙ ap (places_named c.self.inside.world.world.invocations) c.as_slice.ensures)) in
     targets_elsewhere c.args.self.now c.args.moment c.args.asked.now c.args.call
-    c.in-UpdateIncludedInvocations.including c.in-UpdateIncludedInvocations.add
+    c.in-UpdateIncludedInvocations.q.including c.in-UpdateIncludedInvocations.q.add
     c.place-at-in-UpdateIncludedInvocations.result.place c.self.inside.world.world c.as_slice-in-UpdateIncludedInvocations.result.now
     c.requires.judged c.in-UpdateIncludedInvocations.is c.place-at-in-UpdateIncludedInvocations.ensures.place
     (ap (λ (s : CoreState). s.world) c.self.view_is) targets
@@ -94,7 +94,7 @@ returns-in_ok-row-in-CreateInvocation-clause-prepared c =
     (IsPrepared core c.args.moment c.args.asked.now)
     (λ p planned.
     create_call c.args.self.now core c.args.moment c.args.asked.now c.args.call
-    c.in-CreateInvocation.id c.in-CreateInvocation.realm c.in-CreateInvocation.deadline c.in-CreateInvocation.tags
+    c.in-CreateInvocation.q.id c.in-CreateInvocation.q.invocation.realm c.in-CreateInvocation.q.invocation.deadline c.in-CreateInvocation.q.invocation.tags
     c.in_ok-row-in-CreateInvocation.row c.handed_out.result p
     (record { world = c.plan_row.ensures.world ∙ (ap (λ (s : CoreState). s.world) c.self.view_is); settings = (ap (λ (s : CoreState). s.settings) c.self.view_is) })
     c.self.invariant c.requires.timely c.requires.judged c.in-CreateInvocation.is c.in_ok-row-in-CreateInvocation.ensures
@@ -104,11 +104,11 @@ returns-in_ok-row-in-CreateInvocation-clause-prepared c =
 pub returns-in_ok-tags-in-UpdateInvocation-clause-prepared : goal.returns-in_ok-tags-in-UpdateInvocation-clause-prepared
 returns-in_ok-tags-in-UpdateInvocation-clause-prepared c =
     IfOk-weaker c.plan_update.result
-    (IsUpdatePlanned c.self.inside.world.world c.place-at.result c.in-UpdateInvocation.deadline c.in_ok-tags-in-UpdateInvocation.tags)
+    (IsUpdatePlanned c.self.inside.world.world c.place-at.result c.in-UpdateInvocation.q.deadline c.in_ok-tags-in-UpdateInvocation.tags)
     (IsPrepared c.args.self.now c.args.moment c.args.asked.now)
     (λ p planned.
-    update_call c.args.self.now c.args.moment c.args.asked.now c.args.call c.in-UpdateInvocation.id c.in-UpdateInvocation.deadline
-    c.in-UpdateInvocation.tags c.in_ok-tags-in-UpdateInvocation.tags c.place-at.result c.self.inside.world.world p c.requires.timely
+    update_call c.args.self.now c.args.moment c.args.asked.now c.args.call c.in-UpdateInvocation.q.id c.in-UpdateInvocation.q.deadline
+    c.in-UpdateInvocation.q.tags c.in_ok-tags-in-UpdateInvocation.tags c.place-at.result c.self.inside.world.world p c.requires.timely
     c.requires.judged c.in-UpdateInvocation.is c.in_ok-tags-in-UpdateInvocation.ensures c.place-at.ensures.moment
     c.place-at.ensures.place (ap (λ (s : CoreState). s.world) c.self.view_is) planned)
     c.plan_update.ensures
@@ -124,7 +124,7 @@ returns-in-FinalizeInvocation-clause-prepared c =
     IfOk-weaker c.plan_end.result (IsEndPlanned c.self.inside.world.world c.place-at-in-FinalizeInvocation.result)
     (IsPrepared core c.args.moment c.args.asked.now)
     (λ p planned.
-    end_call c.args.self.now core c.args.moment c.args.asked.now c.args.call c.in-FinalizeInvocation.id
+    end_call c.args.self.now core c.args.moment c.args.asked.now c.args.call c.in-FinalizeInvocation.q.id
     c.place-at-in-FinalizeInvocation.result c.self.inside.world.world p
     (record { world = c.plan_end.ensures.world ∙ (ap (λ (s : CoreState). s.world) c.self.view_is); settings = (ap (λ (s : CoreState). s.settings) c.self.view_is) })
     c.requires.timely c.requires.judged c.in-FinalizeInvocation.is c.place-at-in-FinalizeInvocation.ensures.moment
@@ -148,7 +148,7 @@ returns-in_ok-targets-in-UpdateIncludedInvocations-clause-prepared c =
     (IsPrepared core c.args.moment c.args.asked.now)
     (λ p planned.
     include_call c.args.self.now core c.args.moment c.args.asked.now c.args.call
-    c.in-UpdateIncludedInvocations.including c.in-UpdateIncludedInvocations.add
+    c.in-UpdateIncludedInvocations.q.including c.in-UpdateIncludedInvocations.q.add
     c.place-at-in-UpdateIncludedInvocations.result c.self.inside.world.world c.as_slice-in-UpdateIncludedInvocations.result.now p
     (record { world = c.plan_inclusions.ensures.world ∙ (ap (λ (s : CoreState). s.world) c.self.view_is); settings = (ap (λ (s : CoreState). s.settings) c.self.view_is) })
     c.requires.timely c.requires.judged c.in-UpdateIncludedInvocations.is c.place-at-in-UpdateIncludedInvocations.ensures.moment
@@ -157,6 +157,6 @@ returns-in_ok-targets-in-UpdateIncludedInvocations-clause-prepared c =
 
 pub returns-in_ok-show_at-in-GetInvocation-clause-prepared : goal.returns-in_ok-show_at-in-GetInvocation-clause-prepared
 returns-in_ok-show_at-in-GetInvocation-clause-prepared c =
-    get_call c.args.self.now c.args.moment c.args.asked.now c.args.call c.in-GetInvocation.id c.place-at-in-GetInvocation.result.place
+    get_call c.args.self.now c.args.moment c.args.asked.now c.args.call c.in-GetInvocation.q.id c.place-at-in-GetInvocation.result.place
     c.self.inside.world.world c.in_ok-show_at-in-GetInvocation.field-0 c.requires.timely c.requires.judged c.in-GetInvocation.is
     c.place-at-in-GetInvocation.ensures.place (ap (λ (s : CoreState). s.world) c.self.view_is) c.in_ok-show_at-in-GetInvocation.ensures

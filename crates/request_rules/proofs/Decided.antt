@@ -1,0 +1,272 @@
+-- Which rule a request breaks can be told in every world, where each right can be told.
+use Rattle.std.proofs.Common.{◌≡◌, ◌≢◌, ◌<◌, ◌+◌, ◌++◌, ℕ, zero, ℤ, ◌+ℤ◌, List, [], ◌∷◌, length, codes, decimal, Contains, Option, Some, None, inl, inr, refl, sym, ap, ◌∙◌, subst, arith}
+use Rattle.std.specs.Prelude.{◌⊎◌}
+use Rattle.std.specs.Str.{bytes_eq}
+use Rattle.std.specs.Cmp.Lexicographic.{bytes_decides}
+use Rattle.std.proofs.lemmas.Bool.{cases_Bool, cases_lt, false≢true}
+use Rattle.std.proofs.lemmas.Int.{ints, by_lt_z}
+use Rattle.std.proofs.lemmas.List.Elements.{Contains-append_cases, Contains-append_right}
+use Rattle.std.proofs.lemmas.Option.{none-some, same_Some}
+use Rattle.names_realms.specs.Names.{invocation_name}
+use Rattle.names_realms.specs.declared.states.State.{State}
+use Rattle.names_realms.specs.declared.states.State.TheVariants.{Active, Finalizing, Finalized}
+use Rattle.policy_tables.specs.declared.tables.PolicyTables.{PolicyTables}
+use Rattle.permissions.specs.Hash.{token_text}
+use Rattle.inclusion_graph.specs.declared.edge.Edge.{Edge}
+use Rattle.inclusion_graph.specs.Edges.{fresh, targets_of}
+use Rattle.inclusion_graph.proofs.ListLemmas.{in_one}
+use Rattle.invocations.specs.declared.invocation.Invocation.{Invocation}
+use Rattle.call_forms.specs.declared.asked.Asked.{Asked}
+use Rattle.call_forms.specs.declared.forms.Refusal.{Refusal}
+use Rattle.message_forms.specs.declared.methods.Method.{Method}
+use Rattle.message_forms.specs.declared.requests.Request.{Request}
+use Rattle.message_forms.specs.declared.requests.Request.TheVariants as asks
+use Rattle.message_forms.specs.Methods.{method_of}
+use Rattle.message_forms.specs.Replies.{state_text}
+use Rattle.message_forms.proofs.FaultLaws.{asks_or_has_fault, fault_is_refused}
+use Rattle.request_rules.specs.declared.rules.Rule.{Rule}
+use Rattle.request_rules.specs.declared.rules.Rule.TheVariants as rule
+use Rattle.request_rules.specs.Settings.{Settings, caller_of, secret_of}
+use Rattle.request_rules.specs.Demands.{Demand, Right, rights_taken}
+use Rattle.request_rules.specs.Named.{named, place_named, places_named}
+use Rattle.request_rules.specs.Order.{FirstOf, IsUnbroken}
+use Rattle.request_rules.specs.Broken.{BadUpdateToken, Case, DeadlineRange, Denied, HasNoMethod, IsBroken, IsInReach, IsMissing, IsRefusedAlone, Itself, Lacks, NoUpdateToken, NotActive, NotFound, OverflowsInclusions, TableFull, Taken, TooMany, Wants, denied, greatest_lifetime, least_lifetime, of_invocation, out_of_reach, refusal, table_full, target_of}
+use Rattle.request_rules.proofs.Firsts.{no_first}
+use Rattle.request_rules.proofs.Judged.{Told}
+
+-- ---- lists
+
+held : (names : List (List ℕ)) (x : List ℕ) → Contains names x ⊎ (Contains names x → ⊥)
+held [] x = inr (λ h. absurd (omega (arith, h.1)))
+held (n ∷ names) x =
+    elim (cases_Bool (bytes_eq n x)) [
+      | inl same ↦ inl (subst (Contains (n ∷ names)) ((bytes_decides n x).0 same) (zero, omega arith, refl))
+      | inr other ↦ elim (held names x) [
+        | inl rest ↦ inl (Contains-append_right (n ∷ []) names x rest)
+        | inr none ↦ inr (λ h. elim (Contains-append_cases (n ∷ []) names x h) [
+          | inl here ↦ false≢true (sym other ∙ (bytes_decides n x).1 (in_one n x here))
+          | inr there ↦ none there
+        ])
+      ]
+    ]
+
+first_there : {A : Type 0} → (Holds : A → Type 0) → ((x : A) → Holds x ⊎ (Holds x → ⊥)) → (xs : List A)
+    → (found : Option A) × FirstOf Holds xs found
+first_there Holds told [] = (None, refl)
+first_there Holds told (x ∷ xs) =
+    elim (told x) [
+      | inl is ↦ (Some x, inl (is, refl))
+      | inr not ↦ let rest = first_there Holds told xs in (rest.0, inr (not, rest.1))
+    ]
+
+missing_at : (rows : List Invocation) (id : List ℕ) (o : Option ℕ) → place_named rows id ≡ o
+    → IsMissing rows id ⊎ (IsMissing rows id → ⊥)
+missing_at rows id None e = inl e
+missing_at rows id (Some p) e = inr (λ none. none-some p (sym none ∙ e))
+
+missing_or_not : (rows : List Invocation) (id : List ℕ) → IsMissing rows id ⊎ (IsMissing rows id → ⊥)
+missing_or_not rows id = missing_at rows id (place_named rows id) refl
+
+-- ---- rules
+
+not_found_told : (rows : List Invocation) (d : Demand) (found : Option (List ℕ)) → FirstOf (IsMissing rows) (d.named ++ d.included) found
+    → Told (NotFound rows d)
+not_found_told rows d None first = inr (λ r is. no_first (IsMissing rows) (d.named ++ d.included) first is.id is.first)
+not_found_told rows d (Some id) first = inl (of_invocation 8 id, record { id = id; first = first; refusal_is = refl })
+
+no_token_told : (asked : Asked) (d : Demand) (o t : Option (List ℕ)) → d.changed ≡ o → asked.update_token ≡ t
+    → Told (NoUpdateToken asked d)
+no_token_told asked d None t e f = inr (λ r is. none-some is.id (sym e ∙ is.changes))
+no_token_told asked d (Some id) None e f = inl (of_invocation 9 id, record { id = id; changes = e; none = f; refusal_is = refl })
+no_token_told asked d (Some id) (Some token) e f = inr (λ r is. none-some token (sym is.none ∙ f))
+
+bad_token_told : (s : Settings) (asked : Asked) (d : Demand) (o t : Option (List ℕ)) → d.changed ≡ o
+    → asked.update_token ≡ t → Told (BadUpdateToken s asked d)
+bad_token_told s asked d None t e f = inr (λ r is. none-some is.id (sym e ∙ is.changes))
+bad_token_told s asked d (Some id) None e f = inr (λ r is. none-some is.token (sym f ∙ is.shown))
+bad_token_told s asked d (Some id) (Some token) e f =
+    elim (cases_Bool (bytes_eq token (token_text (secret_of s) id))) [
+      | inl same ↦ inr (λ r is.
+          let ids : is.id ≡ id = same_Some is.id id (sym is.changes ∙ e) in
+          let tokens : is.token ≡ token = same_Some is.token token (sym is.shown ∙ f) in
+          is.other (tokens ∙ ((bytes_decides token (token_text (secret_of s) id)).0 same ∙ ap (token_text (secret_of s)) (sym ids))))
+      | inr other ↦ inl (
+        of_invocation 10 id,
+        record {
+          id = id;
+          changes = e;
+          token = token;
+          shown = f;
+          other = λ same. false≢true (sym other ∙ (bytes_decides token (token_text (secret_of s) id)).1 same);
+          refusal_is = refl;
+        },
+      )
+    ]
+
+denied_told : (policy : PolicyTables) (rows : List Invocation) (caller : ℕ) (d : Demand) (found : Option Right)
+    → FirstOf (Lacks policy caller) (rights_taken rows d) found → Told (Denied policy rows caller d)
+denied_told policy rows caller d None first = inr (λ r is. no_first (Lacks policy caller) (rights_taken rows d) first is.0 is.1)
+denied_told policy rows caller d (Some lacking) first = inl (denied lacking, (lacking, first, refl))
+
+active_or_not : (state : State) → (state ≡ Active) ⊎ (state ≡ Active → ⊥)
+active_or_not Active = inl refl
+active_or_not Finalizing = inr (λ e. let no : Finalizing ≡ Active = e in cc)
+active_or_not Finalized = inr (λ e. let no : Finalized ≡ Active = e in cc)
+
+state_told : (rows : List Invocation) (d : Demand) (id : List ℕ) (o : Option Invocation) → d.active ≡ Some id
+    → named rows id ≡ o → Told (NotActive rows d)
+state_told rows d id None e f =
+    inr (λ r is. none-some is.row (sym f ∙ (ap (named rows) (same_Some id is.id (sym e ∙ is.changes)) ∙ is.stands)))
+state_told rows d id (Some row) e f =
+    elim (active_or_not row.state) [
+      | inl active ↦ inr (λ r is.
+          let same : is.row ≡ row = same_Some is.row row
+          (sym is.stands ∙ (ap (named rows) (same_Some is.id id (sym is.changes ∙ e)) ∙ f)) in
+          is.inactive (ap (λ (x : Invocation). x.state) same ∙ active))
+      | inr other ↦ inl (
+        refusal 12 (invocation_name id ++ (codes " " ++ state_text row.state)),
+        record {
+          id = id;
+          changes = e;
+          row = row;
+          stands = f;
+          inactive = other;
+          refusal_is = refl;
+        },
+      )
+    ]
+
+active_told : (rows : List Invocation) (d : Demand) (o : Option (List ℕ)) → d.active ≡ o → Told (NotActive rows d)
+active_told rows d None e = inr (λ r is. none-some is.id (sym e ∙ is.changes))
+active_told rows d (Some id) e = state_told rows d id (named rows id) e refl
+
+pub reach_or_not : (moment deadline : ℤ) → IsInReach moment deadline ⊎ (IsInReach moment deadline → ⊥)
+reach_or_not moment deadline =
+    by_lt_z deadline (moment +ℤ least_lifetime)
+    (λ early. inr (λ reach. let le = reach.0 in omega (arith, ints)))
+    (λ near. by_lt_z (moment +ℤ greatest_lifetime) deadline
+    (λ late. inr (λ reach. let le = reach.1 in omega (arith, ints)))
+    (λ far. inl (near, far)))
+
+deadline_told : (moment : ℤ) (d : Demand) (o : Option ℤ) → d.deadline ≡ o → Told (DeadlineRange moment d)
+deadline_told moment d None e = inr (λ r is. none-some is.deadline (sym e ∙ is.given))
+deadline_told moment d (Some deadline) e =
+    elim (reach_or_not moment deadline) [
+      | inl reach ↦ inr (λ r is. is.far (subst (IsInReach moment) (same_Some deadline is.deadline (sym e ∙ is.given)) reach))
+      | inr far ↦ inl (out_of_reach deadline moment, record { deadline = deadline; given = e; far = far; refusal_is = refl })
+    ]
+
+itself_told : (d : Demand) (o : Option (List ℕ)) → d.changed ≡ o → Told (Itself d)
+itself_told d None e = inr (λ r is. none-some is.id (sym e ∙ is.changes))
+itself_told d (Some id) e =
+    elim (held d.included id) [
+      | inl is ↦ inl (of_invocation 14 id, record { id = id; changes = e; itself = is; refusal_is = refl })
+      | inr not ↦ inr (λ r is. not (subst (Contains d.included) (same_Some is.id id (sym is.changes ∙ e)) is.itself))
+    ]
+
+many_told : (d : Demand) → Told (TooMany d)
+many_told d =
+    elim (cases_lt 500 (length d.included)) [
+      | inl many ↦ inl (refusal 15 (decimal (length d.included)), record { many = many; refusal_is = refl })
+      | inr few ↦ inr (λ r is. let many = is.many in omega arith)
+    ]
+
+taken_told : (rows : List Invocation) (d : Demand) (o : Option (List ℕ)) → d.makes ≡ o → Told (Taken rows d)
+taken_told rows d None e = inr (λ r is. none-some is.id (sym e ∙ is.makes))
+taken_told rows d (Some id) e =
+    elim (missing_or_not rows id) [
+      | inl none ↦ inr (λ r is. is.taken (ap (place_named rows) (same_Some is.id id (sym is.makes ∙ e)) ∙ none))
+      | inr there ↦ inl (of_invocation 19 id, record { id = id; makes = e; taken = there; refusal_is = refl })
+    ]
+
+-- Whether a caller has a right can be told.
+abbrev pub RightsAreTold : PolicyTables → ℕ → Type 0
+RightsAreTold policy caller = (x : Right) → Lacks policy caller x ⊎ (Lacks policy caller x → ⊥)
+
+pub broken_told : (x : Case) (d : Demand) → RightsAreTold x.settings.policy x.caller → (k : Rule) → Told (IsBroken x d k)
+broken_told x d rights rule.NotFound =
+    let first = first_there (IsMissing x.rows) (missing_or_not x.rows) (d.named ++ d.included) in
+    not_found_told x.rows d first.0 first.1
+broken_told x d rights rule.NoUpdateToken = no_token_told x.asked d d.changed x.asked.update_token refl refl
+broken_told x d rights rule.BadUpdateToken = bad_token_told x.settings x.asked d d.changed x.asked.update_token refl refl
+broken_told x d rights rule.Denied =
+    let first = first_there (Lacks x.settings.policy x.caller) rights (rights_taken x.rows d) in
+    denied_told x.settings.policy x.rows x.caller d first.0 first.1
+broken_told x d rights rule.NotActive = active_told x.rows d d.active refl
+broken_told x d rights rule.DeadlineRange = deadline_told x.moment d d.deadline refl
+broken_told x d rights rule.Itself = itself_told d d.changed refl
+broken_told x d rights rule.TooMany = many_told d
+broken_told x d rights rule.Taken = taken_told x.rows d d.makes refl
+
+-- ---- the last rule
+
+overflow_told : (rows : List Invocation) (inclusions : List Edge) (including : List ℕ) (add : List (List ℕ)) (o : Option ℕ)
+    → place_named rows including ≡ o → Told (OverflowsInclusions rows inclusions including add)
+overflow_told rows inclusions including add None e = inr (λ r is. none-some is.place (sym e ∙ is.stands))
+overflow_told rows inclusions including add (Some p) e =
+    elim (cases_lt 262_144 (length inclusions + length (fresh (targets_of inclusions p) (places_named rows add)))) [
+      | inl many ↦ inl (table_full (codes "inclusions") (length inclusions), record { place = p; stands = e; many = many; refusal_is = refl })
+      | inr few ↦ inr (λ r is.
+          let same : is.place ≡ p = same_Some is.place p (sym is.stands ∙ e) in
+          let many : 262_144 < length inclusions + length (fresh (targets_of inclusions p) (places_named rows add)) =
+          subst (λ (q : ℕ). 262_144 < length inclusions + length (fresh (targets_of inclusions q) (places_named rows add))) same is.many in
+          omega (arith, few, many))
+    ]
+
+pub full_told : (rows : List Invocation) (inclusions : List Edge) (request : Request) → Told (TableFull rows inclusions request)
+full_told rows inclusions (asks.CreateInvocation q) =
+    elim (cases_lt (length rows) 65_536) [
+      | inl few ↦ inr (λ r is. let many = is.0 in omega arith)
+      | inr many ↦ inl (table_full (codes "invocations") (length rows), (many, refl))
+    ]
+full_told rows inclusions (asks.UpdateIncludedInvocations q) =
+    overflow_told rows inclusions q.including q.add (place_named rows q.including) refl
+full_told rows inclusions (asks.UpdateInvocation q) = inr (λ r never. never)
+full_told rows inclusions (asks.FinalizeInvocation q) = inr (λ r never. never)
+full_told rows inclusions (asks.GetInvocation q) = inr (λ r never. never)
+
+-- ---- what a request says by itself
+
+-- A request breaks a rule by itself, or a caller wants something.
+abbrev pub IsSaid : Settings → Asked → Type 0
+IsSaid s asked =
+    ((r : Refusal) × IsRefusedAlone s asked r) ⊎ ((caller : ℕ) × (request : Request) × Wants s asked caller request)
+
+method_there : (asked : Asked) (method : Method) → method_of asked.service asked.method ≡ Some method → IsUnbroken (HasNoMethod asked)
+method_there asked method e r is = none-some method (sym is.0 ∙ e)
+
+body_said : (s : Settings) (asked : Asked) (method : Method) (caller : ℕ) → method_of asked.service asked.method ≡ Some method
+    → caller_of s asked.bearer ≡ Some caller → IsSaid s asked
+body_said s asked method caller e f =
+    elim (asks_or_has_fault asked.service asked.method asked.body) [
+      | inl asks ↦ inr (caller, asks.0, record { caller_is = f; asks = asks.1 })
+      | inr faulty ↦
+          let refused = fault_is_refused asked.service asked.method asked.body (target_of asked) faulty.0 faulty.1 in
+          inl (
+            refused.0,
+            inr (
+              method_there asked method e,
+              inr (
+                λ r is. none-some caller (sym is.0 ∙ f),
+                inl (
+                  refused.0,
+                  record { method = method; named = e; fault = faulty.0; has = faulty.1; refusal_is = refused.1 },
+                  refl,
+                ),
+              ),
+            ),
+          )
+    ]
+
+caller_said : (s : Settings) (asked : Asked) (method : Method) (o : Option ℕ) → method_of asked.service asked.method ≡ Some method
+    → caller_of s asked.bearer ≡ o → IsSaid s asked
+caller_said s asked method None e f =
+    inl (refusal 2 [], inr (method_there asked method e, inl (refusal 2 [], (f, refl), refl)))
+caller_said s asked method (Some caller) e f = body_said s asked method caller e f
+
+method_said : (s : Settings) (asked : Asked) (o : Option Method) → method_of asked.service asked.method ≡ o → IsSaid s asked
+method_said s asked None e = inl (refusal 1 (target_of asked), inl (refusal 1 (target_of asked), (e, refl), refl))
+method_said s asked (Some method) e = caller_said s asked method (caller_of s asked.bearer) e refl
+
+pub said : (s : Settings) (asked : Asked) → IsSaid s asked
+said s asked = method_said s asked (method_of asked.service asked.method) refl

@@ -1,0 +1,12 @@
+use Rattle.std.proofs.Common.{drop, Option}
+use Rattle.request_rules.specs.Broken.{Lacks}
+use Rattle.request_rules.specs.Demands.{Right, rights_in}
+use Rattle.request_rules.specs.Order.{FirstOf}
+use Rattle.request_rules.proofs.rights.Asker.lacks_in.Given as goal
+
+-- the first of those to come is the first of all
+abbrev pub invariant-loop-id : goal.invariant-loop-id
+invariant-loop-id l =
+    (found : Option Right)
+    → FirstOf (Lacks l.self.policy.now l.self.caller) (rights_in l.table.rows l.takes (drop l.id-index l.ids)) found
+    → FirstOf (Lacks l.self.policy.now l.self.caller) (rights_in l.table.rows l.takes l.ids) found

@@ -1,0 +1,128 @@
+//! What a request demands of the world: a row of a table for each method.
+ghost use Rattle.std.specs.Prelude.{◌≡◌};
+ghost use Rattle.request_rules.specs.Demands.{demand_of, nothing, to_create};
+
+use message_forms::Request;
+use names_realms::{InvocationId, Moment, Realm};
+use permissions::Permission;
+use std::marker::Model;
+use std::slice::from_ref;
+
+/// What has to be so for a request to be accepted.
+#[derive(Drop)]
+pub struct Demand<'r> {
+    /// The invocations that have to be there, in the order in which they are looked for.
+    pub named: &'r [InvocationId],
+    /// Those to be included, which have to be there after them.
+    pub included: &'r [InvocationId],
+    /// The one that is changed, and whose update token is shown.
+    pub changed: Option<&'r InvocationId>,
+    /// The one that has to be active.
+    pub active: Option<&'r InvocationId>,
+    /// The deadline that is given.
+    pub deadline: Option<Moment>,
+    /// The id of a new invocation, which has to be free.
+    pub makes: Option<&'r InvocationId>,
+    /// The realm of what is new, and the permissions that it takes there, in their order.
+    pub realm: Option<&'r Realm>,
+    pub takes: &'r [Permission],
+    /// The permissions that it takes in the realm of each invocation that has to be there.
+    pub of_named: &'r [Permission],
+    /// The permissions that it takes in the realm of each one to be included.
+    pub of_included: &'r [Permission],
+}
+
+impl<'r> Model for Demand<'r> {
+    ghost use Rattle.std.specs.Prelude.{option_map};
+    ghost use Rattle.request_rules.specs.Demands.{Demand};
+
+    ghost Value = { Demand };
+
+    ghost view = { λ d. record {
+      named = d.named.now;
+      included = d.included.now;
+      changed = option_map (λ id. id.now) d.changed;
+      active = option_map (λ id. id.now) d.active;
+      deadline = d.deadline;
+      makes = option_map (λ id. id.now) d.makes;
+      realm = option_map (λ realm. realm.now) d.realm;
+      takes = d.takes.now;
+      of_named = d.of_named.now;
+      of_included = d.of_included.now;
+    } };
+}
+
+impl<'r> Demand<'r> {
+    /// Nothing at all.
+    fn nothing() -> Demand<'r>
+        ensures { result ≡ nothing }
+    {
+        Demand {
+            named: &[],
+            included: &[],
+            changed: None,
+            active: None,
+            deadline: None,
+            makes: None,
+            realm: None,
+            takes: &[],
+            of_named: &[],
+            of_included: &[],
+        }
+    }
+}
+
+/// The permissions that a new invocation of this id takes: an id that begins with `u-` is for all
+/// who may create.
+fn to_create(id: &InvocationId) -> &'static [Permission]
+    ensures { result.now ≡ to_create id.now }
+{
+    if id.as_slice().starts_with(b"u-") {
+        &[Permission::CreateInvocation]
+    } else {
+        &[
+            Permission::CreateInvocation,
+            Permission::CreateWithReservedId,
+        ]
+    }
+}
+
+/// What a request demands.
+pub fn demand_of(request: &Request) -> Demand<'_>
+    ensures { result ≡ demand_of request.now }
+{
+    match request {
+        Request::CreateInvocation(r) => Demand {
+            makes: Some(&r.id),
+            realm: Some(&r.invocation.realm),
+            takes: to_create(&r.id),
+            deadline: r.invocation.deadline,
+            ..Demand::nothing()
+        },
+        Request::UpdateInvocation(r) => Demand {
+            named: from_ref(&r.id),
+            changed: Some(&r.id),
+            active: Some(&r.id),
+            deadline: r.deadline,
+            ..Demand::nothing()
+        },
+        Request::FinalizeInvocation(r) => Demand {
+            named: from_ref(&r.id),
+            changed: Some(&r.id),
+            ..Demand::nothing()
+        },
+        Request::UpdateIncludedInvocations(r) => Demand {
+            named: from_ref(&r.including),
+            included: r.add.as_slice(),
+            changed: Some(&r.including),
+            active: Some(&r.including),
+            of_included: &[Permission::IncludeInvocation],
+            ..Demand::nothing()
+        },
+        Request::GetInvocation(r) => Demand {
+            named: from_ref(&r.id),
+            of_named: &[Permission::GetInvocation],
+            ..Demand::nothing()
+        },
+    }
+}
