@@ -57,7 +57,6 @@ LISTED = {
         "permissions": 7,
         "rdb_program": 10,
         "result_journal": 10,
-        "service_core": 9,
         "tap_reader": 10,
     },
     "wide lines": {

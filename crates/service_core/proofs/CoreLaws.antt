@@ -102,10 +102,10 @@ carried_update core w change moment place deadline tags after same change_is fit
     (updated_so core.world moment place deadline tags after (subst (Fits core) change_is fits)
     (is ∙ ap (λ (v : World). with_update moment place deadline tags v) same))
 
-included_so : (core : CoreState) (moment : ℤ) (plan : PlanState) (after : World) → IsTimely core.world moment
-    → states.Fits (held_by core) plan → after ≡ with_edges moment (edges_from plan.from plan.targets) core.world
-    → Settles moment (with_edges moment (edges_from plan.from plan.targets) core.world) after
-included_so core moment plan after timely fits is =
+-- inclusions that fit leave a valid world
+pub planned_valid : (core : CoreState) (moment : ℤ) (plan : PlanState) → IsTimely core.world moment → states.Fits (held_by core) plan
+    → IsValid (with_edges moment (edges_from plan.from plan.targets) core.world)
+planned_valid core moment plan timely fits =
     let w = core.world in
     let all_new : fresh (targets_of w.inclusions plan.from) plan.targets ≡ plan.targets =
     ap (λ (held : List ℕ). fresh held plan.targets) (sym fits.held) ∙ fits.new in
@@ -113,10 +113,15 @@ included_so core moment plan after timely fits is =
     ap (λ (ts : List ℕ). with_edges moment (edges_from plan.from ts) w) all_new in
     let few : length w.inclusions + length (fresh (targets_of w.inclusions plan.from) plan.targets) ≤ 262_144 =
     subst (λ (ts : List ℕ). length w.inclusions + length ts ≤ 262_144) (sym all_new) fits.few in
-    settled_as moment (with_edges moment (edges_from plan.from plan.targets) w) after
-    (subst IsValid same
+    subst IsValid same
     (keeps_included moment w plan.from plan.targets (may_change w moment timely) fits.active
-    (λ k d low. (fits.there k d low, fits.elsewhere k d low)) few)) is
+    (λ k d low. (fits.there k d low, fits.elsewhere k d low)) few)
+
+included_so : (core : CoreState) (moment : ℤ) (plan : PlanState) (after : World) → IsTimely core.world moment
+    → states.Fits (held_by core) plan → after ≡ with_edges moment (edges_from plan.from plan.targets) core.world
+    → Settles moment (with_edges moment (edges_from plan.from plan.targets) core.world) after
+included_so core moment plan after timely fits is =
+    settled_as moment (with_edges moment (edges_from plan.from plan.targets) core.world) after (planned_valid core moment plan timely fits) is
 
 pub carried_include : (core : CoreState) (w : World) (change : Change) (moment : ℤ) (plan : PlanState) (after : World)
     → w ≡ core.world → change ≡ Include moment plan → Fits core change

@@ -14,6 +14,7 @@ pub mod ThereLaws
 pub mod ShowableLaws
 pub mod ShowLaws
 pub mod ClearedLaws
+pub mod OtherLaws
 pub mod PlanLaws
 pub mod PlanMadeLaws
 pub mod PlanCallLaws

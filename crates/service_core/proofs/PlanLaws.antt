@@ -38,7 +38,8 @@ use Rattle.service_core.specs.Answers.{Shows, done, shown_with}
 use Rattle.service_core.specs.Planning.{AreEdgesPlanned, IsEndPlanned, IsIncludePlanned, IsRowPlanned, IsUpdatePlanned, ended_if, plan_of, showing, targets_new}
 use Rattle.service_core.specs.Plans.{Fits, IsPlanOf, IsPrepared, IsTimely}
 use Rattle.service_core.specs.Step.{IsAccepted, Performs, begun_from, changed, changed_at, with_end_begun}
-use Rattle.service_core.proofs.CoreLaws.{may_change}
+use Rattle.service_core.proofs.CoreLaws.{may_change, planned_valid}
+use Rattle.service_core.proofs.OtherLaws.{added_other, ended_other, included_other, updated_other}
 use Rattle.service_core.proofs.ShowLaws.{after_is, end_shows, new_shows, row_placed, shows_itself, update_none, update_shows}
 use Rattle.service_core.proofs.ClearedLaws.{IsCleared, accepted, deadline_ahead, is_still_active, new_is_row, refused_full, tags_are_pairs}
 
@@ -77,6 +78,7 @@ row_planned core moment asked caller id realm deadline tags answer names timely 
           subst (λ (v : World). Shows v id (Some (token_for s id)) answer) (sym (after_is moment (with_row w row) after valid carries))
               (new_shows w row (token_for s id) answer timely.valid can is),
         );
+        changes = λ after carries. added_other w row after (after_is moment (with_row w row) after valid carries);
       },
       record { timely = timely; can = can; is_row = is_row; active = refl; room = room },
     )
@@ -158,6 +160,8 @@ update_is_prepared core asked caller id deadline tags at (prepared.Change plan) 
           subst (λ (v : World). Settles at.moment v after) (sym (update_at s w at.moment caller id deadline tags at.place here)) carries,
           update_shows at.moment id at.place deadline tags w after row.0 answer here row.1 told.0 (after_is at.moment to after valid carries) refl,
         );
+        changes = λ after carries.
+            updated_other at.moment at.place deadline tags w row.0 after row.1 told.0 (after_is at.moment to after valid carries);
       },
       record { timely = timely; active = active; ahead = ahead; pairs = pairs },
     )
@@ -230,6 +234,7 @@ end_is_prepared core asked caller id at (prepared.Change plan) timely h here pla
           subst (λ (v : World). Settles at.moment v after) (sym (end_active s w at.moment caller id at.place here planned.0)) carries,
           end_shows at.moment id at.place w after row.0 told.0 answer here row.1 planned.0 carries told.1 refl,
         );
+        changes = λ after carries. ended_other at.moment at.place w after row.0 told.0 row.1 planned.0 carries told.1;
       },
       (timely, planned.0),
     )
@@ -301,7 +306,7 @@ edges_are_prepared core asked caller including add at edges (prepared.Change pla
     ap (λ (q : ℕ). with_edges at.moment (edges_from q edges.targets) w) all.from
     ∙ (ap (λ (ts : List ℕ). with_edges at.moment (edges_from at.place ts) w) all.all
     ∙ sym (include_at s w at.moment caller including add at.place here)) in
-    same_plan core at.moment asked plan (plan_of (Include at.moment edges) answer) planned (
+    same_plan core at.moment asked plan (plan_of (Include at.moment edges) answer) planned.1 (
       record {
         caller = caller;
         request = request;
@@ -310,6 +315,10 @@ edges_are_prepared core asked caller including add at edges (prepared.Change pla
         answer = answer;
         answer_is = refl;
         acts = λ after carries. (subst (λ (v : World). Settles at.moment v after) same carries, refl);
+        changes = λ after carries.
+            included_other at.moment edges.from edges.targets w after planned.0
+            (after_is at.moment (with_edges at.moment (edges_from edges.from edges.targets) w) after
+            (planned_valid core at.moment edges timely all.fits) carries);
       },
       (timely, all.fits),
     )

@@ -167,7 +167,7 @@ waits_so false moment row e = refl
 not_final : (is_final : Bool) → (is_final ≡ true → ⊥) → is_final ≡ false
 not_final is_final never = elim (cases_Bool is_final) [ inl yes_ ↦ absurd (never yes_) | inr no_ ↦ no_ ]
 
-end_stands : (moment : ℤ) (place : ℕ) (w after : World) (row : Invocation) (is_final : Bool) → slice_get w.invocations place ≡ Some row
+pub end_stands : (moment : ℤ) (place : ℕ) (w after : World) (row : Invocation) (is_final : Bool) → slice_get w.invocations place ≡ Some row
     → IsInState Active w.invocations place → Settles moment (with_begun moment place w) after
     → IsTrue is_final ↔ ¬ ReachesActive (with_begun moment place w) place
     → slice_get after.invocations place ≡ Some (ended_if is_final moment (begun moment row))

@@ -1,5 +1,5 @@
 -- The code's own words: what each kind of change is planned to.
-use Rattle.std.specs.Prelude.{◌≡◌, ◌↔◌, ◌+◌, ◌<◌, ◌≤◌, ℕ, ℤ, Bool, true, false, IsTrue, List, [], Option, Some, None, codes, length, slice_get}
+use Rattle.std.specs.Prelude.{◌≡◌, ◌≢◌, ◌↔◌, ◌+◌, ◌<◌, ◌≤◌, ℕ, ℤ, Bool, true, false, IsTrue, List, [], Option, Some, None, codes, length, slice_get}
 use Rattle.names_realms.specs.declared.pairs.Pair.{Pair}
 use Rattle.names_realms.specs.declared.states.State.TheVariants.{Active}
 use Rattle.inclusion_graph.specs.Edges.{fresh, targets_of}
@@ -82,7 +82,7 @@ AreEdgesPlanned moment edges (prepared.Refused answer) = ⊥
 AreEdgesPlanned moment edges (prepared.Answered answer) =
     (edges.targets ≡ []) × (answer ≡ done None reply.Empty)
 AreEdgesPlanned moment edges (prepared.Change plan) =
-    plan ≡ plan_of (Include moment edges) (done None reply.Empty)
+    (edges.targets ≢ []) × (plan ≡ plan_of (Include moment edges) (done None reply.Empty))
 
 abbrev pub targets_new : WorldState → ℕ → List ℕ → List ℕ
 targets_new held place targets = fresh (targets_of held.world.inclusions place) targets

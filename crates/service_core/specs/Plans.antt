@@ -1,5 +1,5 @@
 -- What a request is prepared to.
-use Rattle.std.specs.Prelude.{◌≡◌, ℕ, ℤ, ◌<◌, ◌<ℤ◌, ◌≤ℤ◌, All, List, Option, Some}
+use Rattle.std.specs.Prelude.{◌≡◌, ◌≢◌, ℕ, ℤ, ◌<◌, ◌<ℤ◌, ◌≤ℤ◌, All, List, Option, Some}
 use Rattle.std.specs.Option.{ForSome}
 use Rattle.names_realms.specs.declared.states.State.TheVariants.{Active}
 use Rattle.names_realms.specs.declared.pairs.Pair.{Pair}
@@ -68,7 +68,8 @@ Fits core (End moment place) =
     IsTimely core.world moment × IsInState Active core.world.invocations place
 Fits core (Include moment plan) = IsTimely core.world moment × states.Fits (held_by core) plan
 
--- The plan does what a caller asks for and is granted, and gives the reply to it.
+-- The plan does what a caller asks for and is granted, and gives the reply to it. It changes the
+-- world: what changes nothing is answered and not planned.
 pub record IsPlanOf (s : Settings) (w : World) (moment : ℤ) (asked : Asked) (plan : PlanState)
     : Type 0 where
   pub caller : ℕ
@@ -78,6 +79,7 @@ pub record IsPlanOf (s : Settings) (w : World) (moment : ℤ) (asked : Asked) (p
   pub answer_is : plan.answer ≡ Some answer
   pub acts : (after : World) → Carries w plan.change after
       → Acts s w moment caller request after × IsReplyTo s after request answer
+  pub changes : (after : World) → Carries w plan.change after → after ≢ w
 
 -- A request is refused by the answer of the rule that it breaks; or it is accepted, and answered
 -- without a change; or it is accepted, and its plan can be carried out.
