@@ -2,7 +2,7 @@ use Rattle.std.proofs.Common.{take}
 use Rattle.std.specs.List.{All}
 use Rattle.std.proofs.Common.{Contains}
 use Rattle.finaliser.specs.Holding.{IsGrown, IsHeldUp}
-use Rattle.finaliser.proofs.candidates.add_all_held_up.Given as goal
+use Rattle.finaliser.proofs.candidates.add_held_up.Given as goal
 
 abbrev pub invariant-loop-node : goal.invariant-loop-node
 invariant-loop-node l = record {

@@ -6,7 +6,7 @@ use Rattle.invocations.specs.Rows.{begun, with_changed}
 use Rattle.invocation_world.specs.Settling.{SettlesRows}
 use Rattle.invocation_world.proofs.CodeFacts.{fewer_active}
 use Rattle.invocation_world.proofs.RowFacts.{state_is}
-use Rattle.invocation_world.proofs.turns.carry_out.Goals as goal
+use Rattle.invocation_world.proofs.turns.take_turns.Goals as goal
 
 pub turns-smaller : goal.turns-smaller
 turns-smaller c =

@@ -3,7 +3,7 @@ use Rattle.invocations.specs.declared.invocation.Invocation.{Invocation}
 use Rattle.invocations.specs.Rows.{states_of}
 use Rattle.invocation_world.specs.Parts.{AreLinked}
 use Rattle.invocation_world.specs.Turns.{RunsTo, active_count}
-use Rattle.invocation_world.proofs.turns.carry_out.Given as goal
+use Rattle.invocation_world.proofs.turns.take_turns.Given as goal
 
 abbrev pub invariant-turns : goal.invariant-turns
 invariant-turns l = record {
