@@ -1,7 +1,7 @@
 use Rattle.std.proofs.Common.{List, ℕ, ◌+◌, false, get_or, refl, sym, subst, arith}
 use Rattle.inclusion_graph.specs.Searches.{IsTakenBelow}
 use Rattle.inclusion_graph.proofs.SearchLemmas.{taken_all, taken_step}
-use Rattle.inclusion_graph.proofs.search.Search.found.Goals as goal
+use Rattle.inclusion_graph.proofs.search.Search.found_by_marks.Goals as goal
 
 pub loop-node-preserved : goal.loop-node-preserved
 loop-node-preserved c =
