@@ -17,6 +17,7 @@ use Rattle.inclusion_graph.proofs.ListLemmas.{at_left, at_set_other, at_set_same
 use Rattle.inclusion_graph.proofs.WalkLemmas.{leads_cons, leads_one, reaches_itself, reaches_more}
 use Rattle.finaliser.specs.Holding.{AreFreed, AreHeld, ArePassed, Comes, Holds, IsClosed, IsClosedBelow, IsGrown, IsHeldUp, IsSource, NodeSetState}
 use Rattle.finaliser.specs.Settling.{IsIn}
+use Rattle.finaliser.proofs.LawLemmas.{active_finalized, finalizing_finalized}
 use Rattle.finaliser.proofs.SettleLemmas.{unfinal_set}
 
 pub grown_none : (P : ℕ → Type 0) (s : NodeSetState) → IsGrown P s s
@@ -29,6 +30,15 @@ grown_more P Q weaker a b c h k = record {
   all = All-append P h.more k.more h.all (All-weaker Q P weaker k.more k.all);
   below = k.below ∙ h.below;
   spare = let one = h.spare in let two = k.spare in omega arith;
+}
+
+pub grown_weaker : (P Q : ℕ → Type 0) (old new : NodeSetState) → ((n : ℕ) → P n → Q n) → IsGrown P old new → IsGrown Q old new
+grown_weaker P Q old new goes h = record {
+  more = h.more;
+  is = h.is;
+  all = All-weaker P Q goes h.more h.all;
+  below = h.below;
+  spare = h.spare;
 }
 
 pub all_if : (P : ℕ → Type 0) (xs : List ℕ) → ((n : ℕ) → Contains xs n → P n) → All P xs
@@ -52,21 +62,25 @@ grown_at : (P : ℕ → Type 0) (a b : NodeSetState) → IsGrown P a b → (plac
 grown_at P a b h place x low e = sym (at_left a.nodes h.more place low) ∙ subst (λ xs. slice_get xs place ≡ Some x) h.is e
 
 -- the edge that stands at a place from which the next one leads to the node
-pub passed_at : (edges : List Edge) (states : List State) (node : ℕ) (nodes : List ℕ) (place : ℕ) (d : Edge) → ArePassed edges states node nodes (Some place)
+pub passed_at : (edges : List Edge) (P R : ℕ → Type 0) (node : ℕ) (nodes : List ℕ) (place : ℕ) (d : Edge) → ArePassed edges P R node nodes (Some place)
     → (slice_get edges place ≡ Some (record { from = (get_or edges place d).from; to = node })) × HasEdge edges (get_or edges place d).from node
-passed_at edges states node nodes place d h =
+passed_at edges P R node nodes place d h =
     let is : Edge = record { from = h.first.1.0; to = node } in
     let read : get_or edges place d ≡ is = get_or_from_slice_get edges place is d h.first.1.1.0 in
     let at = subst (λ m. slice_get edges place ≡ Some (record { from = m; to = node })) (sym (ap (λ (e : Edge). e.from) read)) h.first.1.1.0 in
     (at, contained edges place (record { from = (get_or edges place d).from; to = node }) at)
 
+stays_or : (Q R : ℕ → Type 0) (old new : NodeSetState) → IsGrown Q old new → (n : ℕ) → Contains old.nodes n ⊎ R n → Contains new.nodes n ⊎ R n
+stays_or Q R old new grown n (inl held) = inl (grown_stays Q old new grown n held)
+stays_or Q R old new grown n (inr r) = inr r
+
 -- past one edge more
-pub passed_more : (edges : List Edge) (states : List State) (node : ℕ) (P : ℕ → Type 0) (old new : NodeSetState) (place : ℕ) (d : Edge) (next : Option ℕ)
-    → ArePassed edges states node old.nodes (Some place) → IsGrown P old new
-    → (IsIn Finalizing states (get_or edges place d).from → Contains new.nodes (get_or edges place d).from)
+pub passed_more : (edges : List Edge) (P R : ℕ → Type 0) (node : ℕ) (Q : ℕ → Type 0) (old new : NodeSetState) (place : ℕ) (d : Edge) (next : Option ℕ)
+    → ArePassed edges P R node old.nodes (Some place) → IsGrown Q old new
+    → (P (get_or edges place d).from → Contains new.nodes (get_or edges place d).from ⊎ R (get_or edges place d).from)
     → ((edge : Edge) → slice_get edges place ≡ Some edge → IsFirstTo edges edge.to (place + 1) next)
-    → ArePassed edges states node new.nodes next
-passed_more edges states node P old new place d next h grown there goes =
+    → ArePassed edges P R node new.nodes next
+passed_more edges P R node Q old new place d next h grown there goes =
     let source = h.first.1.0 in
     let is : Edge = record { from = source; to = node } in
     let read : get_or edges place d ≡ is = get_or_from_slice_get edges place is d h.first.1.1.0 in
@@ -76,50 +90,79 @@ passed_more edges states node P old new place d next h grown there goes =
       done = h.done ++ source ∷ [];
       first = goes is h.first.1.1.0;
       sources = h.sources ∙ ap (λ xs. h.done ++ xs) h.first.1.1.1 ∙ sym (append_assoc h.done (source ∷ []) (sources_of (drop (place + 1) edges) node));
-      all = λ n held final. elim (Contains-append_cases h.done (source ∷ []) n held) [
-        | inl before ↦ grown_stays P old new grown n (h.all n before final)
+      all = λ n held is_p. elim (Contains-append_cases h.done (source ∷ []) n held) [
+        | inl before ↦ stays_or Q R old new grown n (h.all n before is_p)
         | inr here ↦
             let same : source ≡ n = in_one source n here in
-            subst (Contains new.nodes) (from ∙ same) (there (subst (IsIn Finalizing states) (sym (from ∙ same)) final))
+            let S : ℕ → Type 0 = λ m. Contains new.nodes m ⊎ R m in
+            subst S (from ∙ same) (there (subst P (sym (from ∙ same)) is_p))
       ];
     }
 
-pub passed_all : (edges : List Edge) (states : List State) (node : ℕ) (nodes : List ℕ) (next : Option ℕ) → next ≡ None
-    → ArePassed edges states node nodes next → (source : ℕ) → HasEdge edges source node → IsIn Finalizing states source → Contains nodes source
-passed_all edges states node nodes next e h source edge is =
+-- the same, where nothing is said of the sources that are passed
+pub passed_on : (edges : List Edge) (node : ℕ) (nodes more : List ℕ) (place : ℕ) (next : Option ℕ)
+    → ArePassed edges (λ n. ⊥) (λ n. ⊥) node nodes (Some place)
+    → ((edge : Edge) → slice_get edges place ≡ Some edge → IsFirstTo edges edge.to (place + 1) next)
+    → ArePassed edges (λ n. ⊥) (λ n. ⊥) node more next
+passed_on edges node nodes more place next h goes = record {
+  start = place + 1;
+  done = h.done ++ h.first.1.0 ∷ [];
+  first = goes (record { from = h.first.1.0; to = node }) h.first.1.1.0;
+  sources = h.sources ∙ ap (λ xs. h.done ++ xs) h.first.1.1.1 ∙ sym (append_assoc h.done (h.first.1.0 ∷ []) (sources_of (drop (place + 1) edges) node));
+  all = λ n held never. absurd never;
+}
+
+pub passed_none : (edges : List Edge) (node : ℕ) (nodes : List ℕ) (next : Option ℕ) → IsFirstTo edges node 0 next
+    → ArePassed edges (λ n. ⊥) (λ n. ⊥) node nodes next
+passed_none edges node nodes next h = record {
+  start = 0;
+  done = [];
+  first = h;
+  sources = refl;
+  all = λ n held never. absurd never;
+}
+
+pub passed_all : (edges : List Edge) (P R : ℕ → Type 0) (node : ℕ) (nodes : List ℕ) (next : Option ℕ) → next ≡ None
+    → ArePassed edges P R node nodes next → (source : ℕ) → HasEdge edges source node → P source → Contains nodes source ⊎ R source
+passed_all edges P R node nodes next e h source edge is =
     let none = subst (IsFirstTo edges node h.start) e h.first in
     let all : sources_of edges node ≡ h.done = h.sources ∙ ap (λ xs. h.done ++ xs) none ∙ append-nil h.done in
     h.all source (subst (λ xs. Contains xs source) all ((sources_are edges node source).1 edge)) is
 
 -- what comes to the nodes that a set has by now comes to those that it began with
-pub comes_from : (edges : List Edge) (states : List State) (old new : NodeSetState) → IsGrown (Comes edges states old.nodes) old new → (node source : ℕ)
-    → Contains new.nodes node → IsSource edges states node source → Comes edges states old.nodes source
-comes_from edges states old new h node source held is =
-    elim (grown_cases (Comes edges states old.nodes) old new h node held) [
+pub comes_from : (edges : List Edge) (P : ℕ → Type 0) (old new : NodeSetState) → IsGrown (Comes edges P old.nodes) old new → (node source : ℕ)
+    → Contains new.nodes node → IsSource edges P node source → Comes edges P old.nodes source
+comes_from edges P old new h node source held is =
+    elim (grown_cases (Comes edges P old.nodes) old new h node held) [
       | inl before ↦ (is.0, (node, (before, (source ∷ (node ∷ []), leads_cons edges (node ∷ []) source node node is.1 (leads_one edges node)))))
       | inr comes ↦ (is.0, (comes.1.0, (comes.1.1.0, (source ∷ comes.1.1.1.0, leads_cons edges comes.1.1.1.0 source node comes.1.0 is.1 comes.1.1.1.1))))
     ]
 
-pub closed_more : (edges : List Edge) (states : List State) (P : ℕ → Type 0) (old new : NodeSetState) (at node : ℕ) → IsClosedBelow edges states old.nodes at
-    → slice_get old.nodes at ≡ Some node → IsGrown P old new
-    → ((source : ℕ) → HasEdge edges source node → IsIn Finalizing states source → Contains new.nodes source)
-    → IsClosedBelow edges states new.nodes (at + 1)
-closed_more edges states P old new at node h here grown there = λ a b place low is edge final.
+pub closed_more : (edges : List Edge) (P R Q : ℕ → Type 0) (old new : NodeSetState) (at node : ℕ) → IsClosedBelow edges P R old.nodes at
+    → slice_get old.nodes at ≡ Some node → IsGrown Q old new
+    → ((source : ℕ) → HasEdge edges source node → P source → Contains new.nodes source ⊎ R source)
+    → IsClosedBelow edges P R new.nodes (at + 1)
+closed_more edges P R Q old new at node h here grown there = λ a b place low is edge is_p.
     let within = slice_get_within old.nodes at node here in
-    let was = grown_at P old new grown place b (omega arith) is in
+    let was = grown_at Q old new grown place b (omega arith) is in
     elim (cases_lt place at) [
-      | inl before ↦ grown_stays P old new grown a (h a b place before was edge final)
+      | inl before ↦ stays_or Q R old new grown a (h a b place before was edge is_p)
       | inr behind ↦
           let same : place ≡ at = omega arith in
           let is_node : b ≡ node = same_Some b node (sym was ∙ subst (λ p. slice_get old.nodes p ≡ Some node) (sym same) here) in
-          there a (subst (HasEdge edges a) is_node edge) final
+          there a (subst (HasEdge edges a) is_node edge) is_p
     ]
 
-pub closed_all : (edges : List Edge) (states : List State) (nodes : List ℕ) (at : ℕ) → length nodes ≤ at → IsClosedBelow edges states nodes at
-    → IsClosed edges states nodes
-closed_all edges states nodes at all h = λ a b edge held final.
+pub closed_all : (edges : List Edge) (P R : ℕ → Type 0) (nodes : List ℕ) (at : ℕ) → length nodes ≤ at → IsClosedBelow edges P R nodes at
+    → IsClosed edges P R nodes
+closed_all edges P R nodes at all h = λ a b edge held is_p.
     let place = place_held nodes b held in
-    h a b place.0 (omega (arith, slice_get_within nodes place.0 b place.1)) place.1 edge final
+    h a b place.0 (omega (arith, slice_get_within nodes place.0 b place.1)) place.1 edge is_p
+
+-- a node that is final holds up none
+pub final_holds_none : (states : List State) (found : List ℕ) (n : ℕ) → IsIn Finalized states n → ¬ Holds states found n
+final_holds_none states found n final (inl active) = active_finalized states n active final
+final_holds_none states found n final (inr waits) = finalizing_finalized states n waits.0 final
 
 -- a node that includes one that holds it up, out of its targets
 pub held_up_by : (edges : List Edge) (states : List State) (found targets : List ℕ) (node i : ℕ) → targets ≡ targets_of edges node → i < length targets
@@ -136,16 +179,16 @@ not_held_up edges states found targets node e none up =
 -- the nodes that are held up, from those that include one that holds them up
 pub held_are : (edges : List Edge) (states : List State) (found : List ℕ) (none one all : NodeSetState) → none.nodes ≡ []
     → IsGrown (IsHeldUp edges states found) none one → ((n : ℕ) → Contains found n → IsHeldUp edges states found n → Contains one.nodes n)
-    → IsGrown (Comes edges states one.nodes) one all → IsClosed edges states all.nodes → AreHeld edges states found all.nodes
+    → IsGrown (Comes edges (Contains found) one.nodes) one all → IsClosed edges (Contains found) (λ n. ⊥) all.nodes → AreHeld edges states found all.nodes
 held_are edges states found none one all e ups there grown closed =
     let why : (n : ℕ) → Contains one.nodes n → IsHeldUp edges states found n = λ n held. elim (grown_cases (IsHeldUp edges states found) none one ups n held) [
       | inl old ↦ let no : Contains [] n = subst (λ (xs : List ℕ). Contains xs n) e old in absurd (omega (arith, no.1))
       | inr up ↦ up
     ] in
     record {
-      begun = λ n held up. grown_stays (Comes edges states one.nodes) one all grown n (there n held up);
+      begun = λ n held up. grown_stays (Comes edges (Contains found) one.nodes) one all grown n (there n held up);
       closed = closed;
-      sound = λ n held. elim (grown_cases (Comes edges states one.nodes) one all grown n held) [
+      sound = λ n held. elim (grown_cases (Comes edges (Contains found) one.nodes) one all grown n held) [
         | inl old ↦ let up = why n old in (up.0, (reaches_more edges n n up.0 (reaches_itself edges n) up.1.0, up.1.1))
         | inr comes ↦ let up = why comes.1.0 comes.1.1.0 in (up.0, (reaches_more edges n comes.1.0 up.0 comes.1.1.1 up.1.0, up.1.1))
       ];

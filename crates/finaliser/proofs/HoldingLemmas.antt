@@ -86,7 +86,7 @@ toward edges old node found held h (x ∷ (y ∷ rest)) a w =
               | inr f ↦ active_finalized old node h.active (subst (IsIn Finalized old) at f)
             ] in
             elim rest_a [
-              | inl f ↦ inl (h.found_are.closed a y edge held_y (at_set_other old node a Finalizing other ∙ f))
+              | inl f ↦ h.found_are.closed a y edge held_y (at_set_other old node a Finalizing other ∙ f)
               | inr f ↦ absurd (h.settled.done a f (node, (x ∷ (y ∷ rest), w), h.active))
             ]
       ]
@@ -139,9 +139,8 @@ free_goes edges old node found held h a b (inl free) e =
     let states = set old node Finalizing in
     let low : b < length old = All-contains (λ (x : Edge). x.to < length old) edges (record { from = a; to = b }) h.within.to e in
     let held_up = λ (holds : Holds states found b). free.1 (h.held_are.begun a free.0 (b, (e, holds))) in
-    let is_a : IsIn Finalizing states a = All-contains (IsIn Finalizing states) found a h.found_are.finalizing free.0 in
     let waits = λ (is : IsIn Finalizing states b). elim (cases_held found b) as (λ _. Free edges states found held b) [
-      | inl found_b ↦ inl (found_b, λ held_b. free.1 (h.held_are.closed a b e held_b is_a))
+      | inl found_b ↦ inl (found_b, λ held_b. elim (h.held_are.closed a b e held_b free.0) [ inl held_a ↦ free.1 held_a | inr never ↦ never ])
       | inr not ↦ absurd (held_up (inr (is, not)))
     ] in
     elim (cases_eq b node) [
@@ -235,7 +234,7 @@ settled_node edges states within h =
           last.1 (r.0, reaches_itself edges r.0, sym (at_left states (Active ∷ []) r.0 last.0) ∙ r.2);
     }
 
-walk_stays : (edges more : List Edge) (walk : List ℕ) → IsWalk edges walk → IsWalk (edges ++ more) walk
+pub walk_stays : (edges more : List Edge) (walk : List ℕ) → IsWalk edges walk → IsWalk (edges ++ more) walk
 walk_stays edges more [] w = absurd w
 walk_stays edges more (x ∷ []) w = tt
 walk_stays edges more (x ∷ (y ∷ rest)) w =
@@ -272,7 +271,10 @@ pub found_moved : (edges : List Edge) (states : List State) (node : ℕ) (found 
 found_moved edges states node found moved p h = record {
   begun = Contains-permutation found moved node p h.begun;
   finalizing = All-permutation (IsIn Finalizing states) found moved p h.finalizing;
-  closed = λ a b e held is. Contains-permutation found moved a p (h.closed a b e (Contains-permutation moved found b (IsPermutation-sym found moved p) held) is);
+  closed = λ a b e held is. elim (h.closed a b e (Contains-permutation moved found b (IsPermutation-sym found moved p) held) is) [
+    | inl there ↦ inl (Contains-permutation found moved a p there)
+    | inr reaches ↦ inr reaches
+  ];
 }
 
 holds_moved : (states : List State) (found moved : List ℕ) (n : ℕ) → IsPermutation found moved → Holds states found n → Holds states moved n
@@ -284,7 +286,7 @@ pub held_moved : (edges : List Edge) (states : List State) (found moved held : L
     → AreHeld edges states found held → AreHeld edges states moved held
 held_moved edges states found moved held p h = let back = IsPermutation-sym found moved p in record {
   begun = λ n held_n up. h.begun n (Contains-permutation moved found n back held_n) (up.0, (up.1.0, holds_moved states moved found up.0 back up.1.1));
-  closed = h.closed;
+  closed = λ a b e held_b is. h.closed a b e held_b (Contains-permutation moved found a back is);
   sound = λ n held_n. let why = h.sound n held_n in (why.0, (why.1.0, holds_moved states found moved why.0 p why.1.1));
 }
 

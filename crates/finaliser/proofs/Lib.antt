@@ -6,3 +6,4 @@ pub mod MarkLemmas
 pub mod NodeLemmas
 pub mod SettleLemmas
 pub mod WaitLemmas
+pub mod WatchLemmas

@@ -1,9 +1,8 @@
 -- A node that begins while it includes an active one: nothing becomes final.
-use Rattle.std.proofs.Common.{◌≡◌, ◌<◌, ◌≤◌, ℕ, List, [], length, set, get_or, Contains, refl, sym, ◌∙◌, subst, inl, inr, arith}
+use Rattle.std.proofs.Common.{◌≡◌, ◌<◌, ℕ, List, [], length, set, Contains, refl, sym, ◌∙◌, subst, inl, inr, arith}
 use Rattle.std.specs.List.{All}
 use Rattle.std.proofs.lemmas.Bool.{cases_eq}
 use Rattle.std.proofs.lemmas.List.{length-set}
-use Rattle.std.proofs.lemmas.List.Elements.{All-contains, Contains-get_or}
 use Rattle.names_realms.specs.declared.states.State.{State}
 use Rattle.names_realms.specs.declared.states.State.TheVariants.{Active, Finalizing}
 use Rattle.inclusion_graph.specs.declared.edge.Edge.{Edge}
@@ -12,33 +11,23 @@ use Rattle.inclusion_graph.specs.Walks.{Leads}
 use Rattle.inclusion_graph.proofs.EdgeLemmas.{targets_are}
 use Rattle.inclusion_graph.proofs.ListLemmas.{at_set_other}
 use Rattle.inclusion_graph.proofs.WalkLemmas.{reaches_itself}
-use Rattle.finaliser.specs.Holding.{AreWithin, IncludesActive, IsKept, NodeSetState}
+use Rattle.finaliser.specs.Holding.{AreWithin, IsKept, NodeSetState}
 use Rattle.finaliser.specs.Settling.{IsIn, IsSettled, ReachesActive, Settles}
 use Rattle.finaliser.proofs.HoldingLemmas.{none_of_final, through}
 use Rattle.finaliser.proofs.MarkLemmas.{reaches_back}
 use Rattle.finaliser.proofs.SettleLemmas.{unfinal_retired}
 
--- whether one of the targets is active
-pub includes_by : (edges : List Edge) (states : List State) (targets : List ℕ) (node i : ℕ) → targets ≡ targets_of edges node → i < length targets
-    → IsIn Active states (get_or targets i 0) → IncludesActive edges states node
-includes_by edges states targets node i e within active =
-    let target = get_or targets i 0 in
-    (target, ((targets_are edges node target).0 (subst (λ xs. Contains xs target) e (Contains-get_or targets i 0 within)), active))
-
-pub includes_none : (edges : List Edge) (states : List State) (targets : List ℕ) (node : ℕ) → targets ≡ targets_of edges node
-    → All (λ t. ¬ IsIn Active states t) targets → IncludesActive edges states node → ⊥
-includes_none edges states targets node e none is =
-    All-contains (λ t. ¬ IsIn Active states t) targets is.0 none (subst (λ xs. Contains xs is.0) (sym e) ((targets_are edges node is.0).1 is.1.0)) is.1.1
-
-pub includes_reaches : (edges : List Edge) (states : List State) (node : ℕ) → IncludesActive edges states node → ReachesActive edges states node
-includes_reaches edges states node is = reaches_back edges states node is.0 is.1.0 (is.0, reaches_itself edges is.0, is.1.1)
+-- one of the targets is active
+pub includes_reaches : (edges : List Edge) (states : List State) (node target : ℕ) → Contains (targets_of edges node) target → IsIn Active states target
+    → ReachesActive edges states node
+includes_reaches edges states node target is active =
+    reaches_back edges states node target ((targets_are edges node target).0 is) (target, reaches_itself edges target, active)
 
 -- what is finalizing reaches an active node still
 pub settled_waiting : (edges : List Edge) (old : List State) (node : ℕ) → IsSettled edges old → IsIn Active old node
-    → IncludesActive edges (set old node Finalizing) node → IsSettled edges (set old node Finalizing)
-settled_waiting edges old node h active is =
+    → ReachesActive edges (set old node Finalizing) node → IsSettled edges (set old node Finalizing)
+settled_waiting edges old node h active reaches =
     let states = set old node Finalizing in
-    let reaches = includes_reaches edges states node is in
     record {
       waits = λ k at. elim (cases_eq k node) [
         | inl same ↦ subst (ReachesActive edges states) (sym same) reaches
@@ -63,7 +52,7 @@ settles_none edges states h = record {
 }
 
 pub kept_waiting : (graph : GraphState) (states : List State) (found held : NodeSetState) (finals : List ℕ) (room node : ℕ)
-    → IsKept graph states found held finals room → IsIn Active states node → IncludesActive graph.edges (set states node Finalizing) node
+    → IsKept graph states found held finals room → IsIn Active states node → ReachesActive graph.edges (set states node Finalizing) node
     → IsKept graph (set states node Finalizing) found held finals room
 kept_waiting graph states found held finals room node h active is =
     let same : length (set states node Finalizing) ≡ length states = length-set states node Finalizing in

@@ -9,7 +9,7 @@ use Rattle.inclusion_graph.specs.Edges.{GraphState, HasEdge, IsFirstTo, has, sou
 use Rattle.inclusion_graph.specs.Searches.{HasMarks}
 use Rattle.inclusion_graph.specs.Walks.{Reaches}
 use Rattle.finaliser.specs.Marks.{unfinal, unmarked}
-use Rattle.finaliser.specs.Settling.{IsIn, IsSettled}
+use Rattle.finaliser.specs.Settling.{IsIn, IsSettled, ReachesActive}
 
 -- a set of nodes, in the order in which they were added, out of those below a number, and for how
 -- many more nodes there is room
@@ -34,41 +34,40 @@ pub record IsGrown (P : ℕ → Type 0) (old new : NodeSetState) : Type 0 where
   pub below : new.below ≡ old.below
   pub spare : old.spare ≤ new.spare
 
--- a finalizing node that has an edge to this one
-abbrev pub IsSource : List Edge → List State → ℕ → ℕ → Type 0
-IsSource edges states node source = IsIn Finalizing states source × HasEdge edges source node
+-- a node of which this holds, and which has an edge to this one
+abbrev pub IsSource : List Edge → (ℕ → Type 0) → ℕ → ℕ → Type 0
+IsSource edges P node source = P source × HasEdge edges source node
 
--- a finalizing node that reaches one of these
-abbrev pub Comes : List Edge → List State → List ℕ → ℕ → Type 0
-Comes edges states nodes node =
-    IsIn Finalizing states node × ((other : ℕ) × (Contains nodes other × Reaches edges node other))
+-- a node of which this holds, and which reaches one of these
+abbrev pub Comes : List Edge → (ℕ → Type 0) → List ℕ → ℕ → Type 0
+Comes edges P nodes node =
+    P node × ((other : ℕ) × (Contains nodes other × Reaches edges node other))
 
--- the sources of the node before some place are passed, and those of them that are finalizing are
--- in the set
-pub record ArePassed (edges : List Edge) (states : List State) (node : ℕ) (nodes : List ℕ)
+-- the sources of the node before some place are passed, and those of which the one holds are in the
+-- set, or the other holds of them
+pub record ArePassed (edges : List Edge) (P R : ℕ → Type 0) (node : ℕ) (nodes : List ℕ)
     (next : Option ℕ) : Type 0 where
   pub start : ℕ
   pub done : List ℕ
   pub first : IsFirstTo edges node start next
   pub sources : sources_of edges node ≡ done ++ sources_of (drop start edges) node
-  pub all : (source : ℕ) → Contains done source → IsIn Finalizing states source
-      → Contains nodes source
+  pub all : (source : ℕ) → Contains done source → P source → Contains nodes source ⊎ R source
 
 -- how many edges are left from a place on
 abbrev pub edges_left : List Edge → Option ℕ → ℕ
 edges_left edges None = 0
 edges_left edges (Some at) = length edges - at
 
--- with a node, each finalizing one is there that has an edge to it
-abbrev pub IsClosed : List Edge → List State → List ℕ → Type 0
-IsClosed edges states nodes =
-    (a b : ℕ) → HasEdge edges a b → Contains nodes b → IsIn Finalizing states a → Contains nodes a
+-- with a node, each one that has an edge to it is there if the one holds of it, or the other does
+abbrev pub IsClosed : List Edge → (ℕ → Type 0) → (ℕ → Type 0) → List ℕ → Type 0
+IsClosed edges P R nodes =
+    (a b : ℕ) → HasEdge edges a b → Contains nodes b → P a → Contains nodes a ⊎ R a
 
 -- the same, for the nodes at the places below this
-abbrev pub IsClosedBelow : List Edge → List State → List ℕ → ℕ → Type 0
-IsClosedBelow edges states nodes at =
-    (a b place : ℕ) → place < at → slice_get nodes place ≡ Some b → HasEdge edges a b
-    → IsIn Finalizing states a → Contains nodes a
+abbrev pub IsClosedBelow : List Edge → (ℕ → Type 0) → (ℕ → Type 0) → List ℕ → ℕ → Type 0
+IsClosedBelow edges P R nodes at =
+    (a b place : ℕ) → place < at → slice_get nodes place ≡ Some b → HasEdge edges a b → P a
+    → Contains nodes a ⊎ R a
 
 -- a node holds up those that include it: it is active, or finalizing and not found
 abbrev pub Holds : List State → List ℕ → ℕ → Type 0
@@ -80,23 +79,19 @@ abbrev pub IsHeldUp : List Edge → List State → List ℕ → ℕ → Type 0
 IsHeldUp edges states found node =
     (target : ℕ) × (HasEdge edges node target × Holds states found target)
 
--- the node includes an active one
-abbrev pub IncludesActive : List Edge → List State → ℕ → Type 0
-IncludesActive edges states node =
-    (target : ℕ) × (HasEdge edges node target × IsIn Active states target)
-
--- the nodes that may become final with this one
+-- the nodes that may become final with this one; a finalizing one that has an edge to one of them
+-- and isn't there reaches an active one
 pub record AreFound (edges : List Edge) (states : List State) (node : ℕ)
     (found : List ℕ) : Type 0 where
   pub begun : Contains found node
   pub finalizing : All (IsIn Finalizing states) found
-  pub closed : IsClosed edges states found
+  pub closed : IsClosed edges (IsIn Finalizing states) (ReachesActive edges states) found
 
 -- the nodes that are held up, themselves or by others
 pub record AreHeld (edges : List Edge) (states : List State) (found held : List ℕ) : Type 0 where
   pub begun : (node : ℕ) → Contains found node → IsHeldUp edges states found node
       → Contains held node
-  pub closed : IsClosed edges states held
+  pub closed : IsClosed edges (Contains found) (λ n. ⊥) held
   pub sound : (node : ℕ) → Contains held node
       → (other : ℕ) × (Reaches edges node other × Holds states found other)
 

@@ -2,3 +2,4 @@ pub mod Holding
 pub mod Laws
 pub mod Marks
 pub mod Settling
+pub mod Watching

@@ -3,24 +3,44 @@ ghost use Rattle.std.specs.Prelude.{◌≡◌, ◌≤◌, ◌<◌, ◌+◌, ◌+
 ghost use Rattle.std.specs.List.Sorted.{IsStrictlyIncreasing};
 ghost use Rattle.std.specs.List.{filter};
 ghost use Rattle.inclusion_graph.specs.Edges.{HasEdge, has};
-ghost use Rattle.finaliser.specs.Holding.{AreFound, AreFreed, AreHeld, Comes, Holds, IncludesActive, IsClosed, IsGrown, IsHeldUp, IsSource, is_free};
+ghost use Rattle.finaliser.specs.Holding.{AreFound, AreFreed, AreHeld, Comes, Holds, IsClosed, IsGrown, IsHeldUp, IsSource, is_free};
 ghost use Rattle.finaliser.specs.Marks.{unfinal};
-ghost use Rattle.finaliser.specs.Settling.{IsIn};
+ghost use Rattle.finaliser.specs.Settling.{IsIn, ReachesActive};
+ghost use Rattle.finaliser.specs.Watching.{AreWatched};
 
 use crate::node_set::NodeSet;
+use crate::watches::{Watch, is_active, waits};
 use inclusion_graph::Graph;
 use names_realms::State;
 
-/// Adds a node to a set, if it is finalizing.
-fn add_finalizing(states: &[State], node: u32, set: &mut NodeSet)
+/// Adds a node to a set, if it is finalizing, unless it is known to reach an active one.
+fn add_candidate(
+    graph: &Graph,
+    states: &[State],
+    watches: &mut Vec<Watch>,
+    node: u32,
+    set: &mut NodeSet,
+)
+    requires count { graph.now.nodes ≡ length states.now }
     requires node { node < length states.now }
     requires below { set.old.below ≡ length states.now }
+    requires watched { AreWatched graph.now.edges states.now watches.old.items }
     ensures grown { IsGrown (λ n. IsIn State.Finalizing states.now n × (n ≡ node)) set.old set.new }
-    ensures there { IsIn State.Finalizing states.now node → Contains set.new.nodes node }
+    ensures there { IsIn State.Finalizing states.now node → Contains set.new.nodes node
+        ⊎ ReachesActive graph.now.edges states.now node }
+    ensures watched { AreWatched graph.now.edges states.now watches.new.items }
+    ensures capacity { vec_capacity watches.new ≡ vec_capacity watches.old }
 {
-    if is_finalizing(states, node) {
-        set.add(node);
+    if !is_finalizing(states, node) {
+        return;
     }
+    if set.has(node) {
+        return;
+    }
+    if waits(graph, states, watches, node) {
+        return;
+    }
+    set.add(node);
 }
 
 /// Whether a node is finalizing.
@@ -31,37 +51,77 @@ fn is_finalizing(states: &[State], node: u32) -> bool
     states[node as usize] == State::Finalizing
 }
 
-/// Adds the sources of a node that are finalizing.
-fn add_sources(graph: &Graph, states: &[State], node: u32, set: &mut NodeSet)
+/// Adds the sources of a node that are finalizing, but those that are known to reach an active one.
+fn add_sources(
+    graph: &Graph,
+    states: &[State],
+    watches: &mut Vec<Watch>,
+    node: u32,
+    set: &mut NodeSet,
+)
     requires count { graph.now.nodes ≡ length states.now }
     requires below { set.old.below ≡ length states.now }
     requires node { node < length states.now }
-    ensures grown { IsGrown (IsSource graph.now.edges states.now node) set.old set.new }
+    requires watched { AreWatched graph.now.edges states.now watches.old.items }
+    ensures grown { IsGrown (IsSource graph.now.edges (IsIn State.Finalizing states.now) node)
+        set.old set.new }
     ensures there { (source : ℕ) → HasEdge graph.now.edges source node →
-        IsIn State.Finalizing states.now source → Contains set.new.nodes source }
+        IsIn State.Finalizing states.now source → Contains set.new.nodes source
+        ⊎ ReachesActive graph.now.edges states.now source }
+    ensures watched { AreWatched graph.now.edges states.now watches.new.items }
+    ensures capacity { vec_capacity watches.new ≡ vec_capacity watches.old }
 {
     let edges = graph.edges();
     let mut next = graph.first_edge_to(node);
     'sources: while let Some(place) = next {
         let source = edges[place as usize].from;
-        add_finalizing(states, source, set);
+        add_candidate(graph, states, watches, source, set);
         next = graph.next_edge_to(place);
     }
 }
 
-/// Adds all finalizing nodes that reach the set along finalizing ones.
-fn close(graph: &Graph, states: &[State], set: &mut NodeSet)
+/// Adds the finalizing nodes that reach the set along finalizing ones, as far as none of these is
+/// known to reach an active one.
+fn close(graph: &Graph, states: &[State], watches: &mut Vec<Watch>, set: &mut NodeSet)
     requires count { graph.now.nodes ≡ length states.now }
     requires below { set.old.below ≡ length states.now }
-    ensures grown { IsGrown (Comes graph.now.edges states.now set.old.nodes) set.old set.new }
-    ensures closed { IsClosed graph.now.edges states.now set.new.nodes }
+    requires watched { AreWatched graph.now.edges states.now watches.old.items }
+    ensures grown { IsGrown
+        (Comes graph.now.edges (IsIn State.Finalizing states.now) set.old.nodes) set.old set.new }
+    ensures closed { IsClosed graph.now.edges (IsIn State.Finalizing states.now)
+        (ReachesActive graph.now.edges states.now) set.new.nodes }
+    ensures watched { AreWatched graph.now.edges states.now watches.new.items }
+    ensures capacity { vec_capacity watches.new ≡ vec_capacity watches.old }
 {
     let mut at = 0;
     'nodes: while at < set.len() {
         let node = set.at(at);
-        add_sources(graph, states, node, set);
+        add_sources(graph, states, watches, node, set);
         at += 1;
     }
+}
+
+/// Finds the nodes that may become final with one that begins. The set is empty before.
+pub(crate) fn find(
+    graph: &Graph,
+    states: &[State],
+    watches: &mut Vec<Watch>,
+    node: u32,
+    found: &mut NodeSet,
+)
+    requires count { graph.now.nodes ≡ length states.now }
+    requires node { IsIn State.Finalizing states.now node }
+    requires below { found.old.below ≡ length states.now }
+    requires none { found.old.nodes ≡ [] }
+    requires watched { AreWatched graph.now.edges states.now watches.old.items }
+    ensures found { AreFound graph.now.edges states.now node found.new.nodes }
+    ensures below { found.new.below ≡ found.old.below }
+    ensures spare { found.old.spare ≤ found.new.spare }
+    ensures watched { AreWatched graph.now.edges states.now watches.new.items }
+    ensures capacity { vec_capacity watches.new ≡ vec_capacity watches.old }
+{
+    found.add(node);
+    close(graph, states, watches, found);
 }
 
 /// Whether a node holds up those that include it: it is active, or finalizing and not found.
@@ -77,34 +137,125 @@ fn holds(states: &[State], found: &NodeSet, node: u32) -> bool
     }
 }
 
-/// Whether a node includes one that holds it up.
-fn is_held_up(graph: &Graph, states: &[State], found: &NodeSet, node: u32) -> bool
+/// Whether a node includes one that holds it up. Those that are known to be final aren't asked.
+fn is_held_up(
+    graph: &Graph,
+    states: &[State],
+    watches: &[Watch],
+    found: &NodeSet,
+    node: u32,
+) -> bool
     requires count { graph.now.nodes ≡ length states.now }
     requires below { found.now.below ≡ length states.now }
     requires node { node < length states.now }
+    requires watched { AreWatched graph.now.edges states.now watches.now }
     ensures { IsTrue result ↔ IsHeldUp graph.now.edges states.now found.now.nodes node }
 {
-    for target in graph.targets(node) {
-        if holds(states, found, *target) {
+    let targets = graph.targets(node);
+    for place in watches[node as usize].passed..targets.len() {
+        if holds(states, found, targets[place]) {
             return true;
         }
     }
     false
 }
 
-/// Whether a node is active.
-fn is_active(states: &[State], node: u32) -> bool
-    requires { node < length states.now }
-    ensures { IsTrue result ↔ IsIn State.Active states.now node }
+/// Adds a node, if this is so.
+fn add_if(is_so: bool, node: u32, set: &mut NodeSet)
+    requires { node < set.old.below }
+    ensures grown { IsGrown (λ n. IsTrue is_so × (n ≡ node)) set.old set.new }
+    ensures there { IsTrue is_so → Contains set.new.nodes node }
 {
-    states[node as usize] == State::Active
+    if is_so {
+        set.add(node);
+    }
 }
 
-/// Whether a node includes an active one, so that nothing becomes final with it.
-pub(crate) fn includes_active(graph: &Graph, states: &[State], node: u32) -> bool
+/// Adds the found nodes that include one that holds them up.
+fn add_held_up(
+    graph: &Graph,
+    states: &[State],
+    watches: &[Watch],
+    found: &NodeSet,
+    held: &mut NodeSet,
+)
+    requires count { graph.now.nodes ≡ length states.now }
+    requires below { found.now.below ≡ length states.now }
+    requires below_held { held.old.below ≡ length states.now }
+    requires watched { AreWatched graph.now.edges states.now watches.now }
+    ensures grown { IsGrown (IsHeldUp graph.now.edges states.now found.now.nodes)
+        held.old held.new }
+    ensures there { (node : ℕ) → Contains found.now.nodes node →
+        IsHeldUp graph.now.edges states.now found.now.nodes node → Contains held.new.nodes node }
+{
+    for node in found.as_slice() {
+        let is_held = is_held_up(graph, states, watches, found, *node);
+        add_if(is_held, *node, held);
+    }
+}
+
+/// Adds the sources of a node that are found.
+fn hold_sources(graph: &Graph, found: &NodeSet, node: u32, held: &mut NodeSet)
+    requires count { graph.now.nodes ≡ found.now.below }
+    requires below { held.old.below ≡ found.now.below }
+    requires node { node < found.now.below }
+    ensures grown { IsGrown (IsSource graph.now.edges (Contains found.now.nodes) node)
+        held.old held.new }
+    ensures there { (source : ℕ) → HasEdge graph.now.edges source node →
+        Contains found.now.nodes source → Contains held.new.nodes source }
+{
+    let edges = graph.edges();
+    let mut next = graph.first_edge_to(node);
+    'sources: while let Some(place) = next {
+        let source = edges[place as usize].from;
+        add_if(found.has(source), source, held);
+        next = graph.next_edge_to(place);
+    }
+}
+
+/// Adds all found nodes that reach those that are held up along found ones.
+fn hold_all(graph: &Graph, found: &NodeSet, held: &mut NodeSet)
+    requires count { graph.now.nodes ≡ found.now.below }
+    requires below { held.old.below ≡ found.now.below }
+    ensures grown { IsGrown (Comes graph.now.edges (Contains found.now.nodes) held.old.nodes)
+        held.old held.new }
+    ensures closed { IsClosed graph.now.edges (Contains found.now.nodes) (λ n. ⊥)
+        held.new.nodes }
+{
+    let mut at = 0;
+    'nodes: while at < held.len() {
+        let node = held.at(at);
+        hold_sources(graph, found, node, held);
+        at += 1;
+    }
+}
+
+/// Finds those of the found nodes that are held up. The set is empty before.
+pub(crate) fn hold(
+    graph: &Graph,
+    states: &[State],
+    watches: &[Watch],
+    found: &NodeSet,
+    held: &mut NodeSet,
+)
+    requires count { graph.now.nodes ≡ length states.now }
+    requires below { found.now.below ≡ length states.now }
+    requires below_held { held.old.below ≡ length states.now }
+    requires none { held.old.nodes ≡ [] }
+    requires watched { AreWatched graph.now.edges states.now watches.now }
+    ensures held { AreHeld graph.now.edges states.now found.now.nodes held.new.nodes }
+    ensures below { held.new.below ≡ held.old.below }
+    ensures spare { held.old.spare ≤ held.new.spare }
+{
+    add_held_up(graph, states, watches, found, held);
+    hold_all(graph, found, held);
+}
+
+/// Whether a node includes an active one.
+fn includes_active(graph: &Graph, states: &[State], node: u32) -> bool
     requires count { graph.now.nodes ≡ length states.now }
     requires node { node < length states.now }
-    ensures { IsTrue result ↔ IncludesActive graph.now.edges states.now node }
+    ensures { IsTrue result → ReachesActive graph.now.edges states.now node }
 {
     for target in graph.targets(node) {
         if is_active(states, *target) {
@@ -114,63 +265,25 @@ pub(crate) fn includes_active(graph: &Graph, states: &[State], node: u32) -> boo
     false
 }
 
-/// Adds a found node to those that are held up, if it includes one that holds it up.
-fn add_held_up(graph: &Graph, states: &[State], found: &NodeSet, node: u32, held: &mut NodeSet)
-    requires count { graph.now.nodes ≡ length states.now }
-    requires below { found.now.below ≡ length states.now }
-    requires below_held { held.old.below ≡ length states.now }
-    requires node { node < length states.now }
-    ensures grown { IsGrown (IsHeldUp graph.now.edges states.now found.now.nodes)
-        held.old held.new }
-    ensures there { IsHeldUp graph.now.edges states.now found.now.nodes node →
-        Contains held.new.nodes node }
-{
-    if is_held_up(graph, states, found, node) {
-        held.add(node);
-    }
-}
-
-/// Adds the found nodes that include one that holds them up.
-fn add_all_held_up(graph: &Graph, states: &[State], found: &NodeSet, held: &mut NodeSet)
-    requires count { graph.now.nodes ≡ length states.now }
-    requires below { found.now.below ≡ length states.now }
-    requires below_held { held.old.below ≡ length states.now }
-    ensures grown { IsGrown (IsHeldUp graph.now.edges states.now found.now.nodes)
-        held.old held.new }
-    ensures there { (node : ℕ) → Contains found.now.nodes node →
-        IsHeldUp graph.now.edges states.now found.now.nodes node → Contains held.new.nodes node }
-{
-    for node in found.as_slice() {
-        add_held_up(graph, states, found, *node, held);
-    }
-}
-
-/// Finds the nodes that may become final with one that begins, and those of them that are held up.
-/// Both sets are empty before.
-pub(crate) fn find_held(
+/// Whether a node that begins is seen to reach an active one at once, so that nothing becomes final
+/// with it.
+pub(crate) fn begins_waiting(
     graph: &Graph,
     states: &[State],
+    watches: &mut Vec<Watch>,
     node: u32,
-    found: &mut NodeSet,
-    held: &mut NodeSet,
-)
+) -> bool
     requires count { graph.now.nodes ≡ length states.now }
-    requires node { IsIn State.Finalizing states.now node }
-    requires below { found.old.below ≡ length states.now }
-    requires below_held { held.old.below ≡ length states.now }
-    requires none { found.old.nodes ≡ [] }
-    requires none_held { held.old.nodes ≡ [] }
-    ensures found { AreFound graph.now.edges states.now node found.new.nodes }
-    ensures held { AreHeld graph.now.edges states.now found.new.nodes held.new.nodes }
-    ensures below { found.new.below ≡ found.old.below }
-    ensures below_held { held.new.below ≡ held.old.below }
-    ensures spare { found.old.spare ≤ found.new.spare }
-    ensures spare_held { held.old.spare ≤ held.new.spare }
+    requires node { node < length states.now }
+    requires watched { AreWatched graph.now.edges states.now watches.old.items }
+    ensures watched { AreWatched graph.now.edges states.now watches.new.items }
+    ensures capacity { vec_capacity watches.new ≡ vec_capacity watches.old }
+    ensures reaches { IsTrue result → ReachesActive graph.now.edges states.now node }
 {
-    found.add(node);
-    close(graph, states, found);
-    add_all_held_up(graph, states, found, held);
-    close(graph, states, held);
+    if waits(graph, states, watches, node) {
+        return true;
+    }
+    includes_active(graph, states, node)
 }
 
 /// Makes a node final and lists it, unless it is held up.

@@ -4,8 +4,10 @@ ghost use Rattle.inclusion_graph.specs.Edges.{edges_from};
 ghost use Rattle.inclusion_graph.specs.Plans.{Fits, IsEdgeFault, IsElsewhere, new_targets};
 ghost use Rattle.finaliser.specs.Settling.{IsIn, IsSettled, ReachesActive, Settles};
 
-use crate::candidates::{find_held, includes_active, settle_free};
+use crate::aims::aim_at;
+use crate::candidates::{begins_waiting, find, hold, settle_free};
 use crate::node_set::NodeSet;
+use crate::watches::Watch;
 use inclusion_graph::{EdgeFault, EdgePlan, Graph};
 use names_realms::State;
 use std::alloc::{AllocError, Global};
@@ -19,12 +21,15 @@ pub struct Finaliser {
     found: NodeSet,
     held: NodeSet,
     finals: Vec<u32>,
+    watches: Vec<Watch>,
+    seen: NodeSet,
 }
 
 impl Model for Finaliser {
-    ghost use Rattle.std.specs.Prelude.{◌-◌, min, vec_len, vec_capacity};
+    ghost use Rattle.std.specs.Prelude.{◌≡◌, ◌-◌, min, length, vec_len, vec_capacity};
     ghost use Rattle.finaliser.specs.Settling.{FinaliserState};
     ghost use Rattle.finaliser.specs.Holding.{IsKept};
+    ghost use Rattle.finaliser.specs.Watching.{AreWatched};
 
     ghost Value = { FinaliserState };
 
@@ -32,12 +37,15 @@ impl Model for Finaliser {
       graph = f.graph;
       states = f.states.items;
       finals = f.finals.items;
-      spare = min (min f.graph.spare_nodes (vec_capacity f.states - vec_len f.states))
-          (min (min f.found.spare f.held.spare) (vec_capacity f.finals - vec_len f.states));
+      spare = min (min (min f.graph.spare_nodes (vec_capacity f.states - vec_len f.states))
+          (min (min f.found.spare f.held.spare) (vec_capacity f.finals - vec_len f.states)))
+          (min (vec_capacity f.watches - vec_len f.watches) f.seen.spare);
     } };
 
     ghost invariant = { λ f.
-        IsKept f.graph f.states.items f.found f.held f.finals.items (vec_capacity f.finals) };
+        IsKept f.graph f.states.items f.found f.held f.finals.items (vec_capacity f.finals)
+        × AreWatched f.graph.edges f.states.items f.watches.items
+        × (f.seen.below ≡ length f.states.items) };
 }
 
 impl Finaliser {
@@ -54,6 +62,8 @@ impl Finaliser {
             found: NodeSet::new(alloc),
             held: NodeSet::new(alloc),
             finals: Vec::new(alloc),
+            watches: Vec::new(alloc),
+            seen: NodeSet::new(alloc),
         })
     }
 
@@ -116,6 +126,8 @@ impl Finaliser {
         self.found.reserve()?;
         self.held.reserve()?;
         self.finals.reserve(self.states.len() + 1)?;
+        self.watches.reserve(1)?;
+        self.seen.reserve()?;
         Ok(())
     }
 
@@ -133,7 +145,10 @@ impl Finaliser {
         self.states.push_reserved(State::Active);
         self.found.add_node();
         self.held.add_node();
-        self.graph.add_node()
+        self.seen.add_node();
+        let aim = self.graph.add_node();
+        self.watches.push_reserved(Watch { passed: 0, aim });
+        aim
     }
 
     /// The edges from an active node to those of the targets to which it has none yet, as
@@ -192,15 +207,22 @@ impl Finaliser {
     {
         let place = node as usize;
         self.states[place] = State::Finalizing;
-        if includes_active(&self.graph, self.states.as_slice(), node) {
+        if begins_waiting(&self.graph, self.states.as_slice(), &mut self.watches, node) {
             self.states[place] = State::Active;
             return false;
         }
-        find_held(
+        find(
             &self.graph,
             self.states.as_slice(),
+            &mut self.watches,
             node,
             &mut self.found,
+        );
+        hold(
+            &self.graph,
+            self.states.as_slice(),
+            self.watches.as_slice(),
+            &self.found,
             &mut self.held,
         );
         self.states[place] = State::Active;
@@ -222,19 +244,57 @@ impl Finaliser {
         ensures spare { self.old.spare ≤ self.new.spare }
     {
         self.states[node as usize] = State::Finalizing;
-        if includes_active(&self.graph, self.states.as_slice(), node) {
+        if begins_waiting(&self.graph, self.states.as_slice(), &mut self.watches, node) {
             return;
         }
-        find_held(
+        find(
             &self.graph,
             self.states.as_slice(),
+            &mut self.watches,
             node,
             &mut self.found,
+        );
+        hold(
+            &self.graph,
+            self.states.as_slice(),
+            self.watches.as_slice(),
+            &self.found,
             &mut self.held,
         );
         self.found.sort();
         settle_free(&self.found, &self.held, &mut self.states, &mut self.finals);
         self.found.clear();
         self.held.clear();
+    }
+
+    /// Notes of a node, and of all nodes that reach it along nodes that aren't final, that they
+    /// reach it, but for those that were noted since the notes were cleared. What is retired later
+    /// goes back no further than to nodes that are noted to reach an active one: where all active
+    /// nodes are noted, the last to be retired first, each node is gone to once. It takes no
+    /// memory, and changes nothing.
+    pub fn note(&mut self, node: u32)
+        requires { node < length self.old.states }
+        ensures graph { self.new.graph ≡ self.old.graph }
+        ensures states { self.new.states ≡ self.old.states }
+        ensures finals { self.new.finals ≡ self.old.finals }
+        ensures spare { self.old.spare ≤ self.new.spare }
+    {
+        aim_at(
+            &self.graph,
+            self.states.as_slice(),
+            node,
+            &mut self.watches,
+            &mut self.seen,
+        );
+    }
+
+    /// Clears the notes: all nodes may be noted anew. It takes no memory, and changes nothing.
+    pub fn clear_notes(&mut self)
+        ensures graph { self.new.graph ≡ self.old.graph }
+        ensures states { self.new.states ≡ self.old.states }
+        ensures finals { self.new.finals ≡ self.old.finals }
+        ensures spare { self.old.spare ≤ self.new.spare }
+    {
+        self.seen.clear();
     }
 }

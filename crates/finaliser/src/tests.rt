@@ -157,14 +157,32 @@ fn turns_alike(
     )
 }
 
-/// Whether all turns of a row are as it says.
-fn row_holds(alloc: Global, edges: &[(u32, u32)], turns: Turns) -> Result<bool, AllocError> {
+/// Notes of all nodes what they reach, those behind others first.
+fn note_all(finaliser: &mut Finaliser) {
+    for node in (0..finaliser.graph().nodes()).rev() {
+        if node < finaliser.graph().nodes() {
+            finaliser.note(node);
+        }
+    }
+    finaliser.clear_notes();
+}
+
+/// Whether all turns of a row are as it says, with notes or without.
+fn row_holds(
+    alloc: Global,
+    edges: &[(u32, u32)],
+    turns: Turns,
+    noted: bool,
+) -> Result<bool, AllocError> {
     let mut finaliser = finaliser_of(alloc, 5)?;
     let mut states = vec![in alloc; State::Active; 5]?;
     for (from, target) in edges {
         if !include(alloc, &mut finaliser, *from, *target) {
             return Ok(false);
         }
+    }
+    if noted {
+        note_all(&mut finaliser);
     }
     for (node, finals) in turns {
         if !turns_alike(alloc, &mut finaliser, &mut states, *node, finals)? {
@@ -182,7 +200,9 @@ fn row_holds(alloc: Global, edges: &[(u32, u32)], turns: Turns) -> Result<bool, 
 fn what_reaches_no_active_node_is_final(rt: HostRuntime) -> Result<(), Fail> {
     let alloc = rt.alloc();
     for (edges, turns) in ROWS {
-        assert!(rt; row_holds(alloc, edges, turns)?, "{}", edges.len());
+        for noted in [false, true] {
+            assert!(rt; row_holds(alloc, edges, turns, noted)?, "{}", edges.len());
+        }
     }
     Ok(())
 }

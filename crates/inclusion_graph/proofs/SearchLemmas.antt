@@ -1,9 +1,11 @@
 -- A search, step by step.
-use Rattle.std.proofs.Common.{◌≡◌, ◌↔◌, ◌<◌, ◌≤◌, ◌+◌, ℕ, zero, suc, Bool, true, false, List, [], ◌∷◌, ◌++◌, length, get_or, set, replicate, Contains, Option, Some, None, MatchOption, cond, option_map, refl, sym, ap, ◌∙◌, subst, inl, inr, arith, append_assoc}
-use Rattle.std.specs.List.{slice_get, All}
+use Rattle.std.proofs.Common.{◌≡◌, ◌↔◌, ◌<◌, ◌≤◌, ◌+◌, ℕ, zero, suc, nat_eq, Bool, true, false, List, [], ◌∷◌, ◌++◌, length, get_or, set, replicate, Contains, Option, Some, None, MatchOption, cond, option_map, refl, sym, ap, ◌∙◌, subst, inl, inr, arith, append_assoc}
+use Rattle.std.specs.List.{slice_get, All, IsDistinct}
 use Rattle.std.proofs.lemmas.Bool.{cases_lt}
 use Rattle.std.proofs.lemmas.List.{length-set, length-replicate, get_or-replicate, get_or_append_left, get_or_push, length_push, map_push, map-append, append-nil, length-map}
 use Rattle.std.proofs.lemmas.List.Elements.{All-nil, All-map, All-push, All-append, All-contains, All-weaker, Contains-append_left, Contains-append_right, Contains-append_cases, Contains-push}
+use Rattle.std.proofs.lemmas.Cmp.{nat_eq_equiv}
+use Rattle.std.proofs.lemmas.Map.Keys.{IsDistinct-push}
 use Rattle.std.proofs.lemmas.Option.{same_Some, slice_get-map, slice_get_read, slice_get_within}
 use Rattle.inclusion_graph.specs.declared.edge.Edge.{Edge}
 use Rattle.inclusion_graph.specs.declared.search.Step.{Step}
@@ -26,10 +28,12 @@ unmarked_all zero = refl
 unmarked_all (suc n) = ap suc (unmarked_all n)
 
 pub marked_none : (n : ℕ) → IsMarked (replicate n false) []
+unfolding IsDistinct
 marked_none n = record {
   says = λ m within. get_or-replicate n m false false (omega (arith, length-replicate n false));
   within = All-nil (λ (step : Step). step.node < length (replicate n false));
   count = let all = unmarked_all n in omega (arith, length-replicate n false);
+  distinct = tt;
 }
 
 pub marked_more : (marks : List Bool) (steps : List Step) (step : Step) → IsMarked marks steps → step.node < length marks
@@ -42,6 +46,8 @@ marked_more marks steps step h within e =
       within = subst (λ n. All (λ (s : Step). s.node < n) (steps ++ step ∷ [])) (sym same)
           (All-push (λ (s : Step). s.node < length marks) steps step h.within within);
       count = omega (arith, h.count, same, unmarked_set marks step.node within e, length_push steps step);
+      distinct = subst (IsDistinct nat_eq) (sym (map_push (λ (s : Step). s.node) steps step))
+          (IsDistinct-push nat_eq_equiv (nodes_of steps) step.node h.distinct (sym (h.says step.node within) ∙ e));
     }
 
 pub grown_new : (steps : List Step) (step : Step) → IsGrown (step.node ∷ []) step.back steps (steps ++ step ∷ [])

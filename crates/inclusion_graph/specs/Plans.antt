@@ -27,7 +27,8 @@ abbrev pub IsElsewhere : ℕ → List ℕ → Type 0
 IsElsewhere from targets = All (λ target. target ≢ from) targets
 
 -- The target at that place is the node itself, and none before it is; or none is, and the edges
--- would be more than 262,144, with this many there; or none is, and there is no memory.
+-- would be more than 262,144, with this many there; or none is, there would be no more, and there
+-- is no memory.
 abbrev pub IsEdgeFault : GraphState → ℕ → List ℕ → EdgeFault → Type 0
 IsEdgeFault graph from targets (Itself at) =
     (slice_get targets at ≡ Some from) × IsElsewhere from (take at targets)
@@ -35,4 +36,6 @@ IsEdgeFault graph from targets (Full count) =
     IsElsewhere from targets
     × (262_144 < length graph.edges + length (new_targets graph from targets))
     × (count ≡ length graph.edges)
-IsEdgeFault graph from targets Memory = IsElsewhere from targets
+IsEdgeFault graph from targets Memory =
+    IsElsewhere from targets
+    × (length graph.edges + length (new_targets graph from targets) ≤ 262_144)

@@ -1,6 +1,6 @@
 -- The code's own words for a search, which goes from node to node.
-use Rattle.std.specs.Prelude.{◌≡◌, ℕ, suc, ◌+◌, ◌<◌, ◌≤◌, ◌⊎◌, Bool, true, false, List, [], ◌∷◌, ◌++◌, Option, Some, MatchOption, length, map, slice_get, slice_index_or, Contains, Vec, ◌↔◌}
-use Rattle.std.specs.List.{All}
+use Rattle.std.specs.Prelude.{◌≡◌, ℕ, suc, ◌+◌, ◌<◌, ◌≤◌, ◌⊎◌, Bool, true, false, List, [], ◌∷◌, ◌++◌, Option, Some, MatchOption, length, map, slice_get, slice_index_or, Contains, Vec, ◌↔◌, nat_eq}
+use Rattle.std.specs.List.{All, IsDistinct}
 use Rattle.std.specs.List.Sorted.{IsStrictlyIncreasing}
 use Rattle.std.specs.declared.alloc.Global.{Global}
 use Rattle.inclusion_graph.specs.declared.edge.Edge.{Edge}
@@ -34,6 +34,7 @@ pub record IsMarked (marks : List Bool) (steps : List Step) : Type 0 where
       → slice_index_or marks node false ≡ has (nodes_of steps) node
   pub within : All (λ step. step.node < length marks) steps
   pub count : length steps + unmarked marks ≡ length marks
+  pub distinct : IsDistinct nat_eq (nodes_of steps)
 
 -- behind the steps stand some more, each to one of these targets
 pub record IsGrown (targets : List ℕ) (back : Option ℕ) (old new : List Step) : Type 0 where

@@ -9,7 +9,7 @@ ghost use Rattle.inclusion_graph.specs.Walks.{IsReached, Leads, Reaches};
 
 use crate::edge::Edge;
 use crate::edge_list::EdgeList;
-use crate::fresh::append_new;
+use crate::fresh::{append_new, count_new};
 use crate::plan::{EdgeFault, EdgePlan, place_of};
 use crate::search::Search;
 use std::alloc::{AllocError, Global};
@@ -176,8 +176,9 @@ impl Graph {
         }
         let held = self.targets(from);
         let count = held.len();
-        let mut all = Vec::with_capacity(alloc, count + targets.len())?;
-        all.extend_from_slice(held)?;
+        let Ok(mut all) = copy_of(alloc, held, targets) else {
+            return Err(self.fault_without_memory(from, targets));
+        };
         append_new(&self.edges, from, targets, &mut self.marks, &mut all);
         if all.len() - count > MOST_EDGES - self.edges.len() {
             return Err(EdgeFault::Full {
@@ -190,6 +191,29 @@ impl Graph {
             held: count,
             all,
         })
+    }
+
+    /// Why no edges can be added, where there is no memory for them: there would be too many edges,
+    /// or else the want of memory itself.
+    fn fault_without_memory(&mut self, from: u32, targets: &[u32]) -> EdgeFault
+        requires from { from < self.old.nodes }
+        requires targets { All (λ target. target < self.old.nodes) targets.now }
+        requires elsewhere { IsElsewhere from targets.now }
+        ensures nodes { self.new.nodes ≡ self.old.nodes }
+        ensures edges { self.new.edges ≡ self.old.edges }
+        ensures spare_nodes { self.old.spare_nodes ≤ self.new.spare_nodes }
+        ensures spare_edges { self.old.spare_edges ≤ self.new.spare_edges }
+        ensures fault { IsEdgeFault self.old from targets.now result }
+    {
+        let held = self.targets[from as usize].as_slice();
+        let new = count_new(held, targets, &mut self.marks);
+        let count = self.edges.len();
+        if new > MOST_EDGES - count {
+            return EdgeFault::Full {
+                count: count as u32,
+            };
+        }
+        EdgeFault::Memory
     }
 
     /// Adds edges that were prepared. It takes no memory.
@@ -273,6 +297,16 @@ impl Graph {
         let nodes = search.found(alloc)?;
         Ok(nodes)
     }
+}
+
+/// A copy of a list, with room for as many more as there are others.
+fn copy_of(alloc: Global, list: &[u32], others: &[u32]) -> Result<Vec<u32>, AllocError>
+    ensures items { IfOk result (λ copy. copy.items ≡ list.now) }
+    ensures room { IfOk result (λ copy. vec_len copy + length others.now ≤ vec_capacity copy) }
+{
+    let mut copy = Vec::with_capacity(alloc, list.len() + others.len())?;
+    copy.extend_from_slice(list)?;
+    Ok(copy)
 }
 
 /// Appends edges from a node to each of these, for which there is room.

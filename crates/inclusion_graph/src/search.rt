@@ -12,6 +12,9 @@ pub(crate) struct Step {
     pub(crate) back: Option<usize>,
 }
 
+/// The nodes are many where they are more than this part of all.
+const MANY: usize = 16;
+
 /// The nodes that were found so far.
 #[derive(Drop)]
 pub(crate) struct Search {
@@ -76,8 +79,34 @@ impl Search {
         None
     }
 
-    /// The nodes that were found, ascending.
+    /// The nodes that were found, ascending: sorted, or by the marks where they are many.
     pub(crate) fn found(&self, alloc: Global) -> Result<Vec<u32>, AllocError>
+        requires few { length self.now.marks.items ≤ 4_294_967_295 }
+        requires marked { IsMarked self.now.marks.items self.now.steps.items }
+        ensures rising { IfOk result (λ nodes. IsStrictlyIncreasing nodes.items) }
+        ensures all { IfOk result (λ nodes. (node : ℕ) →
+            Contains nodes.items node ↔ Contains (nodes_of self.now.steps.items) node) }
+    {
+        if self.steps.len() < self.marks.len() / MANY {
+            return self.found_by_steps(alloc);
+        }
+        self.found_by_marks(alloc)
+    }
+
+    /// The nodes that were found, ascending, by sorting them.
+    fn found_by_steps(&self, alloc: Global) -> Result<Vec<u32>, AllocError>
+        requires marked { IsMarked self.now.marks.items self.now.steps.items }
+        ensures rising { IfOk result (λ nodes. IsStrictlyIncreasing nodes.items) }
+        ensures all { IfOk result (λ nodes. (node : ℕ) →
+            Contains nodes.items node ↔ Contains (nodes_of self.now.steps.items) node) }
+    {
+        let mut nodes = nodes_of(alloc, self.steps.as_slice())?;
+        nodes.sort_unstable();
+        Ok(nodes)
+    }
+
+    /// The nodes that were found, ascending, by going over all marks.
+    fn found_by_marks(&self, alloc: Global) -> Result<Vec<u32>, AllocError>
         requires few { length self.now.marks.items ≤ 4_294_967_295 }
         requires marked { IsMarked self.now.marks.items self.now.steps.items }
         ensures rising { IfOk result (λ nodes. IsStrictlyIncreasing nodes.items) }
@@ -90,6 +119,17 @@ impl Search {
         }
         Ok(nodes)
     }
+}
+
+/// The nodes of some steps.
+fn nodes_of(alloc: Global, steps: &[Step]) -> Result<Vec<u32>, AllocError>
+    ensures { IfOk result (λ nodes. nodes.items ≡ nodes_of steps.now) }
+{
+    let mut nodes = Vec::with_capacity(alloc, steps.len())?;
+    for step in steps {
+        nodes.push(step.node)?;
+    }
+    Ok(nodes)
 }
 
 /// Appends a number where this is so.

@@ -9,7 +9,7 @@ use std::test::Fail;
 /// A call that adds edges from a node to targets, and how many it adds, or why it adds none.
 type Call = (u32, &'static [u32], Result<usize, EdgeFault>);
 
-/// Calls to a graph of eight nodes, in turn.
+/// Calls to a graph of 64 nodes, in turn.
 const CALLS: [Call; 9] = [
     (0, &[1, 2, 1], Ok(2)),
     (1, &[2, 0], Ok(2)),
@@ -50,8 +50,8 @@ const MORE: [Call; 3] = [
 ];
 
 /// Inclusions that are asked for in turn, and how many of them are new. At some the node has more
-/// targets than the target has sources, at others fewer.
-const ASKED: [(u32, &[u32], usize); 11] = [
+/// targets than the target has sources, at others fewer. Some are few, some more.
+const ASKED: [(u32, &[u32], usize); 13] = [
     (0, &[1, 2, 1], 2),
     (0, &[2, 4, 1, 4], 1),
     (0, &[1], 0),
@@ -63,6 +63,8 @@ const ASKED: [(u32, &[u32], usize); 11] = [
     (4, &[3, 2, 1, 0], 4),
     (4, &[0, 3, 0], 0),
     (2, &[], 0),
+    (1, &[4, 3, 4, 0, 3, 2, 0, 2, 4, 3], 2),
+    (1, &[4, 3, 4, 0, 3, 2, 0, 2, 4, 3], 0),
 ];
 
 /// A graph of so many nodes.
@@ -257,9 +259,9 @@ fn are_found(alloc: Global, graph: &Graph) -> Result<bool, AllocError> {
 #[test]
 fn walks_and_reach(rt: HostRuntime) -> Result<(), Fail> {
     let alloc = rt.alloc();
-    let mut graph = graph_of(alloc, 8)?;
+    let mut graph = graph_of(alloc, 64)?;
     assert!(rt; are_answered(alloc, &mut graph, &CALLS));
-    assert!(rt; graph.nodes() == 8 && has_targets(&graph, 0, &[1, 2, 4]));
+    assert!(rt; graph.nodes() == 64 && has_targets(&graph, 0, &[1, 2, 4]));
     assert!(rt; is_target(&graph, 0, 2, Some(4)) && is_target(&graph, 0, 3, None));
     for row in &REACHED {
         assert!(rt; is_reached(alloc, &graph, row.0, row.1)?);

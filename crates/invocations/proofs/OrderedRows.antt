@@ -1,5 +1,5 @@
 -- The orders of the two indexes, and the indexes after a change of the rows.
-use Rattle.std.proofs.Common.{◌≡◌, ◌≢◌, ◌⊎◌, ◌<◌, ◌≤◌, ◌<ℤ◌, ◌≤ℤ◌, ◌+◌, ℕ, zero, suc, ℤ, List, [], ◌∷◌, ◌++◌, length, get_or, set, Contains, Option, Some, None, Ordering, Less, Equal, Greater, refl, sym, ap, ◌∙◌, subst, inl, inr, arith}
+use Rattle.std.proofs.Common.{◌≡◌, ◌≢◌, ◌⊎◌, ◌<◌, ◌≤◌, ◌<ℤ◌, ◌≤ℤ◌, ◌+◌, ℕ, zero, suc, ℤ, List, [], ◌∷◌, ◌++◌, length, get_or, set, Contains, Option, Some, None, IfSome, Ordering, Less, Equal, Greater, refl, sym, ap, ◌∙◌, subst, inl, inr, arith}
 use Rattle.std.specs.Cmp.{IsTotalOrder}
 use Rattle.std.specs.Cmp.Lexicographic.{slice_cmp, bytes_decides, nat_list_cmp_total}
 use Rattle.std.specs.List.{All, AllByRecursion, slice_get, insert}
@@ -18,9 +18,10 @@ use Rattle.names_realms.specs.declared.states.State.TheVariants.{Active, Finaliz
 use Rattle.invocations.specs.declared.due.Due.{Due}
 use Rattle.invocations.specs.declared.invocation.Invocation.{Invocation}
 use Rattle.invocations.specs.Due.{IsDue, IsNextDue}
-use Rattle.invocations.specs.Orders.{IsRising, HasOneMore, HasOneFewer, IsIdIndex, IsDueIndex, id_order, places_order, due_order, deadline_in, deadlines_of}
+use Rattle.invocations.specs.Rows.{IsInState}
+use Rattle.invocations.specs.Orders.{IsRising, HasOneMore, HasOneFewer, IsIdIndex, IsDueIndex, IsInTurn, id_order, places_order, due_order, deadline_in, deadlines_of, place_at, place_in}
 use Rattle.invocations.proofs.OrderLemmas.{rising_insert, one_more_insert, none_equal, first_least}
-use Rattle.invocations.proofs.RowLemmas.{at_place, at_front, at_end}
+use Rattle.invocations.proofs.RowLemmas.{at_place, at_front, at_end, contained}
 
 -- the first of the entries
 pub first_is : (entries : List Due) (due : Due) → 0 < length entries → due ≡ get_or entries 0 due → slice_get entries 0 ≡ Some due
@@ -231,6 +232,26 @@ none_active rows moment [] index e k d within due =
     let held = (index.all (record { deadline = (get_or rows k d).deadline; place = k })).1 (deadline_at rows k d within due.0) in
     omega (arith, held.1)
 none_active rows moment (x ∷ xs) index e k d within due = let no : Some x ≡ None = e in cc
+
+active_row : (rows : List Invocation) (p : ℕ) (row : Invocation) → slice_get rows p ≡ Some row → row.state ≡ Active → IsInState Active rows p
+active_row [] p row e is = let no : None ≡ Some row = e in cc
+active_row (x ∷ xs) zero row e is = ap (λ s. Some s) (ap (λ (r : Invocation). r.state) (same_Some x row e) ∙ is)
+active_row (x ∷ xs) (suc p) row e is = active_row xs p row e is
+
+turn_active : (rows : List Invocation) (entries : List Due) (turn : ℕ) (at : Option Due) (found : Option ℕ) → IsDueIndex (deadlines_of rows) entries
+    → slice_get entries turn ≡ at → found ≡ place_in at → IfSome found (IsInState Active rows)
+turn_active rows entries turn None found index e is = subst (λ o. IfSome o (IsInState Active rows)) (sym is) tt
+turn_active rows entries turn (Some due) found index e is =
+    let row = row_of rows due.place due.deadline ((index.all due).0 (contained entries turn due e)) in
+    subst (λ o. IfSome o (IsInState Active rows)) (sym is) (active_row rows due.place row.0 row.1 row.2)
+
+-- the row at a place of the order is active
+pub active_in_turn : (rows : List Invocation) (turn : ℕ) (found : Option ℕ) → IsInTurn rows turn found → IfSome found (IsInState Active rows)
+active_in_turn rows turn found h = turn_active rows h.0 turn (slice_get h.0 turn) found h.1 refl h.2
+
+pub turn_is : (rows : List Invocation) (entries : List Due) (turn : ℕ) (found : Option ℕ) → IsDueIndex (deadlines_of rows) entries
+    → found ≡ place_at entries turn → IsInTurn rows turn found
+turn_is rows entries turn found index e = (entries, index, e)
 
 pub due_none : IsDueIndex [] []
 due_none = record {

@@ -71,6 +71,20 @@ pub record IsDueIndex (deadlines : List (Option ℤ)) (entries : List Due) : Typ
       → Contains entries due ↔ (slice_get deadlines due.place ≡ Some (Some due.deadline))
   pub few : length entries ≤ length deadlines
 
+-- the place of the row whose deadline stands at a place in the order
+abbrev pub place_in : Option Due → Option ℕ
+place_in None = None
+place_in (Some due) = Some due.place
+
+abbrev pub place_at : List Due → ℕ → Option ℕ
+place_at entries place = place_in (slice_get entries place)
+
+-- the place of the active row before which so many are due, where all deadlines are put in order,
+-- those that are equal in the order of the rows
+abbrev pub IsInTurn : List Invocation → ℕ → Option ℕ → Type 0
+IsInTurn rows turn found =
+    (entries : List Due) × IsDueIndex (deadlines_of rows) entries × (found ≡ place_at entries turn)
+
 -- rows with both indexes
 pub record IsIndexed (rows : List Invocation) (places : List ℕ) (entries : List Due) : Type 0 where
   pub table : IsTable rows

@@ -2,7 +2,7 @@
 ghost use Rattle.std.specs.Prelude.{◌≡◌, ◌≤◌, ◌<◌, ◌+◌, ◌≤ℤ◌, ◌<ℤ◌, ◌⊎◌, ◌++◌, ◌∷◌, [], List, OnOk, Contains, length};
 ghost use Rattle.std.specs.VecDeque.{deque_len, deque_capacity};
 ghost use Rattle.invocations.specs.Due.{IsNextPlace};
-ghost use Rattle.invocations.specs.Orders.{HasOneFewer, HasOneMore, HasReplaced, IsDueIndex, IsRising, IsSlot, deadline_in, deadlines_of, due_order};
+ghost use Rattle.invocations.specs.Orders.{HasOneFewer, HasOneMore, HasReplaced, IsDueIndex, IsRising, IsSlot, deadline_in, deadlines_of, due_order, place_at};
 ghost use Rattle.invocations.specs.declared.invocation.Invocation.{Invocation};
 
 use crate::invocation::Invocation;
@@ -127,6 +127,17 @@ impl DueIndex {
     {
         self.remove(due);
         self.add(to);
+    }
+
+    /// The place of the row whose deadline stands at a place in the order, counted from 0, or none
+    /// where so few do.
+    pub(crate) fn at(&self, place: u32) -> Option<u32>
+        ensures { result ≡ place_at self.now.entries.items place }
+    {
+        match self.entries.get(place as usize) {
+            Some(due) => Some(due.place),
+            None => None,
+        }
     }
 
     /// The place of the first deadline, where it is this moment or earlier.

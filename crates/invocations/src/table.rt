@@ -1,6 +1,7 @@
 //! The table of invocations.
-ghost use Rattle.std.specs.Prelude.{◌≡◌, ◌≤◌, ◌<◌, ◌+◌, ◌++◌, ◌∷◌, [], Some, IfOk, IfErr, OnOk, MatchOption, length, slice_get};
+ghost use Rattle.std.specs.Prelude.{◌≡◌, ◌≤◌, ◌<◌, ◌+◌, ◌++◌, ◌∷◌, [], Some, IfOk, IfErr, IfSome, OnOk, MatchOption, length, slice_get};
 ghost use Rattle.invocations.specs.Due.{IsNextPlace};
+ghost use Rattle.invocations.specs.Orders.{IsInTurn};
 ghost use Rattle.invocations.specs.Faults.{CanAdd, IsAddFault};
 ghost use Rattle.invocations.specs.Rows.{HasId, IsInState, IsPlaceOf, IsTable, begun, ended, states_of, with_changed, with_deadline, with_tags};
 
@@ -104,6 +105,16 @@ impl Table {
         ensures { IsNextPlace self.now.rows moment result }
     {
         self.by_deadline.next(moment)
+    }
+
+    /// The place of the active row before which so many others are due: the rows go by deadline,
+    /// those of the same one in the order of creation. None where no more rows than these are
+    /// active.
+    pub fn in_turn(&self, turn: u32) -> Option<u32>
+        ensures turn { IsInTurn self.now.rows turn result }
+        ensures active { IfSome result (IsInState State.Active self.now.rows) }
+    {
+        self.by_deadline.at(turn)
     }
 
     /// Makes room for a row with this id. `Taken` where a row has the id, else `Full` where there

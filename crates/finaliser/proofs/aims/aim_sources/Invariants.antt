@@ -1,0 +1,16 @@
+use Rattle.std.proofs.Common.{◌≡◌, ◌≤◌, vec_capacity}
+use Rattle.finaliser.specs.Holding.{ArePassed, edges_left}
+use Rattle.finaliser.specs.Watching.{AreWatched}
+use Rattle.finaliser.proofs.aims.aim_sources.Given as goal
+
+abbrev pub invariant-sources : goal.invariant-sources
+invariant-sources l = record {
+  passed : ArePassed l.graph.edges (λ n. ⊥) (λ n. ⊥) l.node l.seen.nodes l.next;
+  watched : AreWatched l.graph.edges l.states l.watches.items;
+  below : l.seen.below ≡ l.initial.seen.below;
+  spare : l.initial.seen.spare ≤ l.seen.spare;
+  capacity : vec_capacity l.watches ≡ vec_capacity l.initial.watches;
+}
+
+abbrev pub decreases-sources : goal.decreases-sources
+decreases-sources l = edges_left l.graph.edges l.next
