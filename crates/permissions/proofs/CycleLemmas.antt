@@ -11,7 +11,6 @@ use Rattle.policy_tables.specs.declared.tables.RealmTable.{RealmTable}
 use Rattle.policy_tables.specs.declared.tables.PolicyTables.{PolicyTables}
 use Rattle.permissions.specs.Graph.{has, edges, IsWalkOn, ReachesOn, graph_of}
 use Rattle.policy_checks.specs.Checks.{realm_names}
-use Rattle.permissions.specs.Reach.{ReachesItself}
 use Rattle.permissions.specs.Order.{LeadsBack}
 use Rattle.permissions.specs.Cycle.{HasNoCycle, IsLeastCycle}
 use Rattle.permissions.specs.CycleSearch.{name_at, comes_first, IsStep, IsLeastPlace, IsLeastBefore, label_at, AreFalling, IsRuledOut}

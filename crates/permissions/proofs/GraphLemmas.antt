@@ -19,7 +19,7 @@ has_at q (x ∷ xs) e = elim (or_cases (x == q) (has q xs) e) [
 pub has_of : (xs : List ℕ) (i : ℕ) → i < length xs → has (get_or xs i 0) xs ≡ true
 has_of xs i below = list_any_at (λ p. p == get_or xs i 0) xs i 0 below (eq-eqb _ _ refl)
 
-walk-last : (graph : List (List ℕ)) (p : ℕ) (xs : List ℕ) (r q : ℕ) → IsWalkOn graph p xs r → has q (edges graph r) ≡ true → IsWalkOn graph p (xs ++ q ∷ []) q
+pub walk-last : (graph : List (List ℕ)) (p : ℕ) (xs : List ℕ) (r q : ℕ) → IsWalkOn graph p xs r → has q (edges graph r) ≡ true → IsWalkOn graph p (xs ++ q ∷ []) q
 walk-last graph p [] r q w e = (subst (λ (s : ℕ). has q (edges graph s) ≡ true) (sym w) e, refl)
 walk-last graph p (x ∷ xs) r q w e = (w.0, walk-last graph x xs r q w.1 e)
 

@@ -7,4 +7,7 @@ pub mod GraphLemmas
 pub mod ReachLemmas
 pub mod RootLemmas
 pub mod RowLemmas
+pub mod RankLemmas
+pub mod RightLemmas
+pub mod OrderFacts
 pub mod OrderLemmas

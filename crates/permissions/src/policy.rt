@@ -1,19 +1,19 @@
 //! The policy of a configuration.
 ghost use Rattle.std.specs.Prelude.{◌≡◌, ◌≢◌, ◌<◌, ◌≤◌, ◌↔◌, ◌==◌, true, take, Ok, None, [], length, map, IsTrue, IfOk, IfErr, IfSome, slice_index_or};
-ghost use Rattle.std.specs.List.{position};
 ghost use Rattle.hex.specs.Hex.{decode_of};
-ghost use Rattle.policy_checks.specs.Checks.{is_hex_text, user_names};
-ghost use Rattle.permissions.specs.Allows.{Allows, root_of};
+ghost use Rattle.policy_checks.specs.Checks.{is_hex_text, user_names, realm_names};
+ghost use Rattle.permissions.specs.Allows.{Allows};
 ghost use Rattle.permissions.specs.Cycle.{HasNoCycle};
-ghost use Rattle.names_realms.specs.Realms.{IsRealm, project_len};
 ghost use Rattle.permissions.specs.Faults.{IsFirstFault, IsTablesFault, IsPolicyOf, IsSound, text_fault};
 ghost use Rattle.policy_checks.specs.Index.{place_of, IsIndexOf};
 
 use crate::PolicyFault;
 use crate::caller::CallerId;
-use crate::hash::write_front;
+use crate::granted::Granted;
+use crate::ranked::Ask;
 use crate::reading::read_rights;
-use crate::rights::{Ask, Rights};
+use crate::rights::Rights;
+use crate::root::write_root;
 use crate::stages::{check_entries, check_size, check_texts, check_tokens, read_shaped, read_toml};
 use hex::FromHexError;
 use name_parts::Bytes;
@@ -157,37 +157,46 @@ impl Policy {
         let root = self.rights.binds(&room[..len], ask);
         own || root
     }
-}
 
-/// The first place of a colon.
-fn place_of_colon(text: &[u8]) -> Option<usize>
-    ensures place { result ≡ position (λ b. b == 58) text.now }
-    ensures within { IfSome result (λ place. place < length text.now) }
-{
-    text.iter().position(|b| *b == b':')
-}
-
-/// How long the project of a realm is.
-fn project_of(text: &[u8]) -> usize
-    ensures len { result ≡ project_len text.now }
-    ensures within { result ≤ length text.now }
-{
-    match place_of_colon(text) {
-        Some(place) => place,
-        None => text.len(),
+    /// In which realms the caller has the permission, for many asks: one pass over the realms, the
+    /// realms that they extend, and their bindings. `Err` where there is no memory, a byte and some
+    /// bits for each realm.
+    pub fn granted(
+        &self,
+        alloc: Global,
+        caller: CallerId,
+        permission: Permission,
+    ) -> Result<Granted<'_>, AllocError>
+        requires { caller < length self.now.users }
+        ensures policy { IfOk result (λ granted. granted.policy ≡ self.now) }
+        ensures caller { IfOk result (λ granted. granted.caller ≡ caller) }
+        ensures permission { IfOk result (λ granted. granted.permission ≡ permission) }
+    {
+        let ask = Ask {
+            user: caller.place(),
+            permission,
+        };
+        let bound = self.rights.bound_places(alloc, ask)?;
+        Ok(Granted {
+            policy: self,
+            caller,
+            permission,
+            bound,
+        })
     }
-}
 
-/// Writes the name of the `@root` of a realm's project, and says how long it is.
-fn write_root(room: &mut [u8], realm: &[u8]) -> usize
-    requires room { length room.old ≡ 106 }
-    requires realm { IsRealm realm.now }
-    ensures within { result ≤ 106 }
-    ensures len { length room.new ≡ 106 }
-    ensures root { take result room.new ≡ root_of realm.now }
-{
-    let len = project_of(realm);
-    write_front(room, &realm[..len]);
-    write_front(&mut room[len..], b":@root");
-    len + 6
+    /// The place of a realm.
+    pub(crate) fn realm(&self, name: &[u8]) -> Option<usize>
+        ensures { result ≡ place_of name.now (realm_names self.now) }
+    {
+        self.rights.book.realm(name)
+    }
+
+    /// The tables. They have no fault.
+    pub fn tables(&self) -> &PolicyTables
+        ensures value { result.now ≡ self.now }
+        ensures sound { IsSound self.now }
+    {
+        self.rights.book.tables()
+    }
 }

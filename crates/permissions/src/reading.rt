@@ -1,5 +1,5 @@
 //! What the tables grant, read from them.
-ghost use Rattle.std.specs.Prelude.{◌≡◌, ◌≢◌, None, ℕ, List, IfOk, IfErr, length};
+ghost use Rattle.std.specs.Prelude.{◌≡◌, ◌≢◌, ◌≤◌, None, ℕ, List, IfOk, IfErr, length};
 ghost use Rattle.permissions.specs.Cycle.{HasNoCycle, IsLeastCycle};
 ghost use Rattle.permissions.specs.Faults.{IsTablesFault, text_fault};
 ghost use Rattle.permissions.specs.Grants.{AreMembers, AreGrants};
@@ -10,6 +10,8 @@ use crate::PolicyFault;
 use crate::grants::{Grants, all_grants};
 use crate::members::{Members, all_members};
 use crate::order::order_of;
+use crate::ranked::Ranked;
+use crate::ranks::{Ranking, rank_places};
 use crate::realms::read_graph;
 use crate::rights::Rights;
 use crate::roles::role_masks;
@@ -36,14 +38,13 @@ fn checked_order(
     }
 }
 
-/// What each realm's own bindings grant, by the realms' places.
-fn own_grants(alloc: Global, book: &Book) -> Result<Vec<Grants>, AllocError>
+/// What the own bindings of the realms at these places grant.
+fn own_grants(alloc: Global, book: &Book, places: &[usize]) -> Result<Vec<Grants>, AllocError>
     ensures { IfOk result
-        (λ grants. AreGrants book.now book.now.realms (length book.now.realms) grants.items) }
+        (λ grants. AreGrants book.now places.now (length places.now) grants.items) }
 {
-    let tables = book.tables();
-    let masks = role_masks(alloc, tables.roles.as_slice())?;
-    all_grants(alloc, book, masks.as_slice(), tables.realms.as_slice())
+    let masks = role_masks(alloc, book.tables().roles.as_slice())?;
+    all_grants(alloc, book, masks.as_slice(), places)
 }
 
 /// The members of the groups, by the groups' places.
@@ -55,6 +56,37 @@ fn own_members(alloc: Global, book: &Book) -> Result<Vec<Members>, AllocError>
     all_members(alloc, book, tables.groups.as_slice())
 }
 
+/// What the tables grant, over an order of the realms.
+fn ranked_rights(
+    alloc: Global,
+    book: Book,
+    graph: &[Listed<usize>],
+    order: &[usize],
+) -> Result<Rights, AllocError>
+    requires graph { graph.now ≡ graph_of book }
+    requires order { IsOrder graph.now order.now }
+    requires few { length book.realms ≤ 65536 }
+    ensures { IfOk result (λ rights. rights ≡ book) }
+{
+    let ranking = rank_places(alloc, graph, order)?;
+    let grants = own_grants(alloc, &book, ranking.places.as_slice())?;
+    let members = own_members(alloc, &book)?;
+    let Ranking {
+        ranks,
+        places: _,
+        rows,
+    } = ranking;
+    Ok(Rights {
+        book,
+        ranks,
+        ranked: Ranked {
+            rows,
+            grants,
+            members,
+        },
+    })
+}
+
 /// What the tables grant, where no realm reaches itself.
 pub(crate) fn read_rights(alloc: Global, book: Book) -> Result<Rights, PolicyFault>
     requires { text_fault book ≡ None }
@@ -63,13 +95,5 @@ pub(crate) fn read_rights(alloc: Global, book: Book) -> Result<Rights, PolicyFau
 {
     let graph = read_graph(alloc, &book)?;
     let order = checked_order(alloc, &book, graph.as_slice())?;
-    let grants = own_grants(alloc, &book)?;
-    let members = own_members(alloc, &book)?;
-    Ok(Rights {
-        book,
-        graph,
-        order,
-        grants,
-        members,
-    })
+    Ok(ranked_rights(alloc, book, graph.as_slice(), order.as_slice())?)
 }

@@ -1,4 +1,4 @@
-use Rattle.std.proofs.Common.{rules, ◌≡◌, ℕ, true, leb, sym, ap, ◌∙◌, arith, List}
+use Rattle.std.proofs.Common.{rules, ◌≡◌, true, leb, arith}
 use Rattle.std.specs.List.{list_all}
 use Rattle.permissions.specs.Graph.{edges}
 use Rattle.permissions.specs.CycleSearch.{label_at}

@@ -1,6 +1,5 @@
-use Rattle.std.proofs.Common.{◌≡◌, None, Some, List, length, sym, ap, subst, ◌∙◌}
+use Rattle.std.proofs.Common.{◌≡◌, length, sym, ap, subst, ◌∙◌}
 use Rattle.std.proofs.lemmas.List.{length-map}
-use Rattle.policy_tables.specs.declared.tables.RealmTable.{RealmTable}
 use Rattle.permissions.specs.Graph.{IsGraph}
 use Rattle.permissions.specs.Cycle.{IsLeastCycle}
 use Rattle.permissions.specs.CycleSearch.{IsLeastBefore, name_at}

@@ -1,4 +1,4 @@
-use Rattle.std.proofs.Common.{◌≡◌, Bool, true, false, ltb, refl, sym, ap, subst, ◌∙◌, length, arith, rules}
+use Rattle.std.proofs.Common.{◌≡◌, true, false, ltb, sym, ◌∙◌, rules}
 use Rattle.std.specs.List.{list_all}
 use Rattle.permissions.specs.Graph.{edges, ReachesOn}
 use Rattle.permissions.specs.CycleSearch.{label_at, AreFalling}

@@ -1,6 +1,6 @@
 use Rattle.std.proofs.Common.{sym, subst}
 use Rattle.permissions.specs.Graph.{IsGraph}
-use Rattle.permissions.proofs.AskLemmas.{ordered_no_cycle}
+use Rattle.permissions.proofs.OrderFacts.{ordered_no_cycle}
 use Rattle.permissions.proofs.ReachLemmas.{graph-IsGraph}
 use Rattle.permissions.proofs.reading.checked_order.Goals as goal
 

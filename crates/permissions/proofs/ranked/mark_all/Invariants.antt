@@ -1,7 +1,7 @@
 use Rattle.std.proofs.Common.{◌≡◌, ◌<◌, ℕ, ◌||◌, length, take}
 use Rattle.permissions.specs.Graph.{has}
 use Rattle.permissions.specs.Rights.{is_marked}
-use Rattle.permissions.proofs.rights.mark_all.Given as goal
+use Rattle.permissions.proofs.ranked.mark_all.Given as goal
 
 abbrev pub invariant-loop-place : goal.invariant-loop-place
 invariant-loop-place l = record {

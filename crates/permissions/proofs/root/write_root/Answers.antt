@@ -2,7 +2,7 @@ use Rattle.std.proofs.Common.{◌≡◌, ◌≤◌, ℕ, ◌-◌, ◌++◌, leng
 use Rattle.std.proofs.lemmas.List.{length-take-le, length-drop}
 use Rattle.names_realms.specs.Realms.{project_len}
 use Rattle.permissions.proofs.RootLemmas.{project_most, written}
-use Rattle.permissions.proofs.policy.write_root.Goals as goal
+use Rattle.permissions.proofs.root.write_root.Goals as goal
 
 pub write_front-requires : goal.write_front-requires
 write_front-requires c =
