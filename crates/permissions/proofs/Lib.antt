@@ -1,6 +1,4 @@
-pub mod BitLemmas
 pub mod AskLemmas
-pub mod CycleLemmas
 pub mod FaultLemmas
 pub mod GrantLemmas
 pub mod GraphLemmas
@@ -9,5 +7,3 @@ pub mod RootLemmas
 pub mod RowLemmas
 pub mod RankLemmas
 pub mod RightLemmas
-pub mod OrderFacts
-pub mod OrderLemmas

@@ -1,11 +1,12 @@
 -- The realms by their ranks: walks over ranks are walks over places.
-use Rattle.std.proofs.Common.{◌≡◌, ℕ, zero, suc, ◌+◌, ◌<◌, ◌≤◌, true, false, cond, List, [], ◌∷◌, ◌++◌, length, map, set, Option, Some, None, refl, sym, ap, subst, ◌∙◌, inl, inr, arith, eq-eqb, length-append}
+use Rattle.std.proofs.Common.{◌≡◌, ℕ, zero, suc, ◌+◌, ◌<◌, ◌≤◌, true, false, cond, List, [], ◌∷◌, ◌++◌, length, map, set, Option, Some, None, refl, sym, ap, subst, ◌∙◌, inl, inr, arith, eq-eqb, length-append, take, append_assoc, append-nil, get_or}
 use Rattle.std.specs.Prelude.{◌==◌, is_some, unwrap_or, count_by}
 use Rattle.std.proofs.lemmas.Bool.{cases_eq, eqb-true, or_cases, or_left, or_right}
 use Rattle.std.proofs.lemmas.List.{get_or-set_same, get_or-set_other, get_or_append_left, length-set}
 use Rattle.std.proofs.lemmas.List.Sums.{count_by-le-length, sum_by-set}
 use Rattle.std.proofs.Math.Seq.{get_or-append_seam}
 use Rattle.permissions.specs.Graph.{has, edges, IsWalkOn}
+use Rattle.permissions.specs.Order.{IsLaid}
 use Rattle.permissions.specs.Ranks.{AreRanked, IsFalling, place_at, rank_at}
 
 -- numbers that a function maps
@@ -175,3 +176,10 @@ module _ (graph : List (List ℕ)) (ranks : List (Option ℕ)) (places : List �
   -- a rank is less than the number of places
   pub few_ranks : length places ≤ length graph
   few_ranks = omega (arith, h.count, h.len, count_by-le-length (λ r. is_some r) ranks)
+
+-- what a place of an order leads to stands before it
+pub laid_at : (graph : List (List ℕ)) (before order : List ℕ) (i q : ℕ) → IsLaid graph before order → i < length order → has q (edges graph (get_or order i 0)) ≡ true → has q (before ++ take i order) ≡ true
+laid_at graph before [] i q h within e = absurd (omega (arith, within))
+laid_at graph before (x ∷ xs) zero q h within e = subst (λ ys. has q ys ≡ true) (sym (append-nil before)) (h.0 q e)
+laid_at graph before (x ∷ xs) (suc i) q h within e =
+    subst (λ ys. has q ys ≡ true) (append_assoc before (x ∷ []) (take i xs)) (laid_at graph (before ++ x ∷ []) xs i q h.1 (omega (arith, within)) e)

@@ -1,10 +1,16 @@
 //! The `@root` of a realm's project.
-ghost use Rattle.std.specs.Prelude.{◌≡◌, ◌<◌, ◌≤◌, ◌==◌, take, length, IfSome};
+ghost use Rattle.std.specs.Prelude.{◌≡◌, ◌<◌, ◌≤◌, ◌==◌, ◌++◌, take, drop, length, IfSome};
 ghost use Rattle.std.specs.List.{position};
 ghost use Rattle.names_realms.specs.Realms.{IsRealm, project_len};
 ghost use Rattle.permissions.specs.Allows.{root_of};
 
-use crate::hash::write_front;
+/// Writes bytes over the front of a slice.
+fn write_front(room: &mut [u8], bytes: &[u8])
+    requires { length bytes.now ≤ length room.old }
+    ensures { room.new ≡ bytes.now ++ drop (length bytes.now) room.old }
+{
+    room[..bytes.len()].copy_from_slice(bytes);
+}
 
 /// The first place of a colon.
 fn place_of_colon(text: &[u8]) -> Option<usize>

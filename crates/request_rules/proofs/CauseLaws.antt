@@ -7,7 +7,7 @@ use Rattle.hex.specs.Hex.{decode_of}
 use Rattle.hex.specs.declared.error.FromHexError.{FromHexError}
 use Rattle.policy_tables.specs.declared.tables.PolicyTables.{PolicyTables}
 use Rattle.names_realms.specs.declared.states.State.TheVariants.{Active}
-use Rattle.permissions.specs.Hash.{token_text}
+use Rattle.update_tokens.specs.Hash.{token_text}
 use Rattle.invocations.specs.declared.invocation.Invocation.{Invocation}
 use Rattle.invocations.specs.Rows.{IsPlaceOf}
 use Rattle.call_forms.specs.declared.asked.Asked.{Asked}

@@ -6,7 +6,7 @@ use Rattle.invocations.specs.declared.invocation.Invocation.{Invocation}
 use Rattle.inclusion_graph.specs.declared.edge.Edge.{Edge}
 use Rattle.inclusion_graph.specs.Edges.{fresh, targets_of}
 use Rattle.names_realms.specs.Names.{invocation_name}
-use Rattle.permissions.specs.Hash.{token_text}
+use Rattle.update_tokens.specs.Hash.{token_text}
 use Rattle.call_forms.specs.declared.asked.Asked.{Asked}
 use Rattle.call_forms.specs.declared.forms.Refusal.{Refusal}
 use Rattle.message_forms.specs.declared.reading.FormFault.{FormFault}

@@ -5,7 +5,7 @@ use Rattle.names_realms.specs.Names.{invocation_name}
 use Rattle.names_realms.specs.declared.states.State.TheVariants.{Active}
 use Rattle.policy_checks.specs.Permissions.{permission_text}
 use Rattle.permissions.specs.Allows.{Allows}
-use Rattle.permissions.specs.Hash.{token_text}
+use Rattle.update_tokens.specs.Hash.{token_text}
 use Rattle.invocations.specs.declared.invocation.Invocation.{Invocation}
 use Rattle.invocations.specs.Rows.{HasId}
 use Rattle.call_forms.specs.declared.asked.Asked.{Asked}

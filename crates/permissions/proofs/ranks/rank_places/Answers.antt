@@ -1,6 +1,6 @@
 use Rattle.std.proofs.Common.{[], get_or}
 use Rattle.permissions.proofs.GraphLemmas.{has_of}
-use Rattle.permissions.proofs.OrderLemmas.{laid_at}
+use Rattle.permissions.proofs.RankLemmas.{laid_at}
 use Rattle.permissions.proofs.ranks.rank_places.Goals as goal
 
 pub add_place-requires-clause-within : goal.add_place-requires-clause-within
