@@ -1,6 +1,6 @@
 #!/usr/bin/env python3
-"""The worst configurations, at a quarter, a half and the whole of what the limits allow, and the seconds and megabytes
-that reading each takes.
+"""The worst configurations, at a quarter, a half and the whole of what the limits allow, and the seconds of processor
+time and the megabytes that reading each takes; and what it costs to ask them for the realms of many names.
 
     bench/policy.py PROGRAM
 
@@ -10,7 +10,6 @@ A configuration has at most 4 MiB and 65,536 entries: users, groups, roles, real
 import os
 import subprocess
 import sys
-import time
 
 MOST_BYTES = 4 * 1024 * 1024
 MOST_ENTRIES = 65_536
@@ -138,9 +137,58 @@ SHAPES = [
 ]
 
 
+def asked_chain(realms, lines):
+    """Realms of which each extends the one before, the first of which binds a user; and comments that ask."""
+    rows = "".join(realm(i, f'"p:{i - 1}"' if i else "", "" if i else '"user:u0"') for i in range(realms))
+    return SECRET + users(1) + ROLE + rows + lines
+
+
+def asked_groups(realms, lines):
+    """A user in as many groups as there are realms in a chain, each of them bound in one; and comments that ask."""
+    count = max(realms // 3, 1)
+    groups = "".join(f'[group.g{i}]\nmembers = ["u0"]\n' for i in range(count))
+    rows = "".join(realm(i, f'"p:{i - 1}"' if i else "", f'"group:g{i}"') for i in range(count))
+    return SECRET + users(1) + groups + ROLE + rows + lines
+
+
+def asked_apart(realms, lines):
+    """Realms that extend none, each of which binds the user; and comments that ask."""
+    count = max(realms // 2, 1)
+    return SECRET + users(1) + ROLE + "".join(realm(i, principals='"user:u0"') for i in range(count)) + lines
+
+
+def one_pass(realms, names, times):
+    """Lines that ask by one pass for so many names each."""
+    line = "# realms t0 " + " ".join(f"p:{k * 7919 % realms}" for k in range(names)) + "\n"
+    return line * times
+
+
+def one_by_one(realms, names, times):
+    """Lines that ask for a name each, for each of the twelve permissions."""
+    return "".join(f"# ask t0 p:{k * 7919 % realms}\n" for k in range(names)) * times
+
+
+def microseconds(program, shape, realms, lines, calls):
+    """What one of the calls of these lines takes beside the reading, and the megabytes of all."""
+    _, plain, _ = run(program, shape(realms, "").encode())
+    _, seconds, megabytes = run(program, shape(realms, lines).encode())
+    return max(seconds - plain, 0) * 1_000_000 / calls, megabytes
+
+
+def asks(program):
+    """What asks cost in the largest configuration, and in one of three realms."""
+    print(f"\n{'asked':<14} {'how':<22} {'largest us':>11} {'smallest us':>11} {'megabytes':>9}")
+    for shape in (asked_chain, asked_groups, asked_apart):
+        for how, make, names, times in (("a pass, 1 name", one_pass, 1, 100), ("a pass, 500 names", one_pass, 500, 100),
+                                        ("a pass, 20,000 names", one_pass, 20_000, 2), ("a single ask", one_by_one, 100, 1)):
+            calls = times if make is one_pass else 1200 * times
+            large, megabytes = microseconds(program, shape, 60_000, make(60_000, names, times), calls)
+            small, _ = microseconds(program, shape, 3, make(3, names, times), calls)
+            print(f"{shape.__name__:<14} {how:<22} {large:>11.1f} {small:>11.1f} {megabytes:>9.0f}", flush=True)
+
+
 def run(program, text):
-    """What the program prints, and the seconds and megabytes that it takes."""
-    begun = time.monotonic()
+    """What the program prints, and the seconds of processor time and the megabytes that it takes."""
     child = subprocess.Popen([program], stdin=subprocess.PIPE, stdout=subprocess.PIPE)
     try:
         child.stdin.write(text)
@@ -149,7 +197,7 @@ def run(program, text):
         pass
     answer = child.stdout.read().decode().strip()
     usage = os.wait4(child.pid, 0)[2]
-    return answer, time.monotonic() - begun, usage.ru_maxrss / 1024
+    return answer, usage.ru_utime + usage.ru_stime, usage.ru_maxrss / 1024
 
 
 def main():
@@ -161,9 +209,10 @@ def main():
         for share in (0.25, 0.5, 1):
             text = shape(share).encode()
             answer, seconds, megabytes = run(sys.argv[1], text)
-            print(f"{shape.__name__:<26} {share:>5} {len(text):>9} {answer:<12} {seconds:>8.2f} {megabytes:>9.0f}", flush=True)
+            print(f"{shape.__name__:<26} {share:>5} {len(text):>9} {answer[:12]:<12} {seconds:>8.2f} {megabytes:>9.0f}", flush=True)
             if len(text) > MOST_BYTES or seconds > 10 or megabytes > 512:
                 slow.append(f"{shape.__name__} at {share}")
+    asks(sys.argv[1])
     if slow:
         sys.exit("over 10 seconds, 512 megabytes or 4 MiB: " + ", ".join(slow))
 

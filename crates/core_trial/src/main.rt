@@ -13,6 +13,7 @@ ghost use Rattle.permissions.specs.Faults.{IsSound};
 
 use outside::StdIn;
 use permissions::{Policy, PolicyFault};
+use policy_reading::from_toml;
 use script::Line;
 use service_core::Core;
 use std::alloc::{AllocError, Global};
@@ -43,7 +44,7 @@ impl From<AllocError> for Stop {
 fn policy_of(alloc: Global, config: &str) -> Result<Policy, Stop>
     ensures { IfOk result IsSound }
 {
-    match Policy::from_toml(alloc, config.as_bytes()) {
+    match from_toml(alloc, config.as_bytes()) {
         Ok(policy) => Ok(policy),
         Err(PolicyFault::Memory) => Err(Stop::Memory),
         Err(_) => Err(Stop::NoScript),

@@ -5,7 +5,7 @@
 use call_forms::Asked;
 use lists::Bytes;
 use names_realms::{InvocationId, NameFault};
-use permissions::update_token;
+use update_tokens::update_token;
 use std::alloc::{AllocError, Global};
 
 /// 2023-11-14T22:13:20Z, in microseconds since 1970: second 0 of a script.

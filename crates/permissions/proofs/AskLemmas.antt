@@ -1,151 +1,172 @@
--- An ask goes over the realms in their order.
-use Rattle.std.proofs.Common.{◌≡◌, ℕ, zero, suc, ◌+◌, ◌-◌, ◌<◌, ◌≤◌, Bool, true, false, ◌||◌, List, [], ◌∷◌, ◌++◌, length, take, map, get_or, set, replicate, eq-eqb, refl, sym, ap, subst, ◌∙◌, inl, inr, arith, append_assoc, append-nil}
+-- An ask goes down over the ranks, and one for all goes up over them.
+use Rattle.std.proofs.Common.{◌≡◌, ℕ, zero, suc, ◌+◌, ◌<◌, Bool, true, false, ◌||◌, List, [], ◌∷◌, ◌++◌, length, set, replicate, eq-eqb, refl, sym, ap, subst, ◌∙◌, inl, inr, arith, length-append}
 use Rattle.std.specs.Prelude.{◌==◌, ◌⊎◌, ◌↔◌}
-use Rattle.std.proofs.lemmas.Bool.{cases_Bool, eqb-true, or_cases, or_left, or_right}
-use Rattle.std.proofs.lemmas.List.{length-map, take_more, take_all, get_or-set_same, get_or-set_other}
-use Rattle.policy_checks.specs.declared.permission.Permission.{Permission}
-use Rattle.policy_tables.specs.declared.tables.PolicyTables.{PolicyTables}
-use Rattle.permissions.specs.Cycle.{HasNoCycle}
-use Rattle.permissions.specs.Graph.{has, edges, IsGraph, IsWalkOn, ReachesOn, graph_of}
-use Rattle.permissions.specs.Grants.{bound_at, IsBoundFrom}
-use Rattle.permissions.specs.Order.{IsLaid, IsOrder}
-use Rattle.permissions.specs.Rights.{is_marked, IsLooked, AreRights}
-use Rattle.permissions.proofs.GraphLemmas.{has_of, reaches_on, reaches_at_once}
-use Rattle.permissions.proofs.OrderLemmas.{has_snoc, has_before, laid_at}
-use Rattle.permissions.proofs.ReachLemmas.{itself_over_places, graph-IsGraph, length-graph_of, last_edge}
+use Rattle.std.specs.List.{list_any}
+use Rattle.std.proofs.lemmas.Bool.{cases_Bool, cases_eq, eqb-true, or_cases, or_left, or_right}
+use Rattle.std.proofs.lemmas.List.{get_or-set_same, get_or-set_other, get_or_append_left}
+use Rattle.std.proofs.Math.Seq.{get_or-append_seam}
+use Rattle.permissions.specs.Graph.{has, edges, IsWalkOn}
+use Rattle.permissions.specs.Ranks.{IsFalling, IsBoundOn}
+use Rattle.permissions.specs.Rights.{is_marked, IsLooked}
+use Rattle.permissions.proofs.GraphLemmas.{walk-last}
 use Rattle.permissions.proofs.RowLemmas.{differ}
 
--- where an order stands, nothing is reached from itself
+-- a place that is marked is one of the marks
+marked_within : (marks : List Bool) (q : ℕ) → is_marked marks q ≡ true → q < length marks
+marked_within [] q e = let no : false ≡ true = e in absurd cc
+marked_within (m ∷ ms) zero e = omega arith
+marked_within (m ∷ ms) (suc q) e = omega (arith, marked_within ms q e)
 
-abbrev pub IsClosed : List (List ℕ) → List ℕ → Type 0
-IsClosed graph before = (p q : ℕ) → has p before ≡ true → has q (edges graph p) ≡ true → has q before ≡ true
+-- one rank more is looked at
 
-walk_before : (graph : List (List ℕ)) (before : List ℕ) → IsClosed graph before → (x : ℕ) (xs : List ℕ) (q : ℕ) → has x before ≡ true → IsWalkOn graph x xs q → has q before ≡ true
-walk_before graph before closed x [] q here w = subst (λ (y : ℕ). has y before ≡ true) w here
-walk_before graph before closed x (y ∷ ys) q here w = walk_before graph before closed y ys q (closed x y here w.0) w.1
-
-laid_no_cycle : (graph : List (List ℕ)) (before order : List ℕ) → IsClosed graph before → ((p : ℕ) → has p before ≡ true → ReachesOn graph p p → ⊥)
-    → IsLaid graph before order → (p : ℕ) → has p (before ++ order) ≡ true → ReachesOn graph p p → ⊥
-laid_no_cycle graph before [] closed none laid p e w = none p (subst (λ (xs : List ℕ). has p xs ≡ true) (append-nil before) e) w
-laid_no_cycle graph before (x ∷ xs) closed none laid p e w =
-    laid_no_cycle graph (before ++ x ∷ []) xs closed_more none_more laid.1 p (subst (λ (ys : List ℕ). has p ys ≡ true) (sym (append_assoc before (x ∷ []) xs)) e) w where
-      closed_more : IsClosed graph (before ++ x ∷ [])
-      closed_more p q e leads = elim (or_cases (has p before) (x == p) (sym (has_snoc p x before) ∙ e)) [
-        | inl old ↦ has_before q x before (closed p q old leads)
-        | inr is ↦ has_before q x before (laid.0 q (subst (λ (y : ℕ). has q (edges graph y) ≡ true) (sym (eqb-true x p is)) leads))
-      ]
-
-      none_more : (p : ℕ) → has p (before ++ x ∷ []) ≡ true → ReachesOn graph p p → ⊥
-      none_more p e w = elim (or_cases (has p before) (x == p) (sym (has_snoc p x before) ∙ e)) [
-        | inl old ↦ none p old w
-        | inr is ↦
-            let back : ReachesOn graph x x = subst (λ (y : ℕ). ReachesOn graph y y) (sym (eqb-true x p is)) w in
-            none x (walk_before graph before closed back.first back.others x (laid.0 back.first back.walk.0) back.walk.1) back
-      ]
-
-pub ordered_no_cycle : (t : PolicyTables) (graph : List (List ℕ)) (order : List ℕ) → graph ≡ graph_of t → IsOrder graph order → HasNoCycle t
-ordered_no_cycle t graph order is h = λ name w.
-    let (p, there, back) = itself_over_places t name w in
-    let here : ReachesOn graph p p = subst (λ (g : List (List ℕ)). ReachesOn g p p) (sym is) back in
-    let (r, e) = last_edge graph p here.first here.others p here.walk in
-    let within : p < length graph = subst IsGraph (sym is) (graph-IsGraph t) r p e in
-    laid_no_cycle graph [] order (λ x y no. cc) (λ x no. let f : false ≡ true = no in cc) h.laid p (h.all p within) here
-
--- one place more is looked at
-
-in_front : (q left : ℕ) (order : List ℕ) → left < length order → has q (take (left + 1) order) ≡ true → (has q (take left order) ≡ true) ⊎ (get_or order left 0 ≡ q)
-in_front q left order within e =
-    let split : has q (take (left + 1) order) ≡ (has q (take left order) || (get_or order left 0 == q)) = ap (has q) (take_more order left 0 within) ∙ has_snoc q (get_or order left 0) (take left order) in
-    elim (or_cases _ _ (sym split ∙ e)) [ inl a ↦ inl a | inr b ↦ inr (eqb-true _ q b) ]
-
-module _ (graph : List (List ℕ)) (bound : ℕ → Bool) (order : List ℕ) (start left place : ℕ) (marks : List Bool)
-    (within : left < length order) (is : place ≡ get_or order left 0) (h : IsLooked graph bound order start (left + 1) marks) where
-  -- where it isn't marked
-  pub looked_past : is_marked marks place ≡ false → IsLooked graph bound order start left marks
+module _ (rows : List (List ℕ)) (bound : ℕ → Bool) (start left : ℕ) (marks : List Bool) (h : IsLooked rows bound start (left + 1) marks) where
+  -- one that isn't marked
+  pub looked_past : is_marked marks left ≡ false → IsLooked rows bound start left marks
   looked_past not = record {
     reached = h.reached;
     begun = h.begun;
     settled = λ q m. elim (h.settled q m) [
-      | inl front ↦ elim (in_front q left order within front) [
-        | inl a ↦ inl a
-        | inr e ↦ let no : true ≡ false = sym m ∙ ap (is_marked marks) (sym e ∙ sym is) ∙ not in absurd cc
+      | inl low ↦ elim (cases_eq q left) [
+        | inl e ↦ let no : true ≡ false = sym m ∙ ap (is_marked marks) e ∙ not in absurd cc
+        | inr other ↦ inl (omega (arith, low, other))
       ]
       | inr done ↦ inr done
     ];
   }
 
-  -- where it is, and marks what it leads to
-  pub looked_at : (after : List Bool) → IsLaid graph [] order → is_marked marks place ≡ true → bound place ≡ false
-      → ((q : ℕ) → is_marked after q ≡ true → (is_marked marks q ≡ true) ⊎ (has q (edges graph place) ≡ true))
-      → ((q : ℕ) → is_marked marks q ≡ true → is_marked after q ≡ true) → ((q : ℕ) → has q (edges graph place) ≡ true → is_marked after q ≡ true)
-      → IsLooked graph bound order start left after
-  looked_at after laid marked free from kept led = record {
+  -- one that is, and marks what it leads to
+  looked_at : (after : List Bool) → IsFalling rows → is_marked marks left ≡ true → bound left ≡ false
+      → ((q : ℕ) → is_marked after q ≡ true → (is_marked marks q ≡ true) ⊎ (has q (edges rows left) ≡ true))
+      → ((q : ℕ) → is_marked marks q ≡ true → is_marked after q ≡ true) → ((q : ℕ) → has q (edges rows left) ≡ true → is_marked after q ≡ true)
+      → IsLooked rows bound start left after
+  looked_at after falling marked free from kept led = record {
     reached = λ q m. elim (from q m) [
       | inl old ↦ h.reached q old
-      | inr leads ↦ inr (elim (h.reached place marked) [
-        | inl e ↦ reaches_at_once graph start q (subst (λ (p : ℕ). has q (edges graph p) ≡ true) (sym e) leads)
-        | inr on ↦ reaches_on graph start place q on leads
-      ])
+      | inr leads ↦ let way = h.reached left marked in (way.0 ++ q ∷ [], walk-last rows start way.0 left q way.1 leads)
     ];
     begun = kept start h.begun;
     settled = λ q m. elim (from q m) [
       | inl old ↦ elim (h.settled q old) [
-        | inl front ↦ elim (in_front q left order within front) [
-          | inl a ↦ inl a
-          | inr e ↦
-              let here : place ≡ q = is ∙ e in
-              inr (ap bound (sym here) ∙ free, λ r leads. led r (subst (λ (p : ℕ). has r (edges graph p) ≡ true) (sym here) leads))
+        | inl low ↦ elim (cases_eq q left) [
+          | inl e ↦ inr (ap bound e ∙ free, λ r leads. led r (subst (λ (p : ℕ). has r (edges rows p) ≡ true) e leads))
+          | inr other ↦ inl (omega (arith, low, other))
         ]
         | inr done ↦ inr (done.0, λ r leads. kept r (done.1 r leads))
       ]
-      | inr leads ↦ inl (laid_at graph [] order left q laid within (subst (λ (p : ℕ). has q (edges graph p) ≡ true) is leads))
+      | inr leads ↦ inl (falling left q leads)
     ];
   }
 
--- the end
+  pub looked_on : (after : List Bool) (places : List ℕ) → IsFalling rows → left < length marks → length after ≡ length marks → places ≡ edges rows left
+      → ((q : ℕ) → q < length marks → is_marked after q ≡ (is_marked marks q || has q places)) → is_marked marks left ≡ true → bound left ≡ false
+      → IsLooked rows bound start left after
+  looked_on after places falling within len are set marked free =
+      looked_at after falling marked free
+      (λ q m.
+      let low : q < length marks = omega (arith, len, marked_within after q m) in
+      elim (or_cases (is_marked marks q) (has q places) (sym (set q low) ∙ m)) [ inl old ↦ inl old | inr new ↦ inr (sym (ap (has q) are) ∙ new) ])
+      (λ q m. set q (marked_within marks q m) ∙ or_left (is_marked marks q) (has q places) m)
+      (λ q leads. set q (omega (arith, falling left q leads, within)) ∙ or_right (is_marked marks q) (has q places) (ap (has q) are ∙ leads))
 
-walk_marked : (graph : List (List ℕ)) (bound : ℕ → Bool) (order : List ℕ) (start : ℕ) (marks : List Bool) → IsLooked graph bound order start 0 marks
-    → (x : ℕ) (xs : List ℕ) (q : ℕ) → is_marked marks x ≡ true → IsWalkOn graph x xs q → is_marked marks q ≡ true
-walk_marked graph bound order start marks h x [] q m w = subst (λ (y : ℕ). is_marked marks y ≡ true) w m
-walk_marked graph bound order start marks h x (y ∷ ys) q m w = elim (h.settled x m) [
-  | inl front ↦ let no : false ≡ true = front in absurd cc
-  | inr done ↦ walk_marked graph bound order start marks h y ys q (done.1 y w.0) w.1
-]
-
-free_at : (graph : List (List ℕ)) (bound : ℕ → Bool) (order : List ℕ) (start : ℕ) (marks : List Bool) → IsLooked graph bound order start 0 marks → (q : ℕ) → is_marked marks q ≡ true → bound q ≡ false
-free_at graph bound order start marks h q m = elim (h.settled q m) [
-  | inl front ↦ let no : false ≡ true = front in absurd cc
-  | inr done ↦ done.0
-]
-
-pub none_bound : (t : PolicyTables) (u : ℕ) (p : Permission) (graph : List (List ℕ)) (order : List ℕ) (start : ℕ) (marks : List Bool) → graph ≡ graph_of t
-    → IsLooked graph (bound_at t t.realms u p) order start 0 marks → IsBoundFrom t start u p → ⊥
-none_bound t u p graph order start marks is h w =
-    let marked : is_marked marks w.to ≡ true = elim w.reached [
-      | inl e ↦ subst (λ (q : ℕ). is_marked marks q ≡ true) e h.begun
-      | inr on ↦
-          let way : ReachesOn graph start w.to = subst (λ (g : List (List ℕ)). ReachesOn g start w.to) (sym is) on in
-          walk_marked graph (bound_at t t.realms u p) order start marks h start (way.first ∷ way.others) w.to h.begun way.walk
-    ] in
-    let no : false ≡ true = sym (free_at graph (bound_at t t.realms u p) order start marks h w.to marked) ∙ w.bound in cc
-
-pub one_bound : (t : PolicyTables) (u : ℕ) (p : Permission) (graph : List (List ℕ)) (order : List ℕ) (start left place : ℕ) (marks : List Bool) → graph ≡ graph_of t
-    → IsLooked graph (bound_at t t.realms u p) order start left marks → is_marked marks place ≡ true → bound_at t t.realms u p place ≡ true → IsBoundFrom t start u p
-one_bound t u p graph order start left place marks is h marked e = record {
-  to = place;
-  reached = elim (h.reached place marked) [ inl s ↦ inl s | inr on ↦ inr (subst (λ (g : List (List ℕ)). ReachesOn g start place) is on) ];
-  bound = e;
+-- at first the start alone is marked
+pub looked_first : (rows : List (List ℕ)) (bound : ℕ → Bool) (start : ℕ) (marks : List Bool) → ((q : ℕ) → is_marked marks q ≡ (start == q)) → IsLooked rows bound start (start + 1) marks
+looked_first rows bound start marks only = record {
+  reached = λ q m. ([], eqb-true start q (sym (only q) ∙ m));
+  begun = only start ∙ eq-eqb start start refl;
+  settled = λ q m. let same : start ≡ q = eqb-true start q (sym (only q) ∙ m) in inl (omega (arith, same));
 }
 
--- a place that leads nowhere
-pub bound_here : (t : PolicyTables) (u : ℕ) (p : Permission) (start : ℕ) (b : Bool) → edges (graph_of t) start ≡ [] → b ≡ bound_at t t.realms u p start → (b ≡ true) ↔ IsBoundFrom t start u p
-bound_here t u p start b nowhere e = (
-  λ yes. record { to = start; reached = inl refl; bound = sym e ∙ yes },
-  λ w. elim w.reached [
-    | inl s ↦ e ∙ subst (λ (q : ℕ). bound_at t t.realms u p q ≡ true) (sym s) w.bound
-    | inr on ↦ let no : false ≡ true = sym (ap (has on.first) nowhere) ∙ on.walk.0 in absurd cc
-  ],
-)
+-- the end
+
+walk_marked : (rows : List (List ℕ)) (bound : ℕ → Bool) (start : ℕ) (marks : List Bool) → IsLooked rows bound start 0 marks
+    → (x : ℕ) (xs : List ℕ) (q : ℕ) → is_marked marks x ≡ true → IsWalkOn rows x xs q → is_marked marks q ≡ true
+walk_marked rows bound start marks h x [] q m w = subst (λ (y : ℕ). is_marked marks y ≡ true) w m
+walk_marked rows bound start marks h x (y ∷ ys) q m w = elim (h.settled x m) [
+  | inl low ↦ absurd (omega (arith, low))
+  | inr done ↦ walk_marked rows bound start marks h y ys q (done.1 y w.0) w.1
+]
+
+pub none_bound : (rows : List (List ℕ)) (bound : ℕ → Bool) (start : ℕ) (marks : List Bool) → IsLooked rows bound start 0 marks → IsBoundOn rows bound start → ⊥
+none_bound rows bound start marks h w = elim (h.settled w.to (walk_marked rows bound start marks h start w.path w.to h.begun w.walk)) [
+  | inl low ↦ omega (arith, low)
+  | inr done ↦ let no : false ≡ true = sym done.0 ∙ w.is in cc
+]
+
+pub one_bound : (rows : List (List ℕ)) (bound : ℕ → Bool) (start left q : ℕ) (marks : List Bool) → IsLooked rows bound start left marks → is_marked marks q ≡ true
+    → bound q ≡ true → IsBoundOn rows bound start
+one_bound rows bound start left q marks h m e = let way = h.reached q m in record { to = q; path = way.0; walk = way.1; is = e }
+
+-- a rank that leads nowhere
+
+pub none_in : (xs : List ℕ) → (length xs == 0) ≡ true → xs ≡ []
+none_in [] e = refl
+none_in (x ∷ xs) e = let none : length (x ∷ xs) ≡ 0 = eqb-true (length (x ∷ xs)) 0 e in absurd (omega (arith, none))
+
+pub bound_here : (rows : List (List ℕ)) (bound : ℕ → Bool) (start : ℕ) (b : Bool) → edges rows start ≡ [] → b ≡ bound start → (b ≡ true) ↔ IsBoundOn rows bound start
+bound_here rows bound start b nowhere e = (
+  λ yes. record { to = start; path = []; walk = refl; is = sym e ∙ yes },
+  λ w. on_path w.path w.to w.walk w.is,
+) where
+  on_path : (path : List ℕ) (to : ℕ) → IsWalkOn rows start path to → bound to ≡ true → b ≡ true
+  on_path [] to walk is = e ∙ ap bound walk ∙ is
+  on_path (x ∷ xs) to walk is = let no : false ≡ true = sym (ap (has x) nowhere) ∙ walk.0 in absurd cc
+
+-- one rank more is told, where what it leads to was told
+
+any_has : (f : ℕ → Bool) (xs : List ℕ) → list_any f xs ≡ true → (q : ℕ) × (has q xs ≡ true) × (f q ≡ true)
+any_has f [] e = let no : false ≡ true = e in absurd cc
+any_has f (x ∷ xs) e = elim (or_cases (f x) (list_any f xs) e) [
+  | inl here ↦ (x, or_left (x == x) (has x xs) (eq-eqb x x refl), here)
+  | inr later ↦ let (q, there, is) = any_has f xs later in (q, or_right (x == q) (has q xs) there, is)
+]
+
+has_any : (f : ℕ → Bool) (xs : List ℕ) (q : ℕ) → has q xs ≡ true → f q ≡ true → list_any f xs ≡ true
+has_any f [] q e is = let no : false ≡ true = e in absurd cc
+has_any f (x ∷ xs) q e is = elim (or_cases (x == q) (has q xs) e) [
+  | inl here ↦ or_left (f x) (list_any f xs) (ap f (eqb-true x q here) ∙ is)
+  | inr later ↦ or_right (f x) (list_any f xs) (has_any f xs q later is)
+]
+
+-- the marks say of each rank below this one whether it is bound
+pub record AreTold (rows : List (List ℕ)) (bound : ℕ → Bool) (n : ℕ) (marks : List Bool) : Type 0 where
+  pub count : length marks ≡ n
+  pub told : (rank : ℕ) → rank < n → (is_marked marks rank ≡ true) ↔ IsBoundOn rows bound rank
+
+pub told_more : (rows : List (List ℕ)) (bound : ℕ → Bool) (n : ℕ) (marks marks' : List Bool) (here below b : Bool) → IsFalling rows → AreTold rows bound n marks
+    → here ≡ bound n → below ≡ list_any (is_marked marks) (edges rows n) → b ≡ (below || here) → marks' ≡ marks ++ b ∷ [] → AreTold rows bound (n + 1) marks'
+told_more rows bound n marks marks' here below b falling h here_is below_is is new = record {
+  count = ap length new ∙ length-append marks (b ∷ []) ∙ ap (λ (k : ℕ). k + 1) h.count;
+  told = λ rank low. elim (cases_eq rank n) [
+    | inl same ↦ subst (λ (k : ℕ). (is_marked marks' k ≡ true) ↔ IsBoundOn rows bound k) (sym same) last
+    | inr other ↦
+        let before : rank < n = omega (arith, low, other) in
+        let old : is_marked marks' rank ≡ is_marked marks rank =
+        ap (λ (ms : List Bool). is_marked ms rank) new ∙ get_or_append_left marks (b ∷ []) false rank (omega (arith, before, h.count)) in
+        let both = h.told rank before in
+        (λ m. both.0 (sym old ∙ m), λ w. old ∙ both.1 w)
+  ];
+} where
+  at_last : is_marked marks' n ≡ b
+  at_last =
+      ap (λ (ms : List Bool). is_marked ms n) new ∙ subst (λ (k : ℕ). is_marked (marks ++ b ∷ []) k ≡ b) h.count (get_or-append_seam marks b [] false)
+
+  on_path : (path : List ℕ) (to : ℕ) → IsWalkOn rows n path to → bound to ≡ true → (below || here) ≡ true
+  on_path [] to walk e = or_right below here (here_is ∙ ap bound walk ∙ e)
+  on_path (x ∷ xs) to walk e =
+      let marked : is_marked marks x ≡ true = (h.told x (falling n x walk.0)).1 (record { to = to; path = xs; walk = walk.1; is = e }) in
+      or_left below here (below_is ∙ has_any (is_marked marks) (edges rows n) x walk.0 marked)
+
+  last : (is_marked marks' n ≡ true) ↔ IsBoundOn rows bound n
+  last = (
+    λ m. elim (or_cases below here (sym is ∙ sym at_last ∙ m)) [
+      | inr own ↦ record { to = n; path = []; walk = refl; is = sym here_is ∙ own }
+      | inl led ↦
+          let (q, leads, marked) = any_has (is_marked marks) (edges rows n) (sym below_is ∙ led) in
+          let w = (h.told q (falling n q leads)).0 marked in
+          record { to = w.to; path = q ∷ w.path; walk = (leads, w.walk); is = w.is }
+    ],
+    λ w. at_last ∙ is ∙ on_path w.path w.to w.walk w.is,
+  )
 
 -- marks
 
@@ -154,54 +175,8 @@ none_marked zero q = refl
 none_marked (suc n) zero = refl
 none_marked (suc n) (suc q) = none_marked n q
 
-pub marked_within : (marks : List Bool) (q : ℕ) → is_marked marks q ≡ true → q < length marks
-marked_within [] q e = let no : false ≡ true = e in cc
-marked_within (m ∷ ms) zero e = omega arith
-marked_within (m ∷ ms) (suc q) e = omega (arith, marked_within ms q e)
-
 pub one_marked : (marks : List Bool) (start : ℕ) → ((q : ℕ) → is_marked marks q ≡ false) → start < length marks → (q : ℕ) → is_marked (set marks start true) q ≡ (start == q)
 one_marked marks start none within q = elim (cases_Bool (start == q)) [
   | inl e ↦ subst (λ (i : ℕ). is_marked (set marks start true) i ≡ true) (eqb-true start q e) (get_or-set_same marks start true false within) ∙ sym e
   | inr e ↦ get_or-set_other marks start q true false (λ h. differ start q e (sym h)) ∙ none q ∙ sym e
 ]
-
--- a place of the order is a realm's
-pub order_within : (t : PolicyTables) (order : List ℕ) (i : ℕ) → IsOrder (graph_of t) order → i < length order → get_or order i 0 < length t.realms
-order_within t order i h within =
-    omega (arith, h.within (get_or order i 0) (has_of order i within), length-graph_of t, length-map t.realms (λ r. r.name))
-
-pub order_over : (b t : PolicyTables) (graph : List (List ℕ)) (items order : List ℕ) → graph ≡ graph_of b → b ≡ t → order ≡ items → IsOrder graph items → IsOrder (graph_of t) order
-order_over b t graph items order is same is' h = subst (λ (g : List (List ℕ)). IsOrder g order) (is ∙ ap graph_of same) (subst (IsOrder graph) (sym is') h)
-
--- at first the start alone is marked
-pub looked_first : (t : PolicyTables) (bound : ℕ → Bool) (order : List ℕ) (start : ℕ) (marks : List Bool) → IsOrder (graph_of t) order → start < length t.realms
-    → ((q : ℕ) → is_marked marks q ≡ (start == q)) → IsLooked (graph_of t) bound order start (length order) marks
-looked_first t bound order start marks h within only = record {
-  reached = λ q m. inl (eqb-true start q (sym (only q) ∙ m));
-  begun = only start ∙ eq-eqb start start refl;
-  settled = λ q m.
-      let there : has start order ≡ true = h.all start (omega (arith, within, length-graph_of t, length-map t.realms (λ r. r.name))) in
-      inl (ap (has q) (take_all (length order) order (omega arith)) ∙ subst (λ (p : ℕ). has p order ≡ true) (eqb-true start q (sym (only q) ∙ m)) there);
-}
-
-module _ (t : PolicyTables) (bound : ℕ → Bool) (order : List ℕ) (start left : ℕ) (marks : List Bool) (some : 0 < left) (within : left ≤ length order)
-    (h : IsLooked (graph_of t) bound order start left marks) where
-  back : IsLooked (graph_of t) bound order start (left - 1 + 1) marks
-  back = subst (λ (n : ℕ). IsLooked (graph_of t) bound order start n marks) (omega arith) h
-
-  below : left - 1 < length order
-  below = omega arith
-
-  pub looked_off : is_marked marks (get_or order (left - 1) 0) ≡ false → IsLooked (graph_of t) bound order start (left - 1) marks
-  looked_off not = looked_past (graph_of t) bound order start (left - 1) (get_or order (left - 1) 0) marks below refl back not
-
-  pub looked_on : (after : List Bool) (places : List ℕ) → IsOrder (graph_of t) order → length t.realms ≤ length marks → length after ≡ length marks
-      → places ≡ edges (graph_of t) (get_or order (left - 1) 0) → ((q : ℕ) → q < length marks → is_marked after q ≡ (is_marked marks q || has q places))
-      → is_marked marks (get_or order (left - 1) 0) ≡ true → bound (get_or order (left - 1) 0) ≡ false → IsLooked (graph_of t) bound order start (left - 1) after
-  looked_on after places ordered few len are set marked free =
-      looked_at (graph_of t) bound order start (left - 1) (get_or order (left - 1) 0) marks below refl back after ordered.laid marked free
-      (λ q m. elim (or_cases _ _ (sym (set q (omega (arith, len, marked_within after q m))) ∙ m)) [ inl old ↦ inl old | inr new ↦ inr (sym (ap (has q) are) ∙ new) ])
-      (λ q m. set q (marked_within marks q m) ∙ or_left _ _ m)
-      (λ q leads.
-      let inside : q < length (graph_of t) = graph-IsGraph t (get_or order (left - 1) 0) q leads in
-      set q (omega (arith, inside, few, length-graph_of t, length-map t.realms (λ r. r.name))) ∙ or_right (is_marked marks q) (has q places) (ap (has q) are ∙ leads))

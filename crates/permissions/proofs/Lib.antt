@@ -1,10 +1,9 @@
-pub mod BitLemmas
 pub mod AskLemmas
-pub mod CycleLemmas
 pub mod FaultLemmas
 pub mod GrantLemmas
 pub mod GraphLemmas
 pub mod ReachLemmas
 pub mod RootLemmas
 pub mod RowLemmas
-pub mod OrderLemmas
+pub mod RankLemmas
+pub mod RightLemmas

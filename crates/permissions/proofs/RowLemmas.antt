@@ -1,22 +1,17 @@
 -- Who is bound from places, and the definition of who is allowed what.
-use Rattle.std.proofs.Common.{◌≡◌, ℕ, zero, suc, ◌<◌, Bool, true, false, ◌||◌, ◌&&◌, List, [], ◌∷◌, length, map, get_or, replicate, bit_or, Option, Some, None, refl, sym, ap, subst, ◌∙◌, inl, inr, arith, eq-eqb}
+use Rattle.std.proofs.Common.{◌≡◌, ℕ, Bool, true, false, ◌||◌, List, [], ◌∷◌, length, Option, Some, None, refl, sym, ap, ◌∙◌, inl, inr, eq-eqb}
 use Rattle.std.specs.Prelude.{◌==◌, ◌↔◌}
 use Rattle.std.specs.List.{list_any}
-use Rattle.std.proofs.Math.ListN.{set}
-use Rattle.std.proofs.lemmas.Bool.{cases_Bool, eqb-true, or_cases, or_left, or_right}
-use Rattle.std.proofs.lemmas.List.{get_or-set_same, get_or-set_other, length-map}
+use Rattle.std.proofs.lemmas.Bool.{or_cases, or_left, or_right}
 use Rattle.policy_checks.specs.declared.permission.Permission.{Permission}
 use Rattle.policy_tables.specs.declared.tables.PolicyTables.{PolicyTables}
 use Rattle.permissions.specs.Allows.{binds_in, binds, root_of, Allows}
 use Rattle.policy_checks.specs.Checks.{realm_names}
 use Rattle.permissions.specs.Grants.{bindings_at, IsBoundFrom, IsBoundByName}
-use Rattle.permissions.specs.Masks.{has_bit}
-use Rattle.permissions.specs.Graph.{has, ReachesOn, graph_of}
 use Rattle.policy_checks.specs.Index.{place_of}
 use Rattle.permissions.specs.Reach.{IsWalk}
-use Rattle.permissions.proofs.GrantLemmas.{has_bit-or, realm_place}
+use Rattle.permissions.proofs.GrantLemmas.{realm_place}
 use Rattle.permissions.proofs.ReachLemmas.{PlacesWalk, walk_over_places, walk_over_names, not_there-extended, no_walk}
-use Rattle.policy_checks.proofs.PlaceLemmas.{place_of-within}
 
 pub differ : (a b : ℕ) → (a == b) ≡ false → a ≡ b → ⊥
 differ a b e h = let yes_it_is : (a == b) ≡ true = eq-eqb a b h in let no : false ≡ true = sym e ∙ yes_it_is in cc

@@ -18,6 +18,7 @@ use Rattle.policy_tables.specs.declared.tables.PolicyTables.{PolicyTables}
 use Rattle.permissions.specs.Allows.{is_permission, is_user, binds_in, binds}
 use Rattle.permissions.specs.Masks.{has_bit}
 use Rattle.permissions.specs.Graph.{ReachesOn, graph_of}
+use Rattle.permissions.specs.Ranks.{place_at}
 use Rattle.permissions.specs.Reach.{Reaches}
 
 -- the bits of the roles before this one are those of their permissions
@@ -40,9 +41,9 @@ abbrev pub granted : PolicyTables → ℕ → Permission → Grants → Bool
 granted t u p g =
     has_bit (unwrap_or (get nat_cmp g.users u) 0) p || list_any (gives_member t u p) g.groups.items
 
--- the grants of a place give the permission to the user
+-- the grants at a rank give the permission to the user
 abbrev pub granted_at : PolicyTables → ℕ → Permission → List Grants → ℕ → Bool
-granted_at t u p grants place = slice_index_or (map (granted t u p) grants) place false
+granted_at t u p grants rank = slice_index_or (map (granted t u p) grants) rank false
 
 -- the bindings of a place
 abbrev pub bindings_at : List RealmTable → ℕ → List Binding
@@ -52,12 +53,12 @@ bindings_at realms place = slice_index_or (map (λ r. r.bindings) realms) place 
 abbrev pub bound_at : PolicyTables → List RealmTable → ℕ → Permission → ℕ → Bool
 bound_at t realms u p place = list_any (binds_in t u p) (bindings_at realms place)
 
--- the grants of each place before this one are those of its bindings
-pub record AreGrants (t : PolicyTables) (realms : List RealmTable) (n : ℕ)
+-- the grants at each rank before this one are those of its place's bindings
+pub record AreGrants (t : PolicyTables) (places : List ℕ) (n : ℕ)
     (grants : List Grants) : Type 0 where
   pub count : length grants ≡ n
-  pub same : (place u : ℕ) (p : Permission) → place < n
-      → granted_at t u p grants place ≡ bound_at t realms u p place
+  pub same : (rank u : ℕ) (p : Permission) → rank < n
+      → granted_at t u p grants rank ≡ bound_at t t.realms u p (place_at places rank)
 
 -- the user is a member of the group at a place
 abbrev pub is_member : List Members → ℕ → ℕ → Bool

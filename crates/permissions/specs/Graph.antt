@@ -1,6 +1,6 @@
 -- A machine of the code: walks from place to place, where each place has a list of the places that
 -- it leads to.
-use Rattle.std.specs.Prelude.{◌≡◌, ℕ, ◌<◌, ◌==◌, Bool, true, false, List, [], ◌∷◌, length, map, slice_index_or, count_by}
+use Rattle.std.specs.Prelude.{◌≡◌, ℕ, ◌<◌, ◌==◌, Bool, true, List, [], ◌∷◌, length, map, slice_index_or}
 use Rattle.std.specs.List.{list_any}
 use Rattle.policy_tables.specs.declared.tables.RealmTable.{RealmTable}
 use Rattle.policy_tables.specs.declared.tables.PolicyTables.{PolicyTables}
@@ -30,11 +30,6 @@ pub record ReachesOn (graph : List (List ℕ)) (p q : ℕ) : Type 0 where
   pub first : ℕ
   pub others : List ℕ
   pub walk : IsWalkOn graph p (first ∷ others) q
-
--- just the places that were found are marked, each once
-pub record IsMarked (marks : List Bool) (found : List ℕ) : Type 0 where
-  pub same : (q : ℕ) → q < length marks → slice_index_or marks q false ≡ has q found
-  pub count : count_by (λ m. m) marks ≡ length found
 
 -- the places of those of these names that are there
 abbrev pub places_in : List (List ℕ) → List (List ℕ) → List ℕ

@@ -7,7 +7,7 @@ ghost use Rattle.policy_checks.specs.declared.permission.Permission.{Permission 
 ghost use Rattle.policy_tables.specs.declared.tables.PolicyTables.{PolicyTables as PolicyTablesOf};
 ghost use Rattle.permissions.specs.Allows.{is_user, is_this_user, has_this_user, gives, binds_in};
 ghost use Rattle.permissions.specs.Masks.{has_bit};
-ghost use Rattle.permissions.specs.Grants.{granted, AreMasks, AreGrants};
+ghost use Rattle.permissions.specs.Grants.{granted, AreMasks, AreGrants, bindings_at};
 
 use crate::roles::mask_of_role;
 use name_parts::Bytes;
@@ -171,20 +171,31 @@ fn grants_of(
     Ok(grants)
 }
 
-/// What each realm's own bindings grant.
+/// The bindings of the realm at a place.
+fn bindings_at(realms: &[RealmTable], place: usize) -> &[Binding]
+    ensures { result.now ≡ bindings_at realms.now place }
+{
+    match realms.get(place) {
+        Some(realm) => realm.bindings.as_slice(),
+        None => &[],
+    }
+}
+
+/// What the own bindings of the realms at these places grant.
 pub(crate) fn all_grants(
     alloc: Global,
     book: &Book,
     masks: &[u16],
-    realms: &[RealmTable],
+    places: &[usize],
 ) -> Result<Vec<Grants>, AllocError>
     requires { AreMasks book.now masks.now }
     ensures { IfOk result
-        (λ grants. AreGrants book.now realms.now (length realms.now) grants.items) }
+        (λ grants. AreGrants book.now places.now (length places.now) grants.items) }
 {
+    let realms = book.tables().realms.as_slice();
     let mut grants = Vec::new(alloc);
-    for realm in realms {
-        grants.push(grants_of(alloc, book, masks, realm.bindings.as_slice())?)?;
+    for place in places {
+        grants.push(grants_of(alloc, book, masks, bindings_at(realms, *place))?)?;
     }
     Ok(grants)
 }

@@ -1,26 +1,25 @@
-//! Who may do what: the configuration of users, groups, roles and realms, and the tokens that prove
-//! a right.
+//! Who may do what: the policy of users, groups, roles and realms.
 #![tactic(auto)]
 
 mod caller;
-mod components;
-mod cycle;
 mod faults;
+mod granted;
 mod grants;
 mod graph;
-mod hash;
 mod masks;
 mod members;
-mod order;
 mod policy;
-mod reading;
+mod ranked;
+mod ranks;
 mod realms;
 mod rights;
 mod roles;
-mod stages;
+mod root;
 
 pub use caller::CallerId;
 pub use faults::PolicyFault;
-pub use hash::{hmac_sha256, token_is, update_token};
+pub use granted::Granted;
+pub use graph::edges_of;
 pub use policy::Policy;
 pub use policy_checks::Permission;
+pub use realms::read_graph;

@@ -1,25 +1,28 @@
 //! The policy of a configuration.
-ghost use Rattle.std.specs.Prelude.{◌≡◌, ◌≢◌, ◌<◌, ◌≤◌, ◌↔◌, ◌==◌, true, take, Ok, None, [], length, map, IsTrue, IfOk, IfErr, IfSome, slice_index_or};
-ghost use Rattle.std.specs.List.{position};
+ghost use Rattle.std.specs.Prelude.{◌≡◌, ◌<◌, ◌≤◌, ◌↔◌, true, Ok, [], length, map, IsTrue, IfOk, IfSome, slice_index_or};
 ghost use Rattle.hex.specs.Hex.{decode_of};
-ghost use Rattle.policy_checks.specs.Checks.{is_hex_text, user_names};
-ghost use Rattle.permissions.specs.Allows.{Allows, root_of};
-ghost use Rattle.permissions.specs.Cycle.{HasNoCycle};
-ghost use Rattle.names_realms.specs.Realms.{IsRealm, project_len};
-ghost use Rattle.permissions.specs.Faults.{IsFirstFault, IsTablesFault, IsPolicyOf, IsSound, text_fault};
+ghost use Rattle.policy_checks.specs.Checks.{is_hex_text, user_names, realm_names};
 ghost use Rattle.policy_checks.specs.Index.{place_of, IsIndexOf};
+ghost use Rattle.permissions.specs.Allows.{Allows};
+ghost use Rattle.permissions.specs.Faults.{IsSound};
+ghost use Rattle.permissions.specs.Graph.{graph_of};
+ghost use Rattle.permissions.specs.Grants.{AreMembers, AreGrants};
+ghost use Rattle.permissions.specs.Order.{IsOrder};
 
-use crate::PolicyFault;
 use crate::caller::CallerId;
-use crate::hash::write_front;
-use crate::reading::read_rights;
-use crate::rights::{Ask, Rights};
-use crate::stages::{check_entries, check_size, check_texts, check_tokens, read_shaped, read_toml};
+use crate::granted::Granted;
+use crate::grants::{Grants, all_grants};
+use crate::members::{Members, all_members};
+use crate::ranked::{Ask, Ranked};
+use crate::ranks::{Ranking, rank_places};
+use crate::rights::Rights;
+use crate::roles::role_masks;
+use crate::root::write_root;
 use hex::FromHexError;
 use name_parts::Bytes;
 use names_realms::Realm;
 use policy_checks::{Book, NameIndex, Permission};
-use policy_tables::PolicyTables;
+use policy_tables::{Listed, PolicyTables};
 use std::alloc::{AllocError, Global};
 use std::marker::Model;
 
@@ -57,60 +60,78 @@ fn read_secret(alloc: Global, text: &[u8]) -> Result<Bytes, AllocError>
     }
 }
 
-/// The tables with their indexes, where each text is what it has to be.
-fn checked_book(alloc: Global, tables: PolicyTables) -> Result<Book, PolicyFault>
-    ensures ok { IfOk result (λ b. (b ≡ tables) × (text_fault tables ≡ None)) }
-    ensures err { IfErr result (λ f. f ≢ PolicyFault.Memory → IsTablesFault tables f) }
+/// What the own bindings of the realms at these places grant.
+fn own_grants(alloc: Global, book: &Book, places: &[usize]) -> Result<Vec<Grants>, AllocError>
+    ensures { IfOk result
+        (λ grants. AreGrants book.now places.now (length places.now) grants.items) }
 {
-    check_entries(&tables)?;
-    let book = Book::new(alloc, tables)?;
-    check_texts(alloc, &book)?;
-    Ok(book)
+    let masks = role_masks(alloc, book.tables().roles.as_slice())?;
+    all_grants(alloc, book, masks.as_slice(), places)
 }
 
-/// The index of the tokens, where each has one owner.
-fn checked_tokens(alloc: Global, book: &Book) -> Result<NameIndex, PolicyFault>
-    requires texts { text_fault book.now ≡ None }
-    requires no_cycle { HasNoCycle book.now }
-    ensures ok { IfOk result
-        (λ tokens. IsSound book.now × IsIndexOf tokens (map (λ u. u.token) book.now.users)) }
-    ensures err { IfErr result (λ f. f ≢ PolicyFault.Memory → IsTablesFault book.now f) }
+/// The members of the groups, by the groups' places.
+fn own_members(alloc: Global, book: &Book) -> Result<Vec<Members>, AllocError>
+    ensures { IfOk result
+        (λ members. AreMembers book.now book.now.groups (length book.now.groups) members.items) }
 {
-    check_tokens(alloc, book.tables())
+    let tables = book.tables();
+    all_members(alloc, book, tables.groups.as_slice())
 }
 
-/// The policy of sound tables.
-fn policy_of(alloc: Global, tables: PolicyTables) -> Result<Policy, PolicyFault>
-    ensures ok { IfOk result (λ p. (p ≡ tables) × IsSound tables) }
-    ensures err { IfErr result (λ f. f ≢ PolicyFault.Memory → IsTablesFault tables f) }
+/// What the tables grant, over an order of the realms.
+fn ranked_rights(
+    alloc: Global,
+    book: Book,
+    graph: &[Listed<usize>],
+    order: &[usize],
+) -> Result<Rights, AllocError>
+    requires graph { graph.now ≡ graph_of book }
+    requires order { IsOrder graph.now order.now }
+    requires few { length book.realms ≤ 65536 }
+    ensures { IfOk result (λ rights. rights ≡ book) }
 {
-    let book = checked_book(alloc, tables)?;
-    let rights = read_rights(alloc, book)?;
-    let tokens = checked_tokens(alloc, &rights.book)?;
-    let secret = read_secret(alloc, rights.book.tables().secret.as_slice())?;
-    Ok(Policy {
-        rights,
-        secret,
-        tokens,
+    let ranking = rank_places(alloc, graph, order)?;
+    let grants = own_grants(alloc, &book, ranking.places.as_slice())?;
+    let members = own_members(alloc, &book)?;
+    let Ranking {
+        ranks,
+        places: _,
+        rows,
+    } = ranking;
+    Ok(Rights {
+        book,
+        ranks,
+        ranked: Ranked {
+            rows,
+            grants,
+            members,
+        },
     })
 }
 
 impl Policy {
-    /// Reads a configuration.
-    ///
-    /// The first fault is answered: `TooMany` for more than 4 MiB, which is looked at before the
-    /// text is read, `NotToml`, `BadShape`, `TooMany` for more than 65,536 entries over the four
-    /// tables and all bindings, `BadName`, `UnknownRole`, `UnknownRealm`, `UnknownPrincipal`,
-    /// `RealmCycle`, `TwoOwners`. Of several of one kind it is the one with the least path, or the
-    /// least name or token, in byte order.
-    pub fn from_toml(alloc: Global, text: &[u8]) -> Result<Policy, PolicyFault>
-        ensures ok { IfOk result (IsPolicyOf text.now) }
-        ensures err { IfErr result (λ f. f ≢ PolicyFault.Memory → IsFirstFault text.now f) }
+    /// The policy of tables without a fault, by the realms that each realm extends, an order of
+    /// them, and the index of the tokens.
+    pub fn new(
+        alloc: Global,
+        book: Book,
+        graph: &[Listed<usize>],
+        order: &[usize],
+        tokens: NameIndex,
+    ) -> Result<Policy, AllocError>
+        requires sound { IsSound book }
+        requires graph { graph.now ≡ graph_of book }
+        requires order { IsOrder graph.now order.now }
+        requires tokens { IsIndexOf tokens (map (λ u. u.token) book.users) }
+        ensures { IfOk result (λ p. p ≡ book) }
     {
-        check_size(text)?;
-        let document = read_toml(alloc, text)?;
-        let tables = read_shaped(alloc, &document)?;
-        policy_of(alloc, tables)
+        let secret = read_secret(alloc, book.tables().secret.as_slice())?;
+        let rights = ranked_rights(alloc, book, graph, order)?;
+        Ok(Policy {
+            rights,
+            secret,
+            tokens,
+        })
     }
 
     /// The caller who shows a token, none where it is nobody's.
@@ -157,37 +178,46 @@ impl Policy {
         let root = self.rights.binds(&room[..len], ask);
         own || root
     }
-}
 
-/// The first place of a colon.
-fn place_of_colon(text: &[u8]) -> Option<usize>
-    ensures place { result ≡ position (λ b. b == 58) text.now }
-    ensures within { IfSome result (λ place. place < length text.now) }
-{
-    text.iter().position(|b| *b == b':')
-}
-
-/// How long the project of a realm is.
-fn project_of(text: &[u8]) -> usize
-    ensures len { result ≡ project_len text.now }
-    ensures within { result ≤ length text.now }
-{
-    match place_of_colon(text) {
-        Some(place) => place,
-        None => text.len(),
+    /// In which realms the caller has the permission, for many asks: one pass over the realms, the
+    /// realms that they extend, and their bindings. `Err` where there is no memory, a byte and some
+    /// bits for each realm.
+    pub fn granted(
+        &self,
+        alloc: Global,
+        caller: CallerId,
+        permission: Permission,
+    ) -> Result<Granted<'_>, AllocError>
+        requires { caller < length self.now.users }
+        ensures policy { IfOk result (λ granted. granted.policy ≡ self.now) }
+        ensures caller { IfOk result (λ granted. granted.caller ≡ caller) }
+        ensures permission { IfOk result (λ granted. granted.permission ≡ permission) }
+    {
+        let ask = Ask {
+            user: caller.place(),
+            permission,
+        };
+        let bound = self.rights.bound_places(alloc, ask)?;
+        Ok(Granted {
+            policy: self,
+            caller,
+            permission,
+            bound,
+        })
     }
-}
 
-/// Writes the name of the `@root` of a realm's project, and says how long it is.
-fn write_root(room: &mut [u8], realm: &[u8]) -> usize
-    requires room { length room.old ≡ 106 }
-    requires realm { IsRealm realm.now }
-    ensures within { result ≤ 106 }
-    ensures len { length room.new ≡ 106 }
-    ensures root { take result room.new ≡ root_of realm.now }
-{
-    let len = project_of(realm);
-    write_front(room, &realm[..len]);
-    write_front(&mut room[len..], b":@root");
-    len + 6
+    /// The place of a realm.
+    pub(crate) fn realm(&self, name: &[u8]) -> Option<usize>
+        ensures { result ≡ place_of name.now (realm_names self.now) }
+    {
+        self.rights.book.realm(name)
+    }
+
+    /// The tables. They have no fault.
+    pub fn tables(&self) -> &PolicyTables
+        ensures value { result.now ≡ self.now }
+        ensures sound { IsSound self.now }
+    {
+        self.rights.book.tables()
+    }
 }

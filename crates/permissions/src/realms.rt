@@ -53,7 +53,7 @@ fn all_places(
 
 /// The places that each realm extends.
 #[tactic(auto, unfolding(crate::specs::Graph::graph_of))]
-pub(crate) fn read_graph(alloc: Global, book: &Book) -> Result<Vec<Listed<usize>>, AllocError>
+pub fn read_graph(alloc: Global, book: &Book) -> Result<Vec<Listed<usize>>, AllocError>
     ensures { IfOk result (λ graph. graph.items ≡ graph_of book.now) }
 {
     let tables = book.tables();

@@ -1,7 +1,8 @@
 //! Reads configurations from the input, and prints what becomes of each, and who may do what by it. For trials alone.
 //!
 //! A line `----` parts two configurations. A comment `# ask TOKEN REALM` of one that is read asks which permissions the
-//! token's user has in the realm: a letter each is printed, in the order of the list.
+//! token's user has in the realm: a letter each is printed, in the order of the list. A comment `# realms TOKEN REALM..`
+//! asks by one pass in which of these realms the user may read artifacts: a letter each is printed.
 #![tactic(auto)]
 
 #[cfg(test)]
@@ -10,6 +11,7 @@ mod tests;
 use names_realms::Realm;
 use outside::StdIn;
 use permissions::{Permission, Policy, PolicyFault};
+use policy_reading::from_toml;
 use std::alloc::{AllocError, Global};
 use std::io::Write;
 use std::process::ExitCode;
@@ -86,6 +88,28 @@ fn tell_rights(
     out.extend_from_slice(b"\n")
 }
 
+/// The letters of the realms, parted by blanks, in which the owner of a token may read artifacts.
+fn tell_realms(
+    alloc: Global,
+    policy: &Policy,
+    token: &str,
+    realms: &str,
+    out: &mut Vec<u8>,
+) -> Result<(), AllocError> {
+    let Some(caller) = policy.caller_of(token.as_bytes()) else {
+        return out.extend_from_slice(b"no caller\n");
+    };
+    let granted = policy.granted(alloc, caller, Permission::GetArtifact)?;
+    for name in realms.split(' ') {
+        let letter = match Realm::parse(alloc, name.as_bytes()) {
+            Ok(realm) => if granted.in_realm(&realm) { b"x" } else { b"-" },
+            Err(_) => b"?",
+        };
+        out.extend_from_slice(letter)?;
+    }
+    out.extend_from_slice(b"\n")
+}
+
 /// The answers to the asks that stand in a configuration.
 fn tell_asks(
     alloc: Global,
@@ -99,13 +123,18 @@ fn tell_asks(
                 tell_rights(alloc, policy, token, realm, out)?;
             }
         }
+        if let Some(ask) = line.strip_prefix("# realms ") {
+            if let Some((token, realms)) = ask.split_once(' ') {
+                tell_realms(alloc, policy, token, realms, out)?;
+            }
+        }
     }
     Ok(())
 }
 
 /// What becomes of a configuration.
 fn tell(alloc: Global, text: &str, out: &mut Vec<u8>) -> Result<(), AllocError> {
-    match Policy::from_toml(alloc, text.as_bytes()) {
+    match from_toml(alloc, text.as_bytes()) {
         Ok(policy) => {
             out.extend_from_slice(b"read\n")?;
             tell_asks(alloc, &policy, text, out)

@@ -1,9 +1,11 @@
 //! Vectors from outside: RFC 4231, and a token computed by another program; and the bounds of a configuration.
 use names_realms::{InvocationId, Realm};
-use permissions::{Permission, Policy, PolicyFault, hmac_sha256, token_is, update_token};
+use permissions::{Permission, Policy, PolicyFault};
+use policy_reading::from_toml;
 use std::alloc::{AllocError, Global};
 use std::process::Abort;
 use std::test::Fail;
+use update_tokens::{hmac_sha256, token_is, update_token};
 
 /// A key, a message and a code of RFC 4231, section 4, in hex digits.
 type Vector = (&'static str, &'static str, &'static str);
@@ -113,18 +115,28 @@ fn chain(alloc: Global, tables: &str, realms: usize) -> Result<String, AllocErro
     Ok(text)
 }
 
-fn is_read(rt: &impl Abort, policy: &Policy, last: &Realm) -> Result<(), Fail> {
+fn is_read(rt: &impl Abort, alloc: Global, policy: &Policy, last: &Realm) -> Result<(), Fail> {
     let caller = policy.caller_of(b"a").ok_or("caller")?;
     assert!(rt; policy.name_of(caller) == b"a".as_slice());
     assert!(rt; policy.secret() == [0x0b].as_slice());
     assert!(rt; policy.allows(caller, Permission::GetArtifact, last));
     assert!(rt; !policy.allows(caller, Permission::ListArtifacts, last));
+    assert!(rt;
+        policy
+            .granted(alloc, caller, Permission::GetArtifact)?
+            .in_realm(last)
+    );
+    assert!(rt;
+        !policy
+            .granted(alloc, caller, Permission::ListArtifacts)?
+            .in_realm(last)
+    );
     Ok(())
 }
 
 fn read_chain(rt: &impl Abort, alloc: Global, text: &str, last: &Realm) -> Result<(), Fail> {
-    match Policy::from_toml(alloc, text.as_bytes()) {
-        Ok(policy) => is_read(rt, &policy, last),
+    match from_toml(alloc, text.as_bytes()) {
+        Ok(policy) => is_read(rt, alloc, &policy, last),
         Err(_) => Err(Fail::from("refused")),
     }
 }
@@ -145,7 +157,7 @@ fn a_long_chain_is_read(rt: HostRuntime) -> Result<(), Fail> {
 
 /// The count of what is too much in a configuration.
 fn count_of(alloc: Global, text: &[u8]) -> Option<usize> {
-    match Policy::from_toml(alloc, text) {
+    match from_toml(alloc, text) {
         Err(PolicyFault::TooMany { count }) => Some(count),
         _ => None,
     }

@@ -7,7 +7,7 @@ use Rattle.outside.specs.declared.whole.WriteEnd.{WriteEnd}
 use Rattle.outside.specs.declared.whole.WriteEnd.TheVariants as write_ends
 use Rattle.fault_counts.specs.Causes.{Rose}
 use Rattle.policy_tables.specs.declared.tables.PolicyTables.{PolicyTables}
-use Rattle.permissions.specs.Faults.{IsPolicyOf, IsFirstFault}
+use Rattle.policy_reading.specs.Reading.{IsPolicyOf, IsFirstFault}
 use Rattle.permissions.specs.declared.faults.PolicyFault.{PolicyFault}
 use Rattle.invocation_world.specs.World.{empty_world}
 use Rattle.service_core.specs.CoreState.{CoreState}

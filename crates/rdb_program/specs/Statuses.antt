@@ -4,7 +4,7 @@ use Rattle.fault_counts.specs.Causes.{Rose}
 use Rattle.outside.specs.Bytes.{Took, IsEnd}
 use Rattle.outside.specs.Ends.{Ends}
 use Rattle.policy_tables.specs.declared.tables.PolicyTables.{PolicyTables}
-use Rattle.permissions.specs.Faults.{IsPolicyOf, IsFirstFault}
+use Rattle.policy_reading.specs.Reading.{IsPolicyOf, IsFirstFault}
 use Rattle.permissions.specs.declared.faults.PolicyFault.{PolicyFault}
 use Rattle.http_wire.specs.Stream.{Framed}
 use Rattle.http_wire.specs.declared.message.End.{End}

@@ -13,6 +13,7 @@ use crate::ending::Ending;
 use http_wire::Wire;
 use outside::{Clock, Link, PairLink, Sink, Source, put_whole, write_whole};
 use permissions::{Policy, PolicyFault};
+use policy_reading::from_toml;
 use program_words::{Command, WordFault, help_text, read_words, version_text};
 use record_desk::CoreTeller;
 use service_core::Core;
@@ -40,7 +41,7 @@ fn read_policy<I: Source>(alloc: Global, config: &mut I) -> Result<Policy, Endin
         Err(ReadEnd::Failed) => return Err(Ending::ConfigFault),
         Err(ReadEnd::Memory) => return Err(Ending::Unstarted),
     };
-    match Policy::from_toml(alloc, text.as_slice()) {
+    match from_toml(alloc, text.as_slice()) {
         Ok(policy) => Ok(policy),
         Err(PolicyFault::Memory) => Err(Ending::Unstarted),
         Err(fault) => Err(Ending::ConfigRefused(fault)),

@@ -4,6 +4,7 @@ use call_forms::{Asked, Told};
 use lists::Bytes;
 use outside::ListClock;
 use permissions::Policy;
+use policy_reading::from_toml;
 use service_core::Core;
 use std::alloc::{AllocError, Global};
 use std::test::Fail;
@@ -41,7 +42,7 @@ fn status(told: &Told) -> u16 {
 }
 
 fn core_of(alloc: Global, config: &str) -> Result<Core, Fail> {
-    match Policy::from_toml(alloc, config.as_bytes()) {
+    match from_toml(alloc, config.as_bytes()) {
         Ok(policy) => Ok(Core::new(alloc, policy)?),
         Err(_) => Err(Fail::from("the configuration has a fault")),
     }

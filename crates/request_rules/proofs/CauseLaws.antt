@@ -6,7 +6,7 @@ use Rattle.std.proofs.lemmas.Option.{same_Some}
 use Rattle.hex.specs.Hex.{decode_of}
 use Rattle.hex.specs.declared.error.FromHexError.{FromHexError}
 use Rattle.policy_tables.specs.declared.tables.PolicyTables.{PolicyTables}
-use Rattle.permissions.specs.Hash.{token_text}
+use Rattle.update_tokens.specs.Hash.{token_text}
 use Rattle.call_forms.specs.declared.asked.Asked.{Asked}
 use Rattle.request_rules.specs.declared.reading.TokenCheck.TheVariants.{New, Wrong}
 use Rattle.request_rules.specs.Settings.{Settings, secret_of}

@@ -6,7 +6,7 @@ use Rattle.names_realms.specs.declared.states.State.TheVariants.{Active}
 use Rattle.policy_tables.specs.declared.tables.PolicyTables.{PolicyTables}
 use Rattle.policy_checks.specs.Permissions.{permission_text}
 use Rattle.permissions.specs.Allows.{Allows}
-use Rattle.permissions.specs.Hash.{token_text}
+use Rattle.update_tokens.specs.Hash.{token_text}
 use Rattle.invocations.specs.declared.invocation.Invocation.{Invocation}
 use Rattle.call_forms.specs.declared.asked.Asked.{Asked}
 use Rattle.call_forms.specs.declared.forms.Refusal.{Refusal}

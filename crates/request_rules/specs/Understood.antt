@@ -1,6 +1,6 @@
 -- What a request says by itself, whatever the world and the moment.
 use Rattle.std.specs.Prelude.{◌≡◌, ◌≢◌, ℕ, List, Option, Some, None}
-use Rattle.permissions.specs.Hash.{token_text}
+use Rattle.update_tokens.specs.Hash.{token_text}
 use Rattle.call_forms.specs.declared.asked.Asked.{Asked}
 use Rattle.call_forms.specs.declared.forms.Refusal.{Refusal}
 use Rattle.call_forms.specs.Rules.{refusal_answer}

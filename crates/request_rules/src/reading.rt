@@ -10,7 +10,8 @@ use crate::refusals::{bad_body, no_caller, no_method};
 use call_forms::{Answer, Asked};
 use message_forms::{Method, Request, read_request};
 use names_realms::InvocationId;
-use permissions::{CallerId, Policy, token_is, update_token};
+use permissions::{CallerId, Policy};
+use update_tokens::{token_is, update_token};
 use std::alloc::{AllocError, Global};
 
 /// What the update token of a request comes to.

@@ -3,6 +3,7 @@ use crate::Core;
 use call_forms::{Asked, Told};
 use lists::Bytes;
 use permissions::Policy;
+use policy_reading::from_toml;
 use std::alloc::{AllocError, Global};
 use std::process::Abort;
 use std::test::Fail;
@@ -83,7 +84,7 @@ fn asked(alloc: Global, service: &str, method: &str, body: &str) -> Result<Asked
 }
 
 fn core_of(alloc: Global, config: &str) -> Result<Core, Fail> {
-    match Policy::from_toml(alloc, config.as_bytes()) {
+    match from_toml(alloc, config.as_bytes()) {
         Ok(policy) => Ok(Core::new(alloc, policy)?),
         Err(_) => Err(Fail::from("the configuration has a fault")),
     }

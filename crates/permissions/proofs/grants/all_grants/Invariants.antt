@@ -1,5 +1,5 @@
 use Rattle.permissions.specs.Grants.{AreGrants}
 use Rattle.permissions.proofs.grants.all_grants.Given as goal
 
-abbrev pub invariant-loop-realm : goal.invariant-loop-realm
-invariant-loop-realm l = AreGrants l.book l.realms l.realm-index l.grants.items
+abbrev pub invariant-loop-place : goal.invariant-loop-place
+invariant-loop-place l = AreGrants l.book l.places l.place-index l.grants.items

@@ -1,4 +1,4 @@
-use Rattle.std.proofs.Common.{rules, ◌≡◌, nat_cmp, ap, ◌∙◌}
+use Rattle.std.proofs.Common.{rules, ◌≡◌, nat_cmp}
 use Rattle.std.specs.Prelude.{unwrap_or}
 use Rattle.std.specs.BTreeMap.{get}
 use Rattle.permissions.proofs.GrantLemmas.{user_more}

@@ -1,4 +1,4 @@
-use Rattle.std.proofs.Common.{◌≡◌, get_or, ap, ◌∙◌, arith}
+use Rattle.std.proofs.Common.{arith}
 use Rattle.permissions.specs.Allows.{gives}
 use Rattle.permissions.specs.Grants.{granted}
 use Rattle.permissions.specs.Masks.{has_bit}

@@ -1,4 +1,4 @@
-use Rattle.std.proofs.Common.{length, sym, arith, ap, ◌∙◌}
+use Rattle.std.proofs.Common.{sym, arith, ap, ◌∙◌}
 use Rattle.std.proofs.lemmas.List.{length-map}
 use Rattle.policy_checks.specs.Checks.{realm_names}
 use Rattle.policy_checks.specs.Index.{place_of}

@@ -1,0 +1,11 @@
+use Rattle.std.proofs.Common.{ap, ◌∙◌}
+use Rattle.policy_checks.specs.Checks.{is_hex_text}
+use Rattle.permissions.proofs.FaultLemmas.{secret_is_hex, few_realms}
+use Rattle.permissions.proofs.policy.Policy.new.Goals as goal
+
+pub read_secret-requires : goal.read_secret-requires
+read_secret-requires c =
+    ap is_hex_text (c.as_slice.ensures ∙ ap (λ t. t.secret) c.tables.ensures) ∙ secret_is_hex c.args.book c.requires.sound.texts
+
+pub ranked_rights-requires-clause-few : goal.ranked_rights-requires-clause-few
+ranked_rights-requires-clause-few c = few_realms c.args.book c.requires.sound.texts

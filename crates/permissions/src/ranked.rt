@@ -1,0 +1,207 @@
+//! What realms grant, by their ranks, and what is asked of it.
+//!
+//! A chain of tens of thousands of realms, each with bindings of its own, has rows of permissions
+//! that no memory holds. So each realm keeps its own grants alone. An ask for one realm goes down
+//! over the ranks from its own, and looks at those that it reaches. An ask for all realms goes up
+//! over the ranks once.
+ghost use Rattle.std.specs.Prelude.{◌≡◌, ◌<◌, ◌≤◌, ◌↔◌, ◌==◌, ◌||◌, ℕ, true, false, IfOk, length, unwrap_or};
+ghost use Rattle.std.specs.List.{list_any};
+ghost use Rattle.std.specs.Ordering.{nat_cmp};
+ghost use Rattle.std.specs.BTreeMap.{get};
+ghost use Rattle.permissions.specs.Graph.{has};
+ghost use Rattle.permissions.specs.Ranks.{IsFalling, IsBoundOn};
+ghost use Rattle.permissions.specs.Rights.{is_marked, AreGroupsOf, gives_user, grants_user, binds_user};
+
+use crate::grants::{Grants, GroupGrant};
+use crate::graph::edges_of;
+use crate::masks::is_in;
+use crate::members::{Members, has_member};
+use policy_checks::Permission;
+use policy_tables::Listed;
+use std::alloc::{AllocError, Global};
+
+/// By rank the ranks of the realms that each extends, and the grants of each; by their places the
+/// members of the groups.
+#[derive(Drop)]
+pub(crate) struct Ranked {
+    pub(crate) rows: Vec<Listed<usize>>,
+    pub(crate) grants: Vec<Grants>,
+    pub(crate) members: Vec<Members>,
+}
+
+/// What is asked: whether a user has a permission.
+#[derive(Clone, Copy, Debug)]
+pub(crate) struct Ask {
+    pub(crate) user: usize,
+    pub(crate) permission: Permission,
+}
+
+/// The bits of a user.
+fn user_mask(grants: &Grants, user: usize) -> u16
+    ensures { result ≡ unwrap_or (get nat_cmp grants.now.users user) 0 }
+{
+    grants.users.get(&user).copied().unwrap_or(0)
+}
+
+/// Whether a place is marked.
+pub(crate) fn mark_at(marks: &[bool], place: usize) -> bool
+    ensures { result ≡ is_marked marks.now place }
+{
+    match marks.get(place) {
+        Some(mark) => *mark,
+        None => false,
+    }
+}
+
+/// Whether one of these places is marked.
+fn is_one_marked(marks: &[bool], places: &[usize]) -> bool
+    ensures { result ≡ list_any (is_marked marks.now) places.now }
+{
+    places.iter().any(|place| mark_at(marks, *place))
+}
+
+/// No place marked.
+fn no_marks<const N: usize>() -> [bool; N]
+    ensures { (q : ℕ) → is_marked result q ≡ false }
+{
+    [false; N]
+}
+
+/// Marks places.
+fn mark_all(marks: &mut [bool], places: &[usize])
+    ensures len { length marks.new ≡ length marks.old }
+    ensures marks { (q : ℕ) → q < length marks.old
+        → is_marked marks.new q ≡ (is_marked marks.old q || has q places.now) }
+{
+    for place in places {
+        if *place < marks.len() {
+            marks[*place] = true;
+        }
+    }
+}
+
+impl Ranked {
+    /// Whether a grant to a group gives what is asked.
+    fn group_gives(&self, grant: GroupGrant, ask: Ask) -> bool
+        ensures { result ≡ gives_user self.now.members.items ask.user ask.permission grant }
+    {
+        has_member(self.members.as_slice(), grant.group, ask.user)
+            && is_in(grant.mask, ask.permission)
+    }
+
+    /// Whether one of these grants gives what is asked.
+    fn any_gives(&self, grants: &[GroupGrant], ask: Ask) -> bool
+        ensures { result
+            ≡ list_any (gives_user self.now.members.items ask.user ask.permission) grants.now }
+    {
+        for grant in grants {
+            if self.group_gives(*grant, ask) {
+                return true;
+            }
+        }
+        false
+    }
+
+    /// Whether the grants at a rank give what is asked.
+    fn binds_at(&self, rank: usize, ask: Ask) -> bool
+        ensures { result ≡ binds_user self.now ask.user ask.permission rank }
+    {
+        match self.grants.as_slice().get(rank) {
+            Some(grants) => is_in(user_mask(grants, ask.user), ask.permission)
+                || self.any_gives(grants.groups.as_slice(), ask),
+            None => false,
+        }
+    }
+
+    /// Whether a rank, or one that it leads to, gives what is asked: each marked rank from this one
+    /// down is looked at, and marks those that it leads to, which are lesser.
+    fn walk(&self, marks: &mut [bool], start: usize, ask: Ask) -> bool
+        requires falling { IsFalling self.now.rows.items }
+        requires marks { (q : ℕ) → is_marked marks.old q ≡ (start == q) }
+        requires start { start < length marks.old }
+        ensures { (result ≡ true) ↔ IsBoundOn self.now.rows.items
+            (binds_user self.now ask.user ask.permission) start }
+    {
+        let mut left = start + 1;
+        while left > 0 {
+            left -= 1;
+            if marks[left] {
+                if self.binds_at(left, ask) {
+                    return true;
+                }
+                mark_all(marks, edges_of(self.rows.as_slice(), left));
+            }
+        }
+        false
+    }
+
+    /// Whether a rank, or one that it leads to, gives what is asked.
+    pub(crate) fn binds_from(&self, start: usize, ask: Ask) -> bool
+        requires falling { IsFalling self.now.rows.items }
+        requires start { start < 65536 }
+        ensures { (result ≡ true) ↔ IsBoundOn self.now.rows.items
+            (binds_user self.now ask.user ask.permission) start }
+    {
+        if edges_of(self.rows.as_slice(), start).is_empty() {
+            return self.binds_at(start, ask);
+        }
+        let mut marks: [bool; 65_536] = no_marks();
+        marks[start] = true;
+        self.walk(&mut marks, start, ask)
+    }
+
+    /// Which groups have a user as a member.
+    fn groups_of(&self, alloc: Global, user: usize) -> Result<Vec<bool>, AllocError>
+        ensures { IfOk result (λ marks. AreGroupsOf self.now.members.items user marks.items) }
+    {
+        let mut marks = Vec::new(alloc);
+        for members in self.members.as_slice() {
+            marks.push(members.places.contains(&user))?;
+        }
+        Ok(marks)
+    }
+
+    /// Whether one of these grants gives what is asked, where the groups of the user are marked.
+    fn any_marked(&self, groups: &[bool], grants: &[GroupGrant], ask: Ask) -> bool
+        requires { AreGroupsOf self.now.members.items ask.user groups.now }
+        ensures { result
+            ≡ list_any (gives_user self.now.members.items ask.user ask.permission) grants.now }
+    {
+        for grant in grants {
+            if mark_at(groups, grant.group) && is_in(grant.mask, ask.permission) {
+                return true;
+            }
+        }
+        false
+    }
+
+    /// Whether grants give what is asked, where the groups of the user are marked.
+    fn gives(&self, groups: &[bool], grants: &Grants, ask: Ask) -> bool
+        requires { AreGroupsOf self.now.members.items ask.user groups.now }
+        ensures { result
+            ≡ grants_user self.now.members.items ask.user ask.permission grants.now }
+    {
+        is_in(user_mask(grants, ask.user), ask.permission)
+            || self.any_marked(groups, grants.groups.as_slice(), ask)
+    }
+
+    /// Which ranks give what is asked, or lead to one that does. One pass: what a rank leads to
+    /// comes before it.
+    pub(crate) fn bound_ranks(&self, alloc: Global, ask: Ask) -> Result<Vec<bool>, AllocError>
+        requires { IsFalling self.now.rows.items }
+        ensures { IfOk result
+            (λ marks. (rank : ℕ) → rank < length self.now.grants.items
+            → (is_marked marks.items rank ≡ true) ↔ IsBoundOn self.now.rows.items
+            (binds_user self.now ask.user ask.permission) rank) }
+    {
+        let groups = self.groups_of(alloc, ask.user)?;
+        let groups = groups.as_slice();
+        let rows = self.rows.as_slice();
+        let mut marks = Vec::new(alloc);
+        for (rank, grants) in self.grants.as_slice().iter().enumerate() {
+            let below = is_one_marked(marks.as_slice(), edges_of(rows, rank));
+            marks.push(below || self.gives(groups, grants, ask))?;
+        }
+        Ok(marks)
+    }
+}

@@ -1,0 +1,4 @@
+pub mod CycleLemmas
+pub mod OrderFacts
+pub mod OrderLemmas
+pub mod SearchLemmas

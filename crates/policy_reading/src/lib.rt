@@ -1,0 +1,12 @@
+//! The policy of a configuration, read from its text, or the configuration's first fault.
+#![tactic(auto)]
+
+mod components;
+mod cycle;
+mod graph;
+mod order;
+mod reading;
+mod stages;
+
+pub use permissions::PolicyFault;
+pub use reading::from_toml;
