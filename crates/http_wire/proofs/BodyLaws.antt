@@ -1,5 +1,5 @@
 -- A body that is filled read by read.
-use Rattle.std.proofs.Common.{◌≡◌, ◌≢◌, ℕ, ◌+◌, ◌-◌, ◌<◌, ◌≤◌, List, [], ◌++◌, length, take, drop, Option, Result, Ok, Err, refl, sym, ap, ◌∙◌, subst, arith, append-nil, append_assoc, length-append, length-take, length-drop}
+use Rattle.std.proofs.Common.{◌≡◌, ◌≢◌, ℕ, ◌+◌, ◌-◌, ◌<◌, ◌≤◌, List, [], ◌++◌, length, take, drop, Result, Ok, Err, refl, sym, ap, ◌∙◌, subst, arith, append-nil, append_assoc, length-append, length-take, length-drop}
 use Rattle.std.proofs.lemmas.List.{take-append-drop, take-take, drop-take, drop-drop, drop_all, take_all, take-append-le}
 use Rattle.std.specs.Prelude.{slice_range}
 use Rattle.std.specs.Global.{Vec}
@@ -8,7 +8,7 @@ use Rattle.outside.specs.Ends.{Incoming}
 use Rattle.outside.proofs.Taken.{gave_both, gave_nothing}
 use Rattle.http_wire.specs.Held.{CountsRead}
 use Rattle.fault_counts.specs.Causes.{counted as count_up}
-use Rattle.http_wire.specs.Reads.{ReadsAt, FillsBody, TakesBody, IsFillAnswer, IsBodyAnswer}
+use Rattle.http_wire.specs.Reads.{ReadsAt, FillsBody, TakesBody}
 use Rattle.http_wire.specs.declared.message.WireFault.{WireFault}
 use Rattle.http_wire.specs.declared.message.WireFault.TheVariants.{CutShort, ReadFault, Memory}
 use Rattle.http_wire.proofs.EndLaws.{some_read, none_read}

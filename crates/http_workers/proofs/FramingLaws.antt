@@ -3,19 +3,21 @@ use Rattle.std.proofs.Common.{◌≡◌, ◌⊎◌, ℕ, ◌+◌, inl, inr, true
 use Rattle.std.specs.Bool.{MatchBool}
 use Rattle.outside.specs.Bytes.{Gave, IsEnd}
 use Rattle.outside.specs.Ends.{Ends}
-use Rattle.record_desk.specs.Exchange.{Exchange}
+use Rattle.tellers.specs.Exchange.{Exchange}
 use Rattle.http_wire.specs.Stream.{IsMessage, HasEnd, Framed, FramedFrom, Spells, StayOpen, closes}
 use Rattle.http_wire.specs.declared.message.End.{End}
 use Rattle.http_wire.specs.declared.message.End.TheVariants as stream_ends
 use Rattle.http_wire.specs.declared.message.Message.{Message}
 use Rattle.http_wire.specs.declared.message.WireFault.TheVariants as faults
 use Rattle.http_wire.proofs.StreamLaws.{spells_then_framed, reading_of_rest, fault_goes_on, no_message_at_end, same_messages}
-use Rattle.rdb_program.specs.Turns.{messages_of, OthersStay, LastCloses}
-use Rattle.rdb_program.specs.Causes.{row_of, ReachesEnd, NothingLeft, IsRest, AreOpen}
-use Rattle.rdb_program.specs.Connection.{Connection}
-use Rattle.rdb_program.specs.Framing.{Served, AreFirst, AreMessages}
-use Rattle.rdb_program.specs.declared.ending.Cause.{Cause}
-use Rattle.rdb_program.specs.declared.ending.Cause.TheVariants as causes
+use Rattle.http_workers.specs.Turns.{Turn, messages_of, OthersStay, LastCloses}
+use Rattle.http_workers.specs.Causes.{row_of, ReachesEnd, NothingLeft, IsRest}
+use Rattle.http_workers.specs.Connection.{IsLast, Connection}
+use Rattle.http_workers.specs.Ended.{ServesLink}
+use Rattle.http_workers.specs.declared.ended.Ended.{Ended}
+use Rattle.http_workers.specs.Framing.{Served, AreFirst, AreMessages}
+use Rattle.http_workers.specs.declared.ended.Cause.{Cause}
+use Rattle.http_workers.specs.declared.ended.Cause.TheVariants as causes
 
 -- ---- the end that was reached
 
@@ -106,41 +108,42 @@ others_first ms text rest spelled o =
 
 -- ---- by the cause
 
-messages_by : (cause : Cause) (ms : List Message) (text rest left : List ℕ) → Spells ms text → AreOpen cause ms → IsRest cause rest (Some left)
-    → AreMessages (row_of cause).end ms (text ++ (rest ++ left))
-messages_by causes.End ms text rest left spelled stay is =
-    framed_by ms text (rest ++ left) stream_ends.Finished spelled stay (end_of_rest stream_ends.Finished rest left is)
-messages_by (causes.Wire fault) ms text rest left spelled stay is =
-    framed_by ms text (rest ++ left) (stream_ends.Fault fault) spelled stay (end_of_rest (stream_ends.Fault fault) rest left is)
-messages_by causes.Closed ms text rest left spelled stay is =
+messages_by : (cause : Cause) (turns : List Turn) (text rest left earlier last : List ℕ) → Spells (messages_of turns) text → IsLast cause turns earlier last
+    → IsRest cause rest (Some left) → AreMessages (row_of cause).end (messages_of turns) (text ++ (rest ++ left))
+messages_by causes.End turns text rest left earlier last spelled how is =
+    framed_by (messages_of turns) text (rest ++ left) stream_ends.Finished spelled how.0 (end_of_rest stream_ends.Finished rest left is)
+messages_by (causes.Wire fault) turns text rest left earlier last spelled how is =
+    framed_by (messages_of turns) text (rest ++ left) (stream_ends.Fault fault) spelled how.0 (end_of_rest (stream_ends.Fault fault) rest left is)
+messages_by causes.Closed turns text rest left earlier last spelled how is =
+    let stay = how.0 in
     subst (λ (all : List Message). Framed (text ++ (rest ++ left)) all stream_ends.Closed) (sym stay.parts)
     (framed_closed stay.others stay.last text (rest ++ left)
     (parted stay.others stay.last text (subst (λ (all : List Message). Spells all text) stay.parts spelled)) stay.stay stay.closing)
-messages_by causes.ReadFault ms text rest left spelled stay is = are_first ms text (rest ++ left) spelled stay
-messages_by causes.Memory ms text rest left spelled stay is = are_first ms text (rest ++ left) spelled stay
-messages_by causes.WriteFault ms text rest left spelled stay is = others_first ms text (rest ++ left) spelled stay
-messages_by causes.SinkTakesNothing ms text rest left spelled (inl stay) is = are_first ms text (rest ++ left) spelled stay
-messages_by causes.SinkTakesNothing ms text rest left spelled (inr stay) is = others_first ms text (rest ++ left) spelled stay
+messages_by causes.ReadFault turns text rest left earlier last spelled how is = are_first (messages_of turns) text (rest ++ left) spelled how.0
+messages_by causes.Memory turns text rest left earlier last spelled how is = are_first (messages_of turns) text (rest ++ left) spelled how.0
+messages_by causes.WriteFault turns text rest left earlier last spelled how is = others_first (messages_of turns) text (rest ++ left) spelled how.0
+messages_by causes.SinkTakesNothing turns text rest left earlier last spelled (inl how) is = others_first (messages_of turns) text (rest ++ left) spelled how.0
+messages_by causes.SinkTakesNothing turns text rest left earlier last spelled (inr how) is = are_first (messages_of turns) text (rest ++ left) spelled how.0
 
-framed_of : (cause : Cause) (ms : List Message) (stream text rest : List ℕ) (after : Option (List ℕ)) → Gave (Some stream) (text ++ rest) after
-    → Spells ms text → AreOpen cause ms → IsRest cause rest after → AreMessages (row_of cause).end ms stream
-framed_of cause ms stream text rest after gave spelled stay is =
-    subst (λ (t : List ℕ). AreMessages (row_of cause).end ms t) (sym (gave.2 ∙ append_assoc text rest gave.0))
-    (messages_by cause ms text rest gave.0 spelled stay (subst (IsRest cause rest) gave.1 is))
+framed_of : (cause : Cause) (turns : List Turn) (stream text rest earlier last : List ℕ) (after : Option (List ℕ)) → Gave (Some stream) (text ++ rest) after
+    → Spells (messages_of turns) text → IsLast cause turns earlier last → IsRest cause rest after → AreMessages (row_of cause).end (messages_of turns) stream
+framed_of cause turns stream text rest earlier last after gave spelled how is =
+    subst (λ (t : List ℕ). AreMessages (row_of cause).end (messages_of turns) t) (sym (gave.2 ∙ append_assoc text rest gave.0))
+    (messages_by cause turns text rest gave.0 earlier last spelled how (subst (IsRest cause rest) gave.1 is))
 
-pub served : (asked : List Exchange → Type 0) (before : Ends) (cause : Cause) (after : Ends) → Connection asked before cause after
-    → Served asked before cause after
-served asked before cause after c = record {
+pub served : (asked : List Exchange → Type 0) (before : Ends) (calls : ℕ) (cause : Cause) (after : Ends) → Connection asked before calls cause after
+    → Served asked before calls cause after
+served asked before calls cause after c = record {
   connection = c;
   framed = λ stream told.
-      framed_of cause (messages_of c.turns) stream c.text c.rest after.incoming.left
-      (subst (λ (o : Option (List ℕ)). Gave o (c.text ++ c.rest) after.incoming.left) told c.read) c.spelled c.stay c.rest_is;
+      framed_of cause c.turns stream c.text c.rest c.earlier c.last after.incoming.left
+      (subst (λ (o : Option (List ℕ)). Gave o (c.text ++ c.rest) after.incoming.left) told c.read) c.spelled c.last_is c.rest_is;
 }
 
 -- what was asked, said in other words
-pub asked_so : (asked asked' : List Exchange → Type 0) (before : Ends) (cause : Cause) (after : Ends)
-    → ((es : List Exchange) → asked es → asked' es) → Connection asked before cause after → Connection asked' before cause after
-asked_so asked asked' before cause after so c = record {
+connection_so : (asked asked' : List Exchange → Type 0) (before : Ends) (calls : ℕ) (cause : Cause) (after : Ends)
+    → ((es : List Exchange) → asked es → asked' es) → Connection asked before calls cause after → Connection asked' before calls cause after
+connection_so asked asked' before calls cause after so c = record {
   turns = c.turns;
   text = c.text;
   rest = c.rest;
@@ -149,12 +152,24 @@ asked_so asked asked' before cause after so c = record {
   result = c.result;
   read = c.read;
   spelled = c.spelled;
-  stay = c.stay;
   told = so _ c.told;
+  counted = c.counted;
   few = c.few;
   sent = c.sent;
   last_is = c.last_is;
   last_write = c.last_write;
   rest_is = c.rest_is;
   reads = c.reads;
+  ends = c.ends;
 }
+
+pub asked_so : (asked asked' : List Exchange → Type 0) (before : Ends) (ended : Ended) (after : Ends)
+    → ((es : List Exchange) → asked es → asked' es) → ServesLink asked before ended after → ServesLink asked' before ended after
+asked_so asked asked' before ended after so (inl unbegun) = inl (record {
+  no_calls = unbegun.no_calls;
+  cause_is = unbegun.cause_is;
+  told = so [] unbegun.told;
+  untouched = unbegun.untouched;
+})
+asked_so asked asked' before ended after so (inr s) =
+    inr (served asked' before ended.calls ended.cause after (connection_so asked asked' before ended.calls ended.cause after so s.connection))

@@ -3,16 +3,17 @@ ghost use Rattle.std.specs.Prelude.{◌≡◌, List, [], ◌∷◌, ◌++◌, tr
 ghost use Rattle.outside.specs.Ends.{OnlyWrites};
 ghost use Rattle.outside.specs.Whole.{WritesWhole};
 ghost use Rattle.call_forms.specs.ReplyBytes.{told_bytes};
-ghost use Rattle.record_desk.specs.Exchange.{Exchange};
-ghost use Rattle.rdb_program.specs.Connection.{Answers, Connection};
-ghost use Rattle.rdb_program.specs.Closing.{Closes, LeavesWire};
+ghost use Rattle.tellers.specs.Exchange.{Exchange};
+ghost use Rattle.http_workers.specs.Connection.{Answers, Connection};
+ghost use Rattle.http_workers.specs.Closing.{Closes, LeavesWire};
+ghost use Rattle.http_workers.specs.Ended.{ServesLink};
 
-use crate::ending::Cause;
+use crate::ended::{Cause, Ended};
 use call_forms::{Standin, Told};
 use http_wire::{Message, Wire, WireFault, closes, write_farewell, write_response, write_standin};
 use outside::{Link, WriteEnd};
-use record_desk::Teller;
 use std::alloc::Global;
+use tellers::Teller;
 
 fn write_told<L: Link>(link: &mut L, told: &Told, close: bool) -> Result<(), WriteEnd>
     ensures written { WritesWhole (L.ends link.old).outgoing (told_bytes told.now close) result
@@ -77,21 +78,21 @@ fn close_after<L: Link>(link: &mut L, fault: WireFault) -> Cause
     }
 }
 
-/// Answers message after message until the input ends, something fails, or the reply that closes
-/// the connection went out.
-pub fn serve_connection<T: Teller, L: Link>(
+/// Answers message after message by a wire that is new, until the input ends, something fails, or the
+/// reply that closes the connection went out.
+fn serve_messages<T: Teller, L: Link>(
     alloc: Global,
     teller: &mut T,
     wire: &mut Wire,
     link: &mut L,
-) -> Cause
+) -> Ended
     requires held { wire.old.held ≡ [] }
     requires is_open { wire.old.is_open ≡ true }
     ensures connection { Connection
         (λ exchanges. (first : T) (before : List Exchange) → T.stands first teller.old before
         → T.stands first teller.new (before ++ exchanges))
-        (L.ends link.old) result (L.ends link.new) }
-    ensures wire { LeavesWire result wire.new.is_open }
+        (L.ends link.old) result.calls result.cause (L.ends link.new) }
+    ensures wire { LeavesWire result.cause wire.new.is_open }
     ensures teller_holds { T.holds teller.new ≡ T.holds teller.old }
     ensures link_holds { L.holds link.new ≡ L.holds link.old }
 {
@@ -101,15 +102,44 @@ pub fn serve_connection<T: Teller, L: Link>(
             Ok(Some(message)) => {
                 let close = closes(answered, message.close);
                 if let Err(end) = answer_message(teller, link, &message, close) {
-                    return Cause::from(end);
-                }
-                if close {
-                    return Cause::Closed;
+                    return ended(answered + 1, Cause::from(end));
                 }
                 answered += 1;
+                if close {
+                    return ended(answered, Cause::Closed);
+                }
             }
-            Ok(None) => return Cause::End,
-            Err(fault) => return close_after(link, fault),
+            Ok(None) => return ended(answered, Cause::End),
+            Err(fault) => return ended(answered, close_after(link, fault)),
         }
+    }
+}
+
+fn ended(calls: usize, cause: Cause) -> Ended
+    ensures calls { result.calls ≡ calls }
+    ensures cause { result.cause ≡ cause }
+{
+    Ended {
+        calls: calls as u64,
+        cause,
+    }
+}
+
+/// Serves one connection: answers message after message until the input ends, something fails, or the
+/// reply that closes the connection went out.
+///
+/// A fault of the stream gets a farewell, unless the stream ended inside a message. For want of memory
+/// a stand-in closes the connection; where there is none to begin with, nothing is read or written.
+pub fn serve_connection<T: Teller, L: Link>(alloc: Global, teller: &mut T, link: &mut L) -> Ended
+    ensures serves { ServesLink
+        (λ exchanges. (first : T) (before : List Exchange) → T.stands first teller.old before
+        → T.stands first teller.new (before ++ exchanges))
+        (L.ends link.old) result (L.ends link.new) }
+    ensures teller_holds { T.holds teller.new ≡ T.holds teller.old }
+    ensures link_holds { L.holds link.new ≡ L.holds link.old }
+{
+    match Wire::new(alloc) {
+        Ok(mut wire) => serve_messages(alloc, teller, &mut wire, link),
+        Err(_) => ended(0, Cause::Memory),
     }
 }

@@ -1,5 +1,5 @@
-use Rattle.rdb_program.proofs.ClosingLaws.{closes_cut, closes_unread, closes_told}
-use Rattle.rdb_program.proofs.connection.close_after.Goals as goal
+use Rattle.http_workers.proofs.ClosingLaws.{closes_cut, closes_unread, closes_told}
+use Rattle.http_workers.proofs.connection.close_after.Goals as goal
 
 pub returns-in-CutShort-clause-closes : goal.returns-in-CutShort-clause-closes
 returns-in-CutShort-clause-closes g c = closes_cut c.args.fault c.in-CutShort.have _ c.in-CutShort.is

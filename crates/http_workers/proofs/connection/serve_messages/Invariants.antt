@@ -1,8 +1,8 @@
 use Rattle.std.proofs.Common.{◌≡◌, ◌<◌, ◌-◌, List, ◌++◌}
-use Rattle.record_desk.specs.Exchange.{Exchange}
+use Rattle.tellers.specs.Exchange.{Exchange}
 use Rattle.http_wire.specs.Stream.{reply_limit}
-use Rattle.rdb_program.proofs.Serving.{Serving}
-use Rattle.rdb_program.proofs.connection.serve_connection.Given as goal
+use Rattle.http_workers.proofs.Serving.{Serving}
+use Rattle.http_workers.proofs.connection.serve_messages.Given as goal
 
 abbrev pub invariant-messages : goal.invariant-messages
 invariant-messages g l = record {

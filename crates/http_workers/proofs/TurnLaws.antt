@@ -2,7 +2,7 @@
 use Rattle.std.proofs.Common.{◌≡◌, ℕ, ◌+◌, Bool, List, [], ◌∷◌, ◌++◌, length, refl, sym, ap, ◌∙◌, append_assoc, append-nil, arith}
 use Rattle.call_forms.specs.ReplyBytes.{told_bytes}
 use Rattle.http_wire.specs.Stream.{closes}
-use Rattle.rdb_program.specs.Turns.{Turn, replies_from, replies}
+use Rattle.http_workers.specs.Turns.{Turn, replies_from, replies}
 
 -- the reply of a turn, before which there were so many
 abbrev pub reply_of : ℕ → Turn → List ℕ

@@ -9,7 +9,7 @@ use Rattle.outside.specs.declared.whole.WriteEnd.{WriteEnd}
 use Rattle.outside.specs.declared.whole.WriteEnd.TheVariants as write_ends
 use Rattle.outside.proofs.Taken.{gave_nothing, gave_both, took_nothing, took_both}
 use Rattle.call_forms.specs.declared.forms.Told.{Told}
-use Rattle.record_desk.specs.Exchange.{Exchange}
+use Rattle.tellers.specs.Exchange.{Exchange}
 use Rattle.http_wire.specs.Head.{head_limit}
 use Rattle.http_wire.specs.WireState.{WireState}
 use Rattle.http_wire.specs.Held.{Reading}
@@ -18,14 +18,14 @@ use Rattle.http_wire.specs.declared.message.Message.{Message}
 use Rattle.http_wire.specs.declared.message.WireFault.{WireFault}
 use Rattle.http_wire.specs.declared.message.WireFault.TheVariants as faults
 use Rattle.http_wire.proofs.StreamLaws.{spells_more, stay_more}
-use Rattle.rdb_program.specs.Turns.{Turn, messages_of, exchange_in, exchanges_of, OthersStay, LastCloses, replies}
-use Rattle.fault_counts.specs.Causes.{Rose}
-use Rattle.rdb_program.specs.Causes.{cause_of, row_of, closing_standin, IsLastWrite, CountsReads, IsRest, AreOpen}
-use Rattle.rdb_program.specs.Closing.{Closes, ClosesBy, WroteNothing}
-use Rattle.rdb_program.specs.Connection.{Sent, IsLastReply, IsLast, Connection, Answers}
-use Rattle.rdb_program.specs.declared.ending.Cause.{Cause}
-use Rattle.rdb_program.specs.declared.ending.Cause.TheVariants as causes
-use Rattle.rdb_program.proofs.TurnLaws.{reply_of, replies_more}
+use Rattle.http_workers.specs.Turns.{Turn, messages_of, exchange_in, exchanges_of, OthersStay, LastCloses, replies}
+use Rattle.fault_counts.specs.Causes.{Rose, counted}
+use Rattle.http_workers.specs.Causes.{cause_of, row_of, closing_standin, IsLastWrite, CountsReads, CountsEnds, IsRest}
+use Rattle.http_workers.specs.Closing.{Closes, ClosesBy, WroteNothing}
+use Rattle.http_workers.specs.Connection.{Sent, IsLastReply, IsLast, Connection, Answers}
+use Rattle.http_workers.specs.declared.ended.Cause.{Cause}
+use Rattle.http_workers.specs.declared.ended.Cause.TheVariants as causes
+use Rattle.http_workers.proofs.TurnLaws.{reply_of, replies_more}
 
 -- So many messages were answered, none of which closes the connection, and their replies were written whole.
 pub record Serving (asked : List Exchange → Type 0) (before : Ends) (wire : WireState) (number : ℕ) (now : Ends) : Type 0 where
@@ -39,6 +39,7 @@ pub record Serving (asked : List Exchange → Type 0) (before : Ends) (wire : Wi
   pub told : asked (exchanges_of turns)
   pub wrote : Took before.outgoing.written (replies turns) now.outgoing.written
   pub reads : now.incoming.faults ≡ before.incoming.faults
+  pub ends : now.incoming.ends ≡ before.incoming.ends
   pub faults : now.outgoing.faults ≡ before.outgoing.faults
   pub stalls : now.outgoing.stalls ≡ before.outgoing.stalls
 
@@ -55,6 +56,7 @@ begins asked before wire nothing empty is_open = record {
   told = nothing;
   wrote = took_nothing before.outgoing.written;
   reads = refl;
+  ends = refl;
   faults = refl;
   stalls = refl;
 }
@@ -154,6 +156,7 @@ goes_on asked asked' is_told before now then wire wire' n m goes s reading answe
       wrote = subst (λ (r : List ℕ). Took before.outgoing.written r then.outgoing.written) (sym (replies_more n s.turns t s.counted))
           (took_both before.outgoing.written (replies s.turns) (reply_of n t) now.outgoing.written then.outgoing.written s.wrote answers.writes.written);
       reads = reading.faults ∙ s.reads;
+      ends = reading.ends ∙ s.ends;
       faults = answers.writes.faults ∙ s.faults;
       stalls = answers.writes.stalls ∙ s.stalls;
     }
@@ -171,11 +174,10 @@ last_reply turns n t counted = record {
 breaks_by : (asked asked' : List Exchange → Type 0) (is_told : Told → Type 0) (before now then : Ends) (wire wire' : WireState) (n : ℕ) (m : Message) (end : WriteEnd)
     → n < reply_limit → Serving asked before wire n now → Reading wire now.incoming (Ok (Some m)) then.incoming wire'
     → Answers is_told (closes n m) now.outgoing (Err end) then.outgoing → Extends asked m is_told asked'
-    → (cause : Cause) → ((turns : List Turn) (earlier last : List ℕ) → IsLastReply turns earlier last → IsLast cause turns earlier last)
-    → ((messages : List Message) → OthersStay messages → AreOpen cause messages)
+    → (cause : Cause) → ((turns : List Turn) (earlier last : List ℕ) → OthersStay (messages_of turns) → IsLastReply turns earlier last → IsLast cause turns earlier last)
     → IsLastWrite cause (Err end) → ((rest : List ℕ) (left : Option (List ℕ)) → IsRest cause rest left)
-    → ((a b : ℕ) → b ≡ a → CountsReads cause a b) → Connection asked' before cause then
-breaks_by asked asked' is_told before now then wire wire' n m end few s reading answers extends cause is_last stays last_write is_rest reads =
+    → ((a b : ℕ) → b ≡ a → CountsReads cause a b) → ((a b : ℕ) → b ≡ a → CountsEnds cause a b) → Connection asked' before (n + 1) cause then
+breaks_by asked asked' is_told before now then wire wire' n m end few s reading answers extends cause is_last last_write is_rest reads ends =
     let t : Turn = record { message = m; told = answers.told } in
     let bytes = reading.answer.0 in
     record {
@@ -187,34 +189,35 @@ breaks_by asked asked' is_told before now then wire wire' n m end few s reading 
       result = Err end;
       read = read_message before.incoming.left now.incoming.left then.incoming.left s.text wire.held reading.got bytes wire'.held s.read reading.gave reading.answer.2;
       spelled = spelled_more s.turns s.text bytes t s.spelled reading.answer.1;
-      stay = stays (messages_of (s.turns ++ t ∷ [])) (others_stay s.turns t s.stay);
       told = turns_more asked asked' s.turns t s.told (extends answers.told answers.tells);
+      counted = omega (arith, s.counted, length-append s.turns (t ∷ []));
       few = omega (arith, s.counted, few, length-append s.turns (t ∷ []));
       sent = sent_behind asked before now then wire n s (reply_of n t) (Err end) answers.writes;
-      last_is = is_last (s.turns ++ t ∷ []) (replies s.turns) (reply_of n t) (last_reply s.turns n t s.counted);
+      last_is = is_last (s.turns ++ t ∷ []) (replies s.turns) (reply_of n t) (others_stay s.turns t s.stay) (last_reply s.turns n t s.counted);
       last_write = last_write;
       rest_is = is_rest wire'.held then.incoming.left;
       reads = reads before.incoming.faults then.incoming.faults (reading.faults ∙ s.reads);
+      ends = ends before.incoming.ends then.incoming.ends (reading.ends ∙ s.ends);
     }
 
 pub breaks_off : (asked asked' : List Exchange → Type 0) (is_told : Told → Type 0) (before now then : Ends) (wire wire' : WireState) (n : ℕ) (m : Message) (end : WriteEnd)
     → n < reply_limit → Serving asked before wire n now → Reading wire now.incoming (Ok (Some m)) then.incoming wire'
     → Answers is_told (closes n m) now.outgoing (Err end) then.outgoing → Extends asked m is_told asked'
-    → Connection asked' before (cause_of end) then
+    → Connection asked' before (n + 1) (cause_of end) then
 breaks_off asked asked' is_told before now then wire wire' n m write_ends.WriteFault few s reading answers extends =
     breaks_by asked asked' is_told before now then wire wire' n m write_ends.WriteFault few s reading answers extends causes.WriteFault
-    (λ turns earlier last is. is) (λ messages stay. stay) refl (λ rest left. tt) (λ a b same. same)
+    (λ turns earlier last stay is. (stay, is)) refl (λ rest left. tt) (λ a b same. same) (λ a b same. same)
 breaks_off asked asked' is_told before now then wire wire' n m write_ends.SinkTakesNothing few s reading answers extends =
     breaks_by asked asked' is_told before now then wire wire' n m write_ends.SinkTakesNothing few s reading answers extends causes.SinkTakesNothing
-    (λ turns earlier last is. inl is) (λ messages stay. inr stay) refl (λ rest left. tt) (λ a b same. same)
+    (λ turns earlier last stay is. inl (stay, is)) refl (λ rest left. tt) (λ a b same. same) (λ a b same. same)
 
 -- All replies went out whole, and then the cause's closing bytes were written, as far as they were.
-ends_by : (asked : List Exchange → Type 0) (before now after : Ends) (wire : WireState) (n : ℕ) → n ≤ reply_limit
+closes_by : (asked : List Exchange → Type 0) (before now after : Ends) (wire : WireState) (n : ℕ) → n ≤ reply_limit
     → (s : Serving asked before wire n now) (got : List ℕ) → Gave now.incoming.left got after.incoming.left
     → (cause : Cause) (last : List ℕ) (result : Result (Unit {0}) WriteEnd) → WritesWhole now.outgoing last result after.outgoing
-    → IsLast cause s.turns (replies s.turns) last → AreOpen cause (messages_of s.turns) → IsLastWrite cause result → IsRest cause (wire.held ++ got) after.incoming.left
-    → CountsReads cause before.incoming.faults after.incoming.faults → Connection asked before cause after
-ends_by asked before now after wire n few s got gave cause last result writes last_is stays last_write rest_is reads = record {
+    → IsLast cause s.turns (replies s.turns) last → IsLastWrite cause result → IsRest cause (wire.held ++ got) after.incoming.left
+    → CountsReads cause before.incoming.faults after.incoming.faults → CountsEnds cause before.incoming.ends after.incoming.ends → Connection asked before n cause after
+closes_by asked before now after wire n few s got gave cause last result writes last_is last_write rest_is reads ends = record {
   turns = s.turns;
   text = s.text;
   rest = wire.held ++ got;
@@ -223,29 +226,30 @@ ends_by asked before now after wire n few s got gave cause last result writes la
   result = result;
   read = read_on before.incoming.left now.incoming.left after.incoming.left s.text wire.held got s.read gave;
   spelled = s.spelled;
-  stay = stays;
   told = s.told;
+  counted = omega (arith, s.counted);
   few = omega (arith, s.counted, few);
   sent = sent_behind asked before now after wire n s last result writes;
   last_is = last_is;
   last_write = last_write;
   rest_is = rest_is;
   reads = reads;
+  ends = ends;
 }
 
 -- The input was read to its end.
 pub ended : (asked : List Exchange → Type 0) (before now after : Ends) (wire wire' : WireState) (n : ℕ) → n < reply_limit
     → Serving asked before wire n now → Reading wire now.incoming (Ok None) after.incoming wire' → after.outgoing ≡ now.outgoing
-    → Connection asked before causes.End after
+    → Connection asked before n causes.End after
 ended asked before now after wire wire' n few s reading same =
-    ends_by asked before now after wire n (omega (arith, few)) s reading.got reading.gave causes.End [] (Ok tt) (wrote_nothing now.outgoing after.outgoing same)
-    (refl, refl) s.stay refl (reading.answer.0, reading.answer.2) (reading.faults ∙ s.reads)
+    closes_by asked before now after wire n (omega (arith, few)) s reading.got reading.gave causes.End [] (Ok tt) (wrote_nothing now.outgoing after.outgoing same)
+    (s.stay, (refl, refl)) refl (reading.answer.0, reading.answer.2) (reading.faults ∙ s.reads) (reading.ends ∙ ap counted s.ends)
 
 -- One message more was answered, which closes the connection, and its reply was written whole.
 pub finished : (asked asked' : List Exchange → Type 0) (is_told : Told → Type 0) (before now then : Ends) (wire wire' : WireState) (n : ℕ) (m : Message)
     → n < reply_limit → closes n m ≡ true → Serving asked before wire n now → Reading wire now.incoming (Ok (Some m)) then.incoming wire'
     → length wire'.held ≤ head_limit → Answers is_told (closes n m) now.outgoing (Ok tt) then.outgoing → Extends asked m is_told asked'
-    → Connection asked' before causes.Closed then
+    → Connection asked' before (n + 1) causes.Closed then
 finished asked asked' is_told before now then wire wire' n m few last s reading short answers extends =
     let t : Turn = record { message = m; told = answers.told } in
     let bytes = reading.answer.0 in
@@ -258,8 +262,8 @@ finished asked asked' is_told before now then wire wire' n m few last s reading 
       result = Ok tt;
       read = read_message before.incoming.left now.incoming.left then.incoming.left s.text wire.held reading.got bytes wire'.held s.read reading.gave reading.answer.2;
       spelled = spelled_more s.turns s.text bytes t s.spelled reading.answer.1;
-      stay = last_closes s.turns n t s.counted s.stay last;
       told = turns_more asked asked' s.turns t s.told (extends answers.told answers.tells);
+      counted = omega (arith, s.counted, length-append s.turns (t ∷ []));
       few = omega (arith, s.counted, few, length-append s.turns (t ∷ []));
       sent = record {
         between = then.outgoing;
@@ -269,43 +273,51 @@ finished asked asked' is_told before now then wire wire' n m few last s reading 
         stalls = answers.writes.stalls ∙ s.stalls;
         writes = wrote_nothing then.outgoing then.outgoing refl;
       };
-      last_is = (refl, refl);
+      last_is = (last_closes s.turns n t s.counted s.stay last, (refl, refl));
       last_write = refl;
       rest_is = short;
       reads = reading.faults ∙ s.reads;
+      ends = reading.ends ∙ s.ends;
     }
 
 -- The wire answered a fault, and the connection is closed.
 pub closed : (asked : List Exchange → Type 0) (before now after : Ends) (wire wire' : WireState) (n : ℕ) (fault : WireFault) (cause : Cause) → n < reply_limit
     → Serving asked before wire n now → Reading wire now.incoming (Err fault) after.incoming wire' → Closes fault cause now.outgoing after.outgoing
-    → Connection asked before cause after
+    → Connection asked before n cause after
 closed asked before now after wire wire' n (faults.CutShort have) cause few s reading how =
-    subst (λ (k : Cause). Connection asked before k after) (sym how.1.0)
-    (ends_by asked before now after wire n (omega (arith, few)) s reading.got reading.gave (causes.Wire (faults.CutShort have)) [] (Ok tt)
-    (wrote_nothing now.outgoing after.outgoing how.1.1.1) (refl, refl) s.stay tt reading.answer (reading.faults ∙ s.reads))
+    subst (λ (k : Cause). Connection asked before n k after) (sym how.1.0)
+    (closes_by asked before now after wire n (omega (arith, few)) s reading.got reading.gave (causes.Wire (faults.CutShort have)) [] (Ok tt)
+    (wrote_nothing now.outgoing after.outgoing how.1.1.1) (s.stay, (refl, refl)) tt reading.answer (reading.faults ∙ s.reads) (reading.ends ∙ ap counted s.ends))
 closed asked before now after wire wire' n faults.ReadFault cause few s reading how =
-    subst (λ (k : Cause). Connection asked before k after) (sym how.1.0)
-    (ends_by asked before now after wire n (omega (arith, few)) s reading.got reading.gave causes.ReadFault [] (Ok tt)
-    (wrote_nothing now.outgoing after.outgoing how.1.1.1) (refl, refl) s.stay refl reading.answer
-    (subst (λ (k : ℕ). (k ≤ after.incoming.faults) × Rose k after.incoming.faults) s.reads reading.faults))
+    subst (λ (k : Cause). Connection asked before n k after) (sym how.1.0)
+    (closes_by asked before now after wire n (omega (arith, few)) s reading.got reading.gave causes.ReadFault [] (Ok tt)
+    (wrote_nothing now.outgoing after.outgoing how.1.1.1) (s.stay, (refl, refl)) refl reading.answer
+    (subst (λ (k : ℕ). (k ≤ after.incoming.faults) × Rose k after.incoming.faults) s.reads reading.faults) (reading.ends ∙ s.ends))
 closed asked before now after wire wire' n faults.Memory cause few s reading how =
-    out_of_memory asked before now after wire n cause how.0 few s reading.got reading.gave (reading.faults ∙ s.reads) how.1.0 how.1.1
+    out_of_memory asked before now after wire n cause how.0 few s reading.got reading.gave (reading.faults ∙ s.reads) (reading.ends ∙ s.ends) how.1.0 how.1.1
   where
     out_of_memory : (asked : List Exchange → Type 0) (before now after : Ends) (wire : WireState) (n : ℕ) (cause : Cause) (result : Result (Unit {0}) WriteEnd)
         → n < reply_limit → Serving asked before wire n now → (got : List ℕ) → Gave now.incoming.left got after.incoming.left
-        → after.incoming.faults ≡ before.incoming.faults → WritesWhole now.outgoing closing_standin result after.outgoing
+        → after.incoming.faults ≡ before.incoming.faults → after.incoming.ends ≡ before.incoming.ends → WritesWhole now.outgoing closing_standin result after.outgoing
         → ((cause ≡ causes.Memory) × (result ≢ Err write_ends.SinkTakesNothing)) ⊎ ((cause ≡ causes.SinkTakesNothing) × (result ≡ Err write_ends.SinkTakesNothing))
-        → Connection asked before cause after
-    out_of_memory asked before now after wire n cause result few s got gave reads writes (inl memory) =
-        subst (λ (k : Cause). Connection asked before k after) (sym memory.0)
-        (ends_by asked before now after wire n (omega (arith, few)) s got gave causes.Memory closing_standin result writes (refl, refl) s.stay memory.1 tt reads)
-    out_of_memory asked before now after wire n cause result few s got gave reads writes (inr stall) =
-        subst (λ (k : Cause). Connection asked before k after) (sym stall.0)
-        (ends_by asked before now after wire n (omega (arith, few)) s got gave causes.SinkTakesNothing closing_standin result writes (inr (refl, refl)) (inl s.stay) stall.1 tt reads)
+        → Connection asked before n cause after
+    out_of_memory asked before now after wire n cause result few s got gave reads ends writes (inl memory) =
+        subst (λ (k : Cause). Connection asked before n k after) (sym memory.0)
+        (closes_by asked before now after wire n (omega (arith, few)) s got gave causes.Memory closing_standin result writes (s.stay, (refl, refl)) memory.1 tt reads ends)
+    out_of_memory asked before now after wire n cause result few s got gave reads ends writes (inr stall) =
+        subst (λ (k : Cause). Connection asked before n k after) (sym stall.0)
+        (closes_by asked before now after wire n (omega (arith, few)) s got gave causes.SinkTakesNothing closing_standin result writes (inr (s.stay, (refl, refl))) stall.1 tt reads ends)
 closed asked before now after wire wire' n fault cause few s reading how =
-    subst (λ (k : Cause). Connection asked before k after) (sym how.1.0)
-    (ends_by asked before now after wire n (omega (arith, few)) s reading.got reading.gave (causes.Wire fault) (row_of (causes.Wire fault)).closing how.0
-    how.1.1 (refl, refl) s.stay tt (reading.answer.0, tt) (reading.faults ∙ s.reads))
+    subst (λ (k : Cause). Connection asked before n k after) (sym how.1.0)
+    (closes_by asked before now after wire n (omega (arith, few)) s reading.got reading.gave (causes.Wire fault) (row_of (causes.Wire fault)).closing how.0
+    how.1.1 (s.stay, (refl, refl)) tt (reading.answer.0, tt) (reading.faults ∙ s.reads) (reading.ends ∙ s.ends))
+
+-- the answer's number and cause
+pub answered : {asked : List Exchange → Type 0} {before : Ends} {calls n : ℕ} {cause k : Cause} {after : Ends} → calls ≡ n → cause ≡ k
+    → Connection asked before n k after → Connection asked before calls cause after
+answered {asked} {before} {calls} {n} {cause} {k} {after} many is c =
+    subst (λ (m : ℕ). Connection asked before m cause after) (sym many)
+    (subst (λ (j : Cause). Connection asked before n j after) (sym is) c)
 
 -- ---- over the ends between a read and a write
 

@@ -7,9 +7,9 @@ use Rattle.outside.specs.Whole.{WritesWhole}
 use Rattle.http_wire.specs.Out.{farewell_bytes}
 use Rattle.http_wire.specs.declared.message.WireFault.{WireFault}
 use Rattle.http_wire.specs.declared.message.WireFault.TheVariants as faults
-use Rattle.rdb_program.specs.Closing.{Closes, LeavesWire}
-use Rattle.rdb_program.specs.declared.ending.Cause.{Cause}
-use Rattle.rdb_program.specs.declared.ending.Cause.TheVariants as causes
+use Rattle.http_workers.specs.Closing.{Closes, LeavesWire}
+use Rattle.http_workers.specs.declared.ended.Cause.{Cause}
+use Rattle.http_workers.specs.declared.ended.Cause.TheVariants as causes
 
 pub closes_cut : (fault : WireFault) (have : ℕ) (out : Outgoing) → fault ≡ faults.CutShort have → Closes fault (causes.Wire fault) out out
 closes_cut fault have out is =

@@ -2,7 +2,7 @@
 use Rattle.std.specs.Prelude.{◌≡◌, ℕ, ◌+◌, true, List, [], ◌∷◌, ◌++◌, length, map}
 use Rattle.call_forms.specs.ReplyBytes.{told_bytes}
 use Rattle.call_forms.specs.declared.forms.Told.{Told}
-use Rattle.record_desk.specs.Exchange.{Exchange}
+use Rattle.tellers.specs.Exchange.{Exchange}
 use Rattle.http_wire.specs.Stream.{closes, StayOpen}
 use Rattle.http_wire.specs.declared.message.Message.{Message}
 

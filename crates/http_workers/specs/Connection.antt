@@ -1,18 +1,18 @@
 -- A connection: messages come in, each is asked of the teller, and what it tells goes out.
-use Rattle.std.specs.Prelude.{◌≡◌, ℕ, ◌≤◌, ◌⊎◌, Bool, List, [], ◌∷◌, ◌++◌, Option, Result, length}
+use Rattle.std.specs.Prelude.{◌≡◌, ℕ, ◌≤◌, ◌⊎◌, Bool, List, [], ◌∷◌, ◌++◌, Result, length}
 use Rattle.outside.specs.Bytes.{Gave, Took}
 use Rattle.outside.specs.Ends.{Outgoing, Ends}
 use Rattle.outside.specs.Whole.{WritesWhole}
 use Rattle.outside.specs.declared.whole.WriteEnd.{WriteEnd}
 use Rattle.call_forms.specs.ReplyBytes.{told_bytes}
 use Rattle.call_forms.specs.declared.forms.Told.{Told}
-use Rattle.record_desk.specs.Exchange.{Exchange}
-use Rattle.http_wire.specs.Stream.{Spells, reply_limit, closes}
-use Rattle.rdb_program.specs.Turns.{Turn, messages_of, exchanges_of, replies}
-use Rattle.rdb_program.specs.Causes.{row_of, closing_standin, IsLastWrite, CountsReads, IsRest}
-use Rattle.rdb_program.specs.Causes.{AreOpen}
-use Rattle.rdb_program.specs.declared.ending.Cause.{Cause}
-use Rattle.rdb_program.specs.declared.ending.Cause.TheVariants as causes
+use Rattle.tellers.specs.Exchange.{Exchange}
+use Rattle.http_wire.specs.Stream.{Spells, StayOpen, reply_limit, closes}
+use Rattle.http_workers.specs.Turns.{Turn, messages_of, exchanges_of, replies, OthersStay}
+use Rattle.http_workers.specs.Turns.{LastCloses}
+use Rattle.http_workers.specs.Causes.{row_of, IsLastWrite, CountsReads, CountsEnds, IsRest}
+use Rattle.http_workers.specs.declared.ended.Cause.{Cause}
+use Rattle.http_workers.specs.declared.ended.Cause.TheVariants as causes
 
 -- The earlier bytes were written whole, and then the last ones, whose write ended so.
 pub record Sent (before : Outgoing) (earlier last : List ℕ) (result : Result (Unit {0}) WriteEnd)
@@ -35,20 +35,29 @@ pub record IsLastReply (turns : List Turn) (earlier last : List ℕ) : Type 0 wh
 abbrev pub IsClosing : Cause → List Turn → List ℕ → List ℕ → Type 0
 IsClosing cause turns earlier last = (earlier ≡ replies turns) × (last ≡ (row_of cause).closing)
 
--- What was written last, by the cause.
+-- How a connection ends, by the cause: which of the messages closes it, and what was written last. None
+-- closes it, and the closing bytes were written; or the last one does, and nothing was written behind
+-- its reply; or its reply, which may close the connection, wasn't written whole.
 abbrev pub IsLast : Cause → List Turn → List ℕ → List ℕ → Type 0
-IsLast causes.WriteFault turns earlier last = IsLastReply turns earlier last
+IsLast causes.End turns earlier last =
+    StayOpen 0 (messages_of turns) × IsClosing causes.End turns earlier last
+IsLast causes.Closed turns earlier last =
+    LastCloses (messages_of turns) × IsClosing causes.Closed turns earlier last
+IsLast (causes.Wire fault) turns earlier last =
+    StayOpen 0 (messages_of turns) × IsClosing (causes.Wire fault) turns earlier last
+IsLast causes.ReadFault turns earlier last =
+    StayOpen 0 (messages_of turns) × IsClosing causes.ReadFault turns earlier last
+IsLast causes.Memory turns earlier last =
+    StayOpen 0 (messages_of turns) × IsClosing causes.Memory turns earlier last
+IsLast causes.WriteFault turns earlier last =
+    OthersStay (messages_of turns) × IsLastReply turns earlier last
 IsLast causes.SinkTakesNothing turns earlier last =
-    IsLastReply turns earlier last ⊎ IsClosing causes.SinkTakesNothing turns earlier last
-IsLast causes.End turns earlier last = IsClosing causes.End turns earlier last
-IsLast causes.Closed turns earlier last = IsClosing causes.Closed turns earlier last
-IsLast causes.ReadFault turns earlier last = IsClosing causes.ReadFault turns earlier last
-IsLast causes.Memory turns earlier last = IsClosing causes.Memory turns earlier last
-IsLast (causes.Wire fault) turns earlier last = IsClosing (causes.Wire fault) turns earlier last
+    (OthersStay (messages_of turns) × IsLastReply turns earlier last)
+    ⊎ (StayOpen 0 (messages_of turns) × IsClosing causes.SinkTakesNothing turns earlier last)
 
--- A connection that ended by this cause. `asked` says of exchanges that the teller was asked them,
--- in order.
-pub record Connection (asked : List Exchange → Type 0) (before : Ends) (cause : Cause)
+-- A connection on which the teller was asked so many messages, and that ended by this cause. `asked`
+-- says of exchanges that the teller was asked them, in order.
+pub record Connection (asked : List Exchange → Type 0) (before : Ends) (calls : ℕ) (cause : Cause)
     (after : Ends) : Type 0 where
   pub turns : List Turn
   pub text : List ℕ
@@ -59,8 +68,8 @@ pub record Connection (asked : List Exchange → Type 0) (before : Ends) (cause 
   -- the messages in what was read, each of which was asked
   pub read : Gave before.incoming.left (text ++ rest) after.incoming.left
   pub spelled : Spells (messages_of turns) text
-  pub stay : AreOpen cause (messages_of turns)
   pub told : asked (exchanges_of turns)
+  pub counted : calls ≡ length turns
   pub few : length turns ≤ reply_limit
   -- what was written
   pub sent : Sent before.outgoing earlier last result after.outgoing
@@ -69,6 +78,7 @@ pub record Connection (asked : List Exchange → Type 0) (before : Ends) (cause 
   -- how it ended
   pub rest_is : IsRest cause rest after.incoming.left
   pub reads : CountsReads cause before.incoming.faults after.incoming.faults
+  pub ends : CountsEnds cause before.incoming.ends after.incoming.ends
 
 -- One message was asked, and what was told was written.
 pub record Answers (is_told : Told → Type 0) (close : Bool) (before : Outgoing)

@@ -6,9 +6,9 @@ use Rattle.outside.specs.declared.whole.WriteEnd.{WriteEnd}
 use Rattle.outside.specs.declared.whole.WriteEnd.TheVariants as write_ends
 use Rattle.http_wire.specs.declared.message.WireFault.{WireFault}
 use Rattle.http_wire.specs.declared.message.WireFault.TheVariants as faults
-use Rattle.rdb_program.specs.Causes.{row_of, closing_standin}
-use Rattle.rdb_program.specs.declared.ending.Cause.{Cause}
-use Rattle.rdb_program.specs.declared.ending.Cause.TheVariants as causes
+use Rattle.http_workers.specs.Causes.{row_of, closing_standin}
+use Rattle.http_workers.specs.declared.ended.Cause.{Cause}
+use Rattle.http_workers.specs.declared.ended.Cause.TheVariants as causes
 
 -- nothing was written
 abbrev pub WroteNothing : Result (Unit {0}) WriteEnd → Outgoing → Outgoing → Type 0

@@ -1,7 +1,7 @@
 //! Who is asked.
 ghost use Rattle.std.specs.Prelude.{◌≡◌, List, [], ◌∷◌, ◌++◌};
 ghost use Rattle.std.specs.Borrow.{GName};
-ghost use Rattle.record_desk.specs.Exchange.{Exchange};
+ghost use Rattle.tellers.specs.Exchange.{Exchange};
 
 use call_forms::{Asked, Told};
 
