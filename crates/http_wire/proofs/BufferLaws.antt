@@ -58,6 +58,7 @@ fills_none {items} {b1} {r1} {b2} {r2} {last} {held} {from} {to} {f} {t} had lef
       at_end = tt;
       fault = x.fault;
       faults = x.faults;
+      ends = x.ends;
     })
 
 -- where bytes are read behind them
@@ -75,4 +76,5 @@ fills_some {items} {b1} {r1} {b2} {r2} {last} {held} {from} {to} {f} {t} had lef
       at_end = x.at_end;
       fault = tt;
       faults = x.faults;
+      ends = x.ends;
     }

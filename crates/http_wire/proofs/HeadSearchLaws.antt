@@ -8,12 +8,14 @@ use Rattle.http_wire.specs.Head.{head_limit}
 use Rattle.http_wire.specs.Scan.{head_end, Passed}
 use Rattle.outside.specs.Ends.{Incoming}
 use Rattle.http_wire.specs.Stream.{HasNoFront, HasFault, IsUndecided}
-use Rattle.http_wire.specs.Held.{CountsRead}
+use Rattle.fault_counts.specs.Causes.{counted}
+use Rattle.http_wire.specs.Held.{CountsRead, CountsEnds}
 use Rattle.http_wire.specs.Reads.{IsRead, Fills, FindsHead, IsHeadAnswer}
 use Rattle.http_wire.specs.declared.head_scan.Progress.{Progress}
 use Rattle.http_wire.specs.declared.head_scan.HeadEnd.{HeadEnd}
 use Rattle.http_wire.specs.declared.message.WireFault.{WireFault}
 use Rattle.http_wire.specs.declared.message.WireFault.TheVariants.{HeadTooLong, CutShort, ReadFault}
+use Rattle.http_wire.proofs.EndLaws.{some_read, none_read}
 use Rattle.http_wire.proofs.ScanLaws.{end_of_head, scan_nothing}
 use Rattle.http_wire.proofs.StreamLaws.{head_too_long, cut_in_head}
 
@@ -42,12 +44,14 @@ undecided_passed bytes p passed less short =
 pub record Searched (held : List ℕ) (had : Incoming) (now : List ℕ) (left : Incoming) : Type 0 where
   pub read : IsRead held had now left
   pub faults : left.faults ≡ had.faults
+  pub ends : left.ends ≡ had.ends
   pub untouched : ¬ (IsUndecided held) → (now ≡ held) × (left ≡ had)
 
 pub searched_nothing : (held : List ℕ) (had : Incoming) → Searched held had held had
 searched_nothing held had = record {
   read = record { got = []; gave = gave_nothing had.left; behind = sym (append-nil held) };
   faults = refl;
+  ends = refl;
   untouched = λ _. (refl, refl);
 }
 
@@ -64,10 +68,11 @@ decides : (held bytes : List ℕ) (had between : Incoming) → Searched held had
 decides held bytes had between s undecided h = h (subst IsUndecided (s.untouched h).0 undecided)
 
 pub searched_more : (held bytes now : List ℕ) (had between left : Incoming) (n : ℕ) → Searched held had bytes between
-    → IsUndecided bytes → Fills bytes between (Ok n) now left → Searched held had now left
-searched_more held bytes now had between left n s undecided x = record {
+    → IsUndecided bytes → Fills bytes between (Ok n) now left → n ≢ 0 → Searched held had now left
+searched_more held bytes now had between left n s undecided x some = record {
   read = both held bytes now had between left s.read x.read;
   faults = x.faults ∙ s.faults;
+  ends = some_read between.ends left.ends n x.ends some ∙ s.ends;
   untouched = λ h. absurd (decides held bytes had between s undecided h);
 }
 
@@ -86,6 +91,7 @@ at_fault held bytes now had between left e s undecided x short is =
       answer = subst IsUndecided (sym (nothing_read bytes now between left x.read x.many)) undecided;
       short = short;
       faults = subst (λ z. CountsRead {T = ℕ} z (Err ReadFault) left.faults) s.faults rose;
+      ends = x.ends ∙ s.ends;
       must_read = λ h. absurd (decides held bytes had between s undecided h);
     }
 
@@ -109,6 +115,11 @@ stays : (before now n : ℕ) (empty : Bool) → now ≡ before
 stays before now n true same = same
 stays before now n false same = same
 
+rises : (before now n : ℕ) (empty : Bool) → now ≡ counted before
+    → CountsEnds before (cond empty (Ok (let none : Option HeadEnd = None in none)) (Err (CutShort n))) now
+rises before now n true same = same
+rises before now n false same = same
+
 pub finds_end : (held bytes now : List ℕ) (had between left : Incoming) (n count : ℕ) (r : Result (Option HeadEnd) WireFault)
     → Searched held had bytes between → IsUndecided bytes → Fills bytes between (Ok count) now left → length now ≤ head_limit
     → n ≡ length bytes → count ≡ 0 → r ≡ cond (nat_eq n 0) (Ok None) (Err (CutShort n)) → FindsHead held had r now left
@@ -120,15 +131,16 @@ finds_end held bytes now had between left n count r s undecided x short many non
           (ended bytes n left.left (nat_eq n 0) refl many undecided (x.at_end none));
       short = short;
       faults = stays had.faults left.faults n (nat_eq n 0) (x.faults ∙ s.faults);
+      ends = rises had.ends left.ends n (nat_eq n 0) (none_read between.ends left.ends count x.ends none ∙ ap counted s.ends);
       must_read = λ h. absurd (decides held bytes had between s undecided h);
     })
 
 -- the search has come to an end without a read
 pub finds_held : (held bytes : List ℕ) (had left : Incoming) (r : Result (Option HeadEnd) WireFault) → Searched held had bytes left
-    → IsHeadAnswer bytes left.left r → length bytes ≤ head_limit → CountsRead had.faults r left.faults
+    → IsHeadAnswer bytes left.left r → length bytes ≤ head_limit → CountsRead had.faults r left.faults → CountsEnds had.ends r left.ends
     → FindsHead held had r bytes left
-finds_held held bytes had left r s answer short faults =
-    record { read = s.read; answer = answer; short = short; faults = faults; must_read = s.untouched }
+finds_held held bytes had left r s answer short faults ends =
+    record { read = s.read; answer = answer; short = short; faults = faults; ends = ends; must_read = s.untouched }
 
 -- what was passed stays so behind a read
 pub passed_more : (bytes now : List ℕ) (between left : Incoming) (p : Progress) → Passed bytes p → IsRead bytes between now left

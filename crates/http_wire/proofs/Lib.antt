@@ -8,6 +8,7 @@ pub mod StreamLaws
 pub mod DigitLaws
 pub mod LengthLaws
 pub mod AnnouncedLaws
+pub mod EndLaws
 pub mod BufferLaws
 pub mod HeadSearchLaws
 pub mod BodyLaws

@@ -14,7 +14,7 @@ use Rattle.http_wire.specs.Scan.{head_end}
 use Rattle.http_wire.specs.Announced.{IsRequest, IsFaulty}
 use Rattle.http_wire.specs.Stream.{Announces, IsRead, Begins, HasFault, IsUndecided}
 use Rattle.http_wire.specs.Says.{IsMessageOf}
-use Rattle.http_wire.specs.Held.{IsAnswer, CountsRead, Reading, message_limit}
+use Rattle.http_wire.specs.Held.{IsAnswer, CountsRead, CountsEnds, ends_by, Reading, message_limit}
 use Rattle.http_wire.specs.Reads.{FindsHead, IsHeadAnswer, IsBodyAnswer, TakesBody}
 use Rattle.http_wire.specs.declared.head_scan.HeadEnd.{HeadEnd}
 use Rattle.http_wire.specs.declared.message.Message.{Message}
@@ -53,9 +53,9 @@ front_short bytes n k f small = let fits = f.fits in omega (arith, fits, small)
 -- A reading that ends with the search for a head: its answer is one to what was read so far.
 pub reading_at_head : (held bytes now : List ℕ) (had left : Incoming) (f : Result (Option HeadEnd) WireFault)
     (r : Result (Option Message) WireFault) → FindsHead held had f bytes left → IsAnswer bytes r left.left now
-    → CountsRead had.faults r left.faults
+    → CountsRead had.faults r left.faults → CountsEnds had.ends r left.ends
     → Reading (record { held = held; is_open = true }) had r left (record { held = now; is_open = is_ok r })
-reading_at_head held bytes now had left f r x answer faults =
+reading_at_head held bytes now had left f r x answer faults ends =
     let all = ap length x.read.behind in
     let both = length-append held x.read.got in
     let short = x.short in
@@ -65,6 +65,7 @@ reading_at_head held bytes now had left f r x answer faults =
       answer = subst (λ z. IsAnswer z r left.left now) x.read.behind answer;
       stays_open = refl;
       faults = faults;
+      ends = ends;
       must_read = λ h.
           let same = ap length (x.must_read h).0 in
           (nil_from_length x.read.got (omega (arith, same, all, both)), (x.must_read h).1);
@@ -85,7 +86,7 @@ pub reading_at_head_fault : (held bytes : List ℕ) (had left : Incoming) (e : W
 reading_at_head_fault held bytes had left e r x is =
     subst (λ z. Reading (record { held = held; is_open = true }) had z left (record { held = bytes; is_open = is_ok z })) (sym is)
     (reading_at_head held bytes bytes had left (Err e) (Err e) x (search_fault bytes bytes left.left e x.short x.answer)
-    (counted (Option HeadEnd) (Option Message) had.faults left.faults e x.faults))
+    (counted (Option HeadEnd) (Option Message) had.faults left.faults e x.faults) x.ends)
 
 -- ---- a head that has a fault
 
@@ -115,6 +116,11 @@ counted_fault : (before now : ℕ) (fault : WireFault) → IsOfHead fault → no
 counted_fault before now ReadFault of same = absurd of
 counted_fault before now fault of same = same
 
+-- a fault of a whole head reaches no end
+whole_head : (before now : ℕ) (fault : WireFault) → IsOfHead fault → now ≡ before → CountsEnds {T = Message} before (Err fault) now
+whole_head before now (CutShort have) of same = absurd of
+whole_head before now fault of same = same
+
 pub reading_at_faulty_head : (held bytes : List ℕ) (had left : Incoming) (end : HeadEnd) (fault : WireFault) (r : Result (Option Message) WireFault)
     → FindsHead held had (Ok (Some end)) bytes left → Front bytes end.len end.lines → IsFaulty (take end.len bytes) end.lines fault → r ≡ Err fault
     → Reading (record { held = held; is_open = true }) had r left (record { held = bytes; is_open = is_ok r })
@@ -123,7 +129,7 @@ reading_at_faulty_head held bytes had left end fault r x f faulty is =
     subst (λ z. Reading (record { held = held; is_open = true }) had z left (record { held = bytes; is_open = is_ok z })) (sym is)
     (reading_at_head held bytes bytes had left (Ok (Some end)) (Err fault) x
     (answer_fault bytes bytes left.left fault of (faulty_head bytes end.len end.lines fault f (front_short bytes end.len end.lines f x.short) faulty) x.short)
-    (counted_fault had.faults left.faults fault of x.faults))
+    (counted_fault had.faults left.faults fault of x.faults) (whole_head had.ends left.ends fault of x.ends))
 
 -- ---- a head without a fault
 
@@ -188,9 +194,9 @@ holds_all bytes n k r m decided =
 reading_at_body : (held bytes now : List ℕ) (had between left : Incoming) (end : HeadEnd) (q : Request) (b : Result (Vec ℕ) WireFault)
     (r : Result (Option Message) WireFault) → FindsHead held had (Ok (Some end)) bytes between
     → Framing bytes end.len end.lines q → (t : TakesBody bytes between end.len q.len b now left)
-    → IsAnswer (bytes ++ t.got) r left.left now → CountsRead had.faults r left.faults
+    → IsAnswer (bytes ++ t.got) r left.left now → CountsRead had.faults r left.faults → CountsEnds had.ends r left.ends
     → Reading (record { held = held; is_open = true }) had r left (record { held = now; is_open = is_ok r })
-reading_at_body held bytes now had between left end q b r x m t answer faults =
+reading_at_body held bytes now had between left end q b r x m t answer faults ends =
     let all = ap length x.read.behind in
     let both = length-append held x.read.got in
     let short = x.short in
@@ -204,6 +210,7 @@ reading_at_body held bytes now had between left end q b r x m t answer faults =
       answer = subst (λ z. IsAnswer z r left.left now) whole answer;
       stays_open = refl;
       faults = faults;
+      ends = ends;
       must_read = λ h.
           let same = x.must_read h in
           let len_is = ap length same.0 in
@@ -232,7 +239,8 @@ reading_at_body_fault held bytes now had between left end q e r x m t is =
     (reading_at_body held bytes now had between left end q (Err e) (Err e) x m t
     (body_fault bytes t.got now left.left end.len end.lines q e m t.answer)
     (counted (Vec ℕ) (Option Message) had.faults left.faults e
-    (subst (λ z. CountsRead {T = Vec ℕ} z (Err e) left.faults) x.faults t.faults)))
+    (subst (λ z. CountsRead {T = Vec ℕ} z (Err e) left.faults) x.faults t.faults))
+    (t.ends ∙ ap (ends_by e) x.ends))
 
 -- There was no memory for the message, before its body was taken.
 pub reading_at_no_memory : (held bytes : List ℕ) (had left : Incoming) (end : HeadEnd) (r : Result (Option Message) WireFault)
@@ -240,7 +248,7 @@ pub reading_at_no_memory : (held bytes : List ℕ) (had left : Incoming) (end : 
     → Reading (record { held = held; is_open = true }) had r left (record { held = bytes; is_open = is_ok r })
 reading_at_no_memory held bytes had left end r x is =
     subst (λ z. Reading (record { held = held; is_open = true }) had z left (record { held = bytes; is_open = is_ok z })) (sym is)
-    (reading_at_head held bytes bytes had left (Ok (Some end)) (Err Memory) x tt x.faults)
+    (reading_at_head held bytes bytes had left (Ok (Some end)) (Err Memory) x tt x.faults x.ends)
 
 -- The message is there.
 pub reading_of_message : (held bytes now : List ℕ) (had between left : Incoming) (end : HeadEnd) (q : Request) (v : Vec ℕ) (means : Message)
@@ -264,4 +272,4 @@ reading_of_message held bytes now had between left end q v means x m a t says =
       },
       parts,
     )
-    (t.faults ∙ x.faults)
+    (t.faults ∙ x.faults) (t.ends ∙ x.ends)

@@ -3,7 +3,7 @@ use Rattle.std.specs.Prelude.{◌≡◌, ℕ, ◌+◌, ◌≤◌, List, [], ◌+
 use Rattle.std.specs.Prelude.{Ok, Err, is_ok}
 use Rattle.outside.specs.Bytes.{Gave, IsEnd}
 use Rattle.outside.specs.Ends.{Incoming}
-use Rattle.fault_counts.specs.Causes.{Rose}
+use Rattle.fault_counts.specs.Causes.{Rose, counted}
 use Rattle.http_wire.specs.Head.{head_limit}
 use Rattle.http_wire.specs.Form.{body_limit}
 use Rattle.http_wire.specs.Stream.{IsMessage, HasFault, IsUndecided}
@@ -38,6 +38,18 @@ CountsRead before (Ok value) now = now ≡ before
 CountsRead before (Err ReadFault) now = (before ≤ now) × Rose before now
 CountsRead before (Err fault) now = now ≡ before
 
+-- What a fault makes of the count of ends: one more where the input ended inside a message.
+abbrev pub ends_by : WireFault → ℕ → ℕ
+ends_by (CutShort have) before = counted before
+ends_by fault before = before
+
+-- The end of the input raised the count of ends by one, behind a message as inside one. Every other
+-- answer leaves it as it was, so that nothing is read behind the end.
+abbrev pub CountsEnds : {T : Type 0} → ℕ → Result (Option T) WireFault → ℕ → Type 0
+CountsEnds before (Ok (Some value)) now = now ≡ before
+CountsEnds before (Ok None) now = now ≡ counted before
+CountsEnds before (Err fault) now = now ≡ ends_by fault before
+
 -- A call on an open wire: what it read, and what it answered to that behind what was held. A fault
 -- closes the wire, and nothing else does. Nothing is read where what is held decides, and never
 -- more than a message.
@@ -48,5 +60,6 @@ pub record Reading (before : WireState) (had : Incoming)
   pub answer : IsAnswer (before.held ++ got) result left.left now.held
   pub stays_open : now.is_open ≡ is_ok result
   pub faults : CountsRead had.faults result left.faults
+  pub ends : CountsEnds had.ends result left.ends
   pub must_read : ¬ (IsUndecided before.held) → (got ≡ []) × (left ≡ had)
   pub bounded : length (before.held ++ got) ≤ message_limit

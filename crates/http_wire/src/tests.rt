@@ -662,6 +662,38 @@ fn messages_say_what_their_heads_say(rt: HostRuntime) -> Result<(), Fail> {
     Ok(())
 }
 
+/// A message with a body of 300,000 bytes.
+const LONG_BODY: &[u8] = b"POST /a HTTP/1.1\r\nContent-Length: 300000\r\n\r\n";
+
+/// Whether a long body is read that comes in pieces of a size, so that its room grows several times.
+fn is_long_body(alloc: Global, size: usize) -> Result<bool, AllocError> {
+    let mut stream = Vec::from_slice(alloc, LONG_BODY)?;
+    for i in 0..300_000 {
+        stream.push((i % 251) as u8)?;
+    }
+    let pieces = cut(alloc, stream.as_slice(), size)?;
+    let mut link = MemoryLink::new(alloc, pieces, Vec::new(alloc))?;
+    let mut wire = Wire::new(alloc)?;
+    Ok(match wire.next(alloc, &mut link) {
+        Ok(Some(message)) => message.asked.body.as_slice() == &stream.as_slice()[LONG_BODY.len()..],
+        _ => false,
+    })
+}
+
+#[test]
+fn long_bodies_come_whole(rt: HostRuntime) -> Result<(), Fail> {
+    for size in [4_096, 1_000_000] {
+        assert!(rt; is_long_body(rt.alloc(), size)?);
+    }
+    Ok(())
+}
+
+#[test]
+fn the_last_reply_that_a_connection_may_have_closes_it(rt: HostRuntime) {
+    assert!(rt; !closes(0, false) && closes(0, true));
+    assert!(rt; !closes(1_048_574, false) && closes(1_048_575, false));
+}
+
 /// A message in pieces of 40 bytes, of which the second read fails.
 #[test]
 fn a_read_fault_closes_a_wire(rt: HostRuntime) -> Result<(), Fail> {

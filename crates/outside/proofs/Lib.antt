@@ -1,3 +1,4 @@
 pub mod Taken
 pub mod Progress
 pub mod FirstPiece
+pub mod EndLaws

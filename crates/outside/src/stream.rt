@@ -3,6 +3,7 @@ ghost use Rattle.std.specs.Prelude.{◌≡◌, MatchResult};
 ghost use Rattle.fault_counts.specs.Causes.{counted};
 ghost use Rattle.outside.specs.Ends.{ReadsOnce, WritesOnce};
 
+use crate::source::count_end;
 use crate::{Failed, Sink, Source};
 use fault_counts::Count;
 use std::io::{Read, Write};
@@ -13,6 +14,7 @@ use std::marker::Model;
 pub struct StreamSource<S: Read + Drop> {
     stream: S,
     faults: Count,
+    ends: Count,
 }
 
 impl<S: Read + Drop> Model for StreamSource<S> {
@@ -20,16 +22,21 @@ impl<S: Read + Drop> Model for StreamSource<S> {
 
     ghost Value = { Incoming };
 
-    ghost view = { λ s. record { left = S.remaining s.stream; faults = s.faults } };
+    ghost view = { λ s. record {
+      left = S.remaining s.stream;
+      faults = s.faults;
+      ends = s.ends;
+    } };
 }
 
 impl<S: Read + Drop> StreamSource<S> {
     pub fn new(stream: S) -> StreamSource<S>
-        ensures { result ≡ record { left = S.remaining stream; faults = 0 } }
+        ensures { result ≡ record { left = S.remaining stream; faults = 0; ends = 0 } }
     {
         StreamSource {
             stream,
             faults: Count::new(),
+            ends: Count::new(),
         }
     }
 
@@ -38,6 +45,13 @@ impl<S: Read + Drop> StreamSource<S> {
         ensures { result ≡ self.now.faults }
     {
         self.faults.value()
+    }
+
+    /// How many reads gave nothing into room that isn't empty.
+    pub fn ends(&self) -> u64
+        ensures { result ≡ self.now.ends }
+    {
+        self.ends.value()
     }
 }
 
@@ -51,7 +65,10 @@ impl<S: Read + Drop> Source for StreamSource<S> {
             (λ _. self.new.faults ≡ counted self.old.faults) }
     {
         match self.stream.read(room) {
-            Ok(count) => Ok(count),
+            Ok(count) => {
+                count_end(&mut self.ends, room, count);
+                Ok(count)
+            }
             Err(_) => self.faults.failed(),
         }
     }

@@ -90,8 +90,13 @@ fn link_in_memory_keeps_cuts_and_counts(rt: HostRuntime) -> Result<(), Fail> {
     check_steps(&rt, &mut link, &LINK_STEPS);
     assert_eq!(rt; link.written(), b"xyz".as_slice());
     assert_eq!(rt;
-        (link.read_faults(), link.write_faults(), link.stalls()),
-        (2, 2, 1)
+        (
+            link.read_faults(),
+            link.write_faults(),
+            link.stalls(),
+            link.ends()
+        ),
+        (2, 2, 1, 1)
     );
     Ok(())
 }
@@ -112,7 +117,8 @@ fn pair_reads_its_source_and_writes_its_sink(rt: HostRuntime) -> Result<(), Fail
     let mut sink = new_sink(rt.alloc(), &[2, 3, 3])?;
     check_steps(&rt, &mut PairLink::new(&mut source, &mut sink), &PAIR_STEPS);
     assert_eq!(rt; sink.written(), b"uv".as_slice());
-    assert_eq!(rt; (source.faults(), sink.faults(), sink.stalls()), (1, 1, 1));
+    assert_eq!(rt; (source.faults(), source.ends()), (1, 1));
+    assert_eq!(rt; (sink.faults(), sink.stalls()), (1, 1));
     Ok(())
 }
 
@@ -218,7 +224,10 @@ fn streams_give_and_take_the_bytes_of_theirs(rt: HostRuntime) -> Result<(), Fail
     for expected in [Some(2), Some(1), Some(0)] {
         assert_eq!(rt; source.read(&mut room).ok(), expected);
     }
-    assert_eq!(rt; (room, source.faults()), ([b'c', b'b'], 0));
+    assert_eq!(rt;
+        (room, source.faults(), source.ends()),
+        ([b'c', b'b'], 0, 1)
+    );
     let mut taken = Vec::new(rt.alloc());
     let mut sink = StreamSink::new(&mut taken);
     assert_eq!(rt; sink.write(b"ab").ok(), Some(2));

@@ -6,31 +6,32 @@ use Rattle.outside.specs.Whole.{WritesWhole, CountsFault, CountsEnd}
 use Rattle.outside.specs.declared.whole.WriteEnd.{WriteEnd}
 use Rattle.outside.specs.declared.whole.WriteEnd.TheVariants as write_ends
 use Rattle.fault_counts.specs.Causes.{Rose}
-use Rattle.record_desk.specs.Exchange.{Exchange}
+use Rattle.tellers.specs.Exchange.{Exchange}
 use Rattle.http_wire.specs.Stream.{Framed}
 use Rattle.http_wire.specs.declared.message.End.{End}
 use Rattle.http_wire.specs.declared.message.End.TheVariants as stream_ends
 use Rattle.http_wire.specs.declared.message.Message.{Message}
 use Rattle.http_wire.specs.declared.message.WireFault.{WireFault}
 use Rattle.http_wire.proofs.StreamLaws.{framed_once}
-use Rattle.rdb_program.specs.Turns.{messages_of}
-use Rattle.rdb_program.specs.Causes.{row_of, IsLastWrite, CountsReads}
-use Rattle.rdb_program.specs.Connection.{Sent, Connection}
-use Rattle.rdb_program.specs.Framing.{Served}
+use Rattle.http_workers.specs.Turns.{messages_of}
+use Rattle.http_workers.specs.Causes.{IsLastWrite, CountsReads}
+use Rattle.http_workers.specs.Connection.{Connection}
+use Rattle.http_workers.specs.Framing.{Served}
+use Rattle.rdb_program.specs.Causes.{row_of}
 use Rattle.rdb_program.specs.Statuses.{IsDone, IsBroken, EndsFailed}
-use Rattle.rdb_program.specs.declared.ending.Cause.{Cause}
-use Rattle.rdb_program.specs.declared.ending.Cause.TheVariants as causes
+use Rattle.http_workers.specs.declared.ended.Cause.{Cause}
+use Rattle.http_workers.specs.declared.ended.Cause.TheVariants as causes
 
 -- ---- the counts of what was written
 
-pub faults_of : (asked : List Exchange → Type 0) (before : Ends) (cause : Cause) (after : Ends) (c : Connection asked before cause after)
+pub faults_of : (asked : List Exchange → Type 0) (before : Ends) (calls : ℕ) (cause : Cause) (after : Ends) (c : Connection asked before calls cause after)
     → CountsFault before.outgoing.faults c.result after.outgoing.faults
-faults_of asked before cause after c =
+faults_of asked before calls cause after c =
     subst (λ (n : ℕ). CountsFault n c.result after.outgoing.faults) c.sent.faults c.sent.writes.faults
 
-pub stalls_of : (asked : List Exchange → Type 0) (before : Ends) (cause : Cause) (after : Ends) (c : Connection asked before cause after)
+pub stalls_of : (asked : List Exchange → Type 0) (before : Ends) (calls : ℕ) (cause : Cause) (after : Ends) (c : Connection asked before calls cause after)
     → CountsEnd before.outgoing.stalls c.result after.outgoing.stalls
-stalls_of asked before cause after c =
+stalls_of asked before calls cause after c =
     subst (λ (n : ℕ). CountsEnd n c.result after.outgoing.stalls) c.sent.stalls c.sent.writes.stalls
 
 pub no_fault : (a b : ℕ) (result : Result (Unit {0}) WriteEnd) → CountsFault a result b → result ≢ Err write_ends.WriteFault → b ≡ a
@@ -85,47 +86,47 @@ not_two causes.WriteFault e = omega (arith, e)
 not_two causes.SinkTakesNothing e = omega (arith, e)
 not_two causes.Memory e = omega (arith, e)
 
-pub done_at : (asked : List Exchange → Type 0) (before : Ends) (cause : Cause) (after : Ends) → Served asked before cause after → status_at cause ≡ 0
+pub done_at : (asked : List Exchange → Type 0) (before : Ends) (calls : ℕ) (cause : Cause) (after : Ends) → Served asked before calls cause after → status_at cause ≡ 0
     → IsDone before after
-done_at asked before causes.End after s e = inl (s.connection.rest_is.1, λ stream told. (messages_of s.connection.turns, s.framed stream told))
-done_at asked before causes.Closed after s e = inr (λ stream told. (messages_of s.connection.turns, s.framed stream told))
-done_at asked before (causes.Wire fault) after s e = absurd (omega (arith, e))
-done_at asked before causes.ReadFault after s e = absurd (omega (arith, e))
-done_at asked before causes.WriteFault after s e = absurd (omega (arith, e))
-done_at asked before causes.SinkTakesNothing after s e = absurd (omega (arith, e))
-done_at asked before causes.Memory after s e = absurd (omega (arith, e))
+done_at asked before calls causes.End after s e = inl (s.connection.rest_is.1, λ stream told. (messages_of s.connection.turns, s.framed stream told))
+done_at asked before calls causes.Closed after s e = inr (λ stream told. (messages_of s.connection.turns, s.framed stream told))
+done_at asked before calls (causes.Wire fault) after s e = absurd (omega (arith, e))
+done_at asked before calls causes.ReadFault after s e = absurd (omega (arith, e))
+done_at asked before calls causes.WriteFault after s e = absurd (omega (arith, e))
+done_at asked before calls causes.SinkTakesNothing after s e = absurd (omega (arith, e))
+done_at asked before calls causes.Memory after s e = absurd (omega (arith, e))
 
-pub broken_at : (asked : List Exchange → Type 0) (before : Ends) (cause : Cause) (after : Ends) → Served asked before cause after → status_at cause ≡ 8
+pub broken_at : (asked : List Exchange → Type 0) (before : Ends) (calls : ℕ) (cause : Cause) (after : Ends) → Served asked before calls cause after → status_at cause ≡ 8
     → IsBroken before
-broken_at asked before (causes.Wire fault) after s e = λ stream told. (messages_of s.connection.turns, fault, s.framed stream told)
-broken_at asked before causes.End after s e = absurd (omega (arith, e))
-broken_at asked before causes.Closed after s e = absurd (omega (arith, e))
-broken_at asked before causes.ReadFault after s e = absurd (omega (arith, e))
-broken_at asked before causes.WriteFault after s e = absurd (omega (arith, e))
-broken_at asked before causes.SinkTakesNothing after s e = absurd (omega (arith, e))
-broken_at asked before causes.Memory after s e = absurd (omega (arith, e))
+broken_at asked before calls (causes.Wire fault) after s e = λ stream told. (messages_of s.connection.turns, fault, s.framed stream told)
+broken_at asked before calls causes.End after s e = absurd (omega (arith, e))
+broken_at asked before calls causes.Closed after s e = absurd (omega (arith, e))
+broken_at asked before calls causes.ReadFault after s e = absurd (omega (arith, e))
+broken_at asked before calls causes.WriteFault after s e = absurd (omega (arith, e))
+broken_at asked before calls causes.SinkTakesNothing after s e = absurd (omega (arith, e))
+broken_at asked before calls causes.Memory after s e = absurd (omega (arith, e))
 
-pub failed_at : (asked : List Exchange → Type 0) (before : Ends) (cause : Cause) (after : Ends) → Connection asked before cause after → status_at cause ≡ 4
+pub failed_at : (asked : List Exchange → Type 0) (before : Ends) (calls : ℕ) (cause : Cause) (after : Ends) → Connection asked before calls cause after → status_at cause ≡ 4
     → EndsFailed before after
-failed_at asked before causes.ReadFault after c e = inl c.reads.1
-failed_at asked before causes.WriteFault after c e =
-    inr (fault_there before.outgoing.faults after.outgoing.faults c.result (faults_of asked before causes.WriteFault after c) c.last_write)
-failed_at asked before causes.End after c e = absurd (omega (arith, e))
-failed_at asked before causes.Closed after c e = absurd (omega (arith, e))
-failed_at asked before (causes.Wire fault) after c e = absurd (omega (arith, e))
-failed_at asked before causes.SinkTakesNothing after c e = absurd (omega (arith, e))
-failed_at asked before causes.Memory after c e = absurd (omega (arith, e))
+failed_at asked before calls causes.ReadFault after c e = inl c.reads.1
+failed_at asked before calls causes.WriteFault after c e =
+    inr (fault_there before.outgoing.faults after.outgoing.faults c.result (faults_of asked before calls causes.WriteFault after c) c.last_write)
+failed_at asked before calls causes.End after c e = absurd (omega (arith, e))
+failed_at asked before calls causes.Closed after c e = absurd (omega (arith, e))
+failed_at asked before calls (causes.Wire fault) after c e = absurd (omega (arith, e))
+failed_at asked before calls causes.SinkTakesNothing after c e = absurd (omega (arith, e))
+failed_at asked before calls causes.Memory after c e = absurd (omega (arith, e))
 
-pub stalled_at : (asked : List Exchange → Type 0) (before : Ends) (cause : Cause) (after : Ends) → Connection asked before cause after → status_at cause ≡ 9
+pub stalled_at : (asked : List Exchange → Type 0) (before : Ends) (calls : ℕ) (cause : Cause) (after : Ends) → Connection asked before calls cause after → status_at cause ≡ 9
     → Rose before.outgoing.stalls after.outgoing.stalls
-stalled_at asked before causes.SinkTakesNothing after c e =
-    stall_there before.outgoing.stalls after.outgoing.stalls c.result (stalls_of asked before causes.SinkTakesNothing after c) c.last_write
-stalled_at asked before causes.End after c e = absurd (omega (arith, e))
-stalled_at asked before causes.Closed after c e = absurd (omega (arith, e))
-stalled_at asked before (causes.Wire fault) after c e = absurd (omega (arith, e))
-stalled_at asked before causes.ReadFault after c e = absurd (omega (arith, e))
-stalled_at asked before causes.WriteFault after c e = absurd (omega (arith, e))
-stalled_at asked before causes.Memory after c e = absurd (omega (arith, e))
+stalled_at asked before calls causes.SinkTakesNothing after c e =
+    stall_there before.outgoing.stalls after.outgoing.stalls c.result (stalls_of asked before calls causes.SinkTakesNothing after c) c.last_write
+stalled_at asked before calls causes.End after c e = absurd (omega (arith, e))
+stalled_at asked before calls causes.Closed after c e = absurd (omega (arith, e))
+stalled_at asked before calls (causes.Wire fault) after c e = absurd (omega (arith, e))
+stalled_at asked before calls causes.ReadFault after c e = absurd (omega (arith, e))
+stalled_at asked before calls causes.WriteFault after c e = absurd (omega (arith, e))
+stalled_at asked before calls causes.Memory after c e = absurd (omega (arith, e))
 
 pub no_read_fault_at : (cause : Cause) (a b : ℕ) → CountsReads cause a b → status_at cause ≢ 4 → b ≡ a
 no_read_fault_at causes.End a b counts isnt = counts
@@ -158,21 +159,21 @@ not_stall_at causes.Memory result is n8 n9 = is
 
 -- ---- which status a stream ends in
 
-pub ends_at : (asked : List Exchange → Type 0) (before : Ends) (cause : Cause) (after : Ends) → Served asked before cause after
+pub ends_at : (asked : List Exchange → Type 0) (before : Ends) (calls : ℕ) (cause : Cause) (after : Ends) → Served asked before calls cause after
     → (stream : List ℕ) (ms : List Message) (end : End) (status : ℕ) → before.incoming.left ≡ Some stream → Framed stream ms end
     → ¬ EndsFailed before after → ¬ Rose before.outgoing.stalls after.outgoing.stalls
     → (end ≡ stream_ends.Finished → status ≡ 0) → (end ≡ stream_ends.Closed → status ≡ 0) → ((fault : WireFault) → end ≡ stream_ends.Fault fault → status ≡ 8)
     → (status_at cause ≡ status) ⊎ (status_at cause ≡ 7)
-ends_at asked before causes.End after s stream ms end status told framed fine takes whole closed broken =
+ends_at asked before calls causes.End after s stream ms end status told framed fine takes whole closed broken =
     inl (sym (whole (sym (framed_once (messages_of s.connection.turns) ms 0 stream stream_ends.Finished end (s.framed stream told) framed).1)))
-ends_at asked before (causes.Wire fault) after s stream ms end status told framed fine takes whole closed broken =
+ends_at asked before calls (causes.Wire fault) after s stream ms end status told framed fine takes whole closed broken =
     inl (sym (broken fault (sym (framed_once (messages_of s.connection.turns) ms 0 stream (stream_ends.Fault fault) end (s.framed stream told) framed).1)))
-ends_at asked before causes.Closed after s stream ms end status told framed fine takes whole closed broken =
+ends_at asked before calls causes.Closed after s stream ms end status told framed fine takes whole closed broken =
     inl (sym (closed (sym (framed_once (messages_of s.connection.turns) ms 0 stream stream_ends.Closed end (s.framed stream told) framed).1)))
-ends_at asked before causes.ReadFault after s stream ms end status told framed fine takes whole closed broken =
-    absurd (fine (failed_at asked before causes.ReadFault after s.connection refl))
-ends_at asked before causes.WriteFault after s stream ms end status told framed fine takes whole closed broken =
-    absurd (fine (failed_at asked before causes.WriteFault after s.connection refl))
-ends_at asked before causes.SinkTakesNothing after s stream ms end status told framed fine takes whole closed broken =
-    absurd (takes (stalled_at asked before causes.SinkTakesNothing after s.connection refl))
-ends_at asked before causes.Memory after s stream ms end status told framed fine takes whole closed broken = inr refl
+ends_at asked before calls causes.ReadFault after s stream ms end status told framed fine takes whole closed broken =
+    absurd (fine (failed_at asked before calls causes.ReadFault after s.connection refl))
+ends_at asked before calls causes.WriteFault after s stream ms end status told framed fine takes whole closed broken =
+    absurd (fine (failed_at asked before calls causes.WriteFault after s.connection refl))
+ends_at asked before calls causes.SinkTakesNothing after s stream ms end status told framed fine takes whole closed broken =
+    absurd (takes (stalled_at asked before calls causes.SinkTakesNothing after s.connection refl))
+ends_at asked before calls causes.Memory after s stream ms end status told framed fine takes whole closed broken = inr refl

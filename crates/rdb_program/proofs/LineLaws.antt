@@ -2,7 +2,7 @@
 use Rattle.std.proofs.Common.{◌≡◌, ℕ, List, refl, codes}
 use Rattle.std.specs.Fmt.{digits}
 use Rattle.http_wire.specs.declared.message.WireFault.TheVariants as faults
-use Rattle.rdb_program.specs.declared.ending.Cause.TheVariants as causes
+use Rattle.http_workers.specs.declared.ended.Cause.TheVariants as causes
 use Rattle.rdb_program.specs.Causes.{row_of}
 use Rattle.rdb_program.specs.Run.{refusal_line}
 use Rattle.permissions.specs.declared.faults.PolicyFault.TheVariants as refusals

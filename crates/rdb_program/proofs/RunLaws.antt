@@ -11,7 +11,7 @@ use Rattle.policy_reading.specs.Reading.{IsPolicyOf, IsFirstFault}
 use Rattle.permissions.specs.declared.faults.PolicyFault.{PolicyFault}
 use Rattle.invocation_world.specs.World.{empty_world}
 use Rattle.service_core.specs.CoreState.{CoreState}
-use Rattle.record_desk.specs.Exchange.{Exchange}
+use Rattle.tellers.specs.Exchange.{Exchange}
 use Rattle.record_desk.specs.Clocked.{IsClocked}
 use Rattle.record_desk.specs.Standing.{Moves}
 use Rattle.http_wire.specs.Stream.{Framed}
@@ -20,11 +20,14 @@ use Rattle.program_words.specs.Grammar.{Says}
 use Rattle.program_words.specs.declared.command.Command.{Command}
 use Rattle.program_words.specs.declared.command.Command.TheVariants as commands
 use Rattle.program_words.proofs.Answering.{one_command}
+use Rattle.http_workers.specs.Framing as served
+use Rattle.http_workers.specs.Ended.{ServesLink}
+use Rattle.http_workers.specs.declared.ended.Ended.{Ended}
 use Rattle.rdb_program.specs.Words.{SayNothing, IsAnswerWords, AskForText}
 use Rattle.rdb_program.specs.Configured.{Accepts}
 use Rattle.rdb_program.specs.Run.{Work, Outside, outside, IsReported, status_of, line_of, refusal_line, IsHistory, Shows, StopsAtConfig, Serves, IsRun, ProgramRun}
 use Rattle.rdb_program.specs.Statuses.{IsShown, IsWorkDone, EndsFailed, HasFailed, HasStalled, ConfigSays, StatusSays}
-use Rattle.rdb_program.specs.declared.ending.Cause.{Cause}
+use Rattle.http_workers.specs.declared.ended.Cause.{Cause}
 use Rattle.rdb_program.specs.declared.ending.Ending.{Ending}
 use Rattle.rdb_program.specs.declared.ending.Ending.TheVariants.{WordsRefused, Shown, ConfigFault, ConfigRefused, Unstarted, Served}
 use Rattle.rdb_program.proofs.CauseLaws.{status_at, not_one, not_two, faults_of, stalls_of, no_fault, no_stall, done_at, broken_at, failed_at, stalled_at, no_read_fault_at, not_fault_at, not_stall_at, ends_at, fault_there, stall_there}
@@ -225,39 +228,49 @@ says_text words before after (Err write_ends.SinkTakesNothing) tb ta s =
     (λ e. omega (arith, e)) (λ is. absurd (omega (arith, is))) (λ is. absurd (omega (arith, is))) (λ is. refl) (λ n4 e. cc) (λ n9 e. n9 refl)
     (λ fine takes. absurd (takes s.ends.writes.stalls.1))
 
-says_served : (words : List (List ℕ)) (before after : Outside) (tb ta : List ℤ → Type 0) (cause : Cause)
-    → Serves cause words before.work tb after.work ta → StatusSays (status_at cause) words before after
-says_served words before after tb ta cause run =
-    let s = run.served in
+-- The connection was served.
+says_served : (words : List (List ℕ)) (before after : Outside) (asked : List Exchange → Type 0) (calls : ℕ) (cause : Cause) (tables : PolicyTables)
+    → IsAnswerWords words → Accepts before.work.config tables after.work.config
+    → served.Served asked before.work.ends calls cause after.work.ends → StatusSays (status_at cause) words before after
+says_served words before after asked calls cause tables are config s =
     let c = s.connection in
     let was = before.work.ends in
     let is_now = after.work.ends in
     record {
       words_refused = λ is. absurd (not_one cause is);
-      words_accepted = λ n1 n7. answers words run.words_are;
+      words_accepted = λ n1 n7. answers words are;
       untouched = λ is. absurd (not_one cause is);
-      asked_to_serve = λ is. run.words_are;
+      asked_to_serve = λ is. are;
       unserved = λ is. absurd (not_two cause is);
       config = λ text told.
-          config_served (status_at cause) words text before after run.tables (not_two cause)
-          (accepted_told before.work.config run.tables after.work.config text run.config told);
-      done = λ is. inr (run.words_are, done_at _ was cause is_now s is);
-      failed = λ is. inr (failed_at _ was cause is_now c is);
-      broken = broken_at _ was cause is_now s;
-      stalled = stalled_at _ was cause is_now c;
-      no_config_fault = λ n4. run.config.faults;
+          config_served (status_at cause) words text before after tables (not_two cause)
+          (accepted_told before.work.config tables after.work.config text config told);
+      done = λ is. inr (are, done_at _ was calls cause is_now s is);
+      failed = λ is. inr (failed_at _ was calls cause is_now c is);
+      broken = broken_at _ was calls cause is_now s;
+      stalled = stalled_at _ was calls cause is_now c;
+      no_config_fault = λ n4. config.faults;
       no_read_fault = no_read_fault_at cause was.incoming.faults is_now.incoming.faults c.reads;
-      no_write_fault = λ n4 n7 n8. no_fault was.outgoing.faults is_now.outgoing.faults c.result (faults_of _ was cause is_now c) (not_fault_at cause c.result c.last_write n4 n7 n8);
-      no_stall = λ n8 n9. no_stall was.outgoing.stalls is_now.outgoing.stalls c.result (stalls_of _ was cause is_now c) (not_stall_at cause c.result c.last_write n8 n9);
-      config_unread = λ other. absurd (other run.words_are);
-      text_shown = λ text asked fine takes. absurd (answer_apart words text asked run.words_are);
-      whole_stream = λ are n2 stream ms told framed fine takes.
-          ends_at _ was cause is_now s stream ms stream_ends.Finished 0 told framed (λ f. fine (inr f)) takes (λ e. refl) (λ e. refl) (λ fault e. absurd cc);
-      closed_stream = λ are n2 stream ms told framed fine takes.
-          ends_at _ was cause is_now s stream ms stream_ends.Closed 0 told framed (λ f. fine (inr f)) takes (λ e. refl) (λ e. refl) (λ fault e. absurd cc);
-      broken_stream = λ are n2 fault stream ms told framed fine takes.
-          ends_at _ was cause is_now s stream ms (stream_ends.Fault fault) 8 told framed (λ f. fine (inr f)) takes (λ e. absurd cc) (λ e. absurd cc) (λ f e. refl);
+      no_write_fault = λ n4 n7 n8. no_fault was.outgoing.faults is_now.outgoing.faults c.result (faults_of _ was calls cause is_now c) (not_fault_at cause c.result c.last_write n4 n7 n8);
+      no_stall = λ n8 n9. no_stall was.outgoing.stalls is_now.outgoing.stalls c.result (stalls_of _ was calls cause is_now c) (not_stall_at cause c.result c.last_write n8 n9);
+      config_unread = λ other. absurd (other are);
+      text_shown = λ text asks fine takes. absurd (answer_apart words text asks are);
+      whole_stream = λ also n2 stream ms told framed fine takes.
+          ends_at _ was calls cause is_now s stream ms stream_ends.Finished 0 told framed (λ f. fine (inr f)) takes (λ e. refl) (λ e. refl) (λ fault e. absurd cc);
+      closed_stream = λ also n2 stream ms told framed fine takes.
+          ends_at _ was calls cause is_now s stream ms stream_ends.Closed 0 told framed (λ f. fine (inr f)) takes (λ e. refl) (λ e. refl) (λ fault e. absurd cc);
+      broken_stream = λ also n2 fault stream ms told framed fine takes.
+          ends_at _ was calls cause is_now s stream ms (stream_ends.Fault fault) 8 told framed (λ f. fine (inr f)) takes (λ e. absurd cc) (λ e. absurd cc) (λ f e. refl);
     }
+
+-- The connection was served, or there was no memory to begin with it.
+says_ended : (words : List (List ℕ)) (before after : Outside) (asked : List Exchange → Type 0) (ended : Ended) (tables : PolicyTables)
+    → IsAnswerWords words → Accepts before.work.config tables after.work.config → ServesLink asked before.work.ends ended after.work.ends
+    → StatusSays (status_at ended.cause) words before after
+says_ended words before after asked ended tables are config (inl unbegun) =
+    subst (λ (k : Cause). StatusSays (status_at k) words before after) (sym unbegun.cause_is)
+    (says_unstarted words before after unbegun.untouched config.faults (λ other. absurd (other are)))
+says_ended words before after asked ended tables are config (inr s) = says_served words before after asked ended.calls ended.cause tables are config s
 
 -- What the status of a run says, with the line that the errors got.
 says : (words : List (List ℕ)) (before after : Outside) (tb ta : List ℤ → Type 0) (ending : Ending)
@@ -277,7 +290,7 @@ says words before after tb ta Unstarted (inl run) line =
     (λ other. ap (λ (w : Work). w.config) run.0)
 says words before after tb ta Unstarted (inr run) line =
     says_unstarted words before after run.ends run.config.faults (λ other. absurd (other run.words_are))
-says words before after tb ta (Served cause) run line = says_served words before after tb ta cause run
+says words before after tb ta (Served ended) run line = says_ended words before after _ ended run.tables run.words_are run.config run.served
 
 abbrev pub work_at : Incoming → Incoming → Outgoing → Work
 work_at config input output = record { config = config; ends = record { incoming = input; outgoing = output } }

@@ -31,11 +31,12 @@ pub record Refuses (before : Incoming) (fault : PolicyFault) (after : Incoming) 
   pub faults : after.faults ≡ before.faults
   pub first : IsFirstFault text fault
 
--- A read of it failed, and behind that nothing was read.
+-- A read of it failed before its end was reached, and behind that nothing was read.
 pub record Fails (before after : Incoming) : Type 0 where
   pub text : List ℕ
   pub gave : Gave before.left text after.left
   pub short : length text < most_read
+  pub ends : after.ends ≡ before.ends
   pub later : before.faults ≤ after.faults
   pub faults : Rose before.faults after.faults
 
@@ -53,4 +54,4 @@ IsUnserved (ConfigRefused fault) before after = Refuses before fault after
 IsUnserved Unstarted before after = Leaves before after
 IsUnserved WordsRefused before after = ⊥
 IsUnserved (Shown result) before after = ⊥
-IsUnserved (Served cause) before after = ⊥
+IsUnserved (Served ended) before after = ⊥

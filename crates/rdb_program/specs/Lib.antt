@@ -1,9 +1,5 @@
 pub mod Words
-pub mod Turns
 pub mod Causes
-pub mod Closing
-pub mod Connection
-pub mod Framing
 pub mod Configured
 pub mod Run
 pub mod Statuses

@@ -8,14 +8,15 @@ use Rattle.permissions.specs.Faults.{fault_number, fault_name}
 use Rattle.permissions.specs.declared.faults.PolicyFault.{PolicyFault}
 use Rattle.invocation_world.specs.World.{empty_world}
 use Rattle.service_core.specs.CoreState.{CoreState}
-use Rattle.record_desk.specs.Exchange.{Exchange}
+use Rattle.tellers.specs.Exchange.{Exchange}
 use Rattle.record_desk.specs.Clocked.{IsClocked}
 use Rattle.record_desk.specs.Standing.{Moves}
 use Rattle.rdb_program.specs.Words.{SayNothing, IsAnswerWords, AskForText}
-use Rattle.rdb_program.specs.Causes.{row_of, cause_of, error_line}
-use Rattle.rdb_program.specs.Framing as framing
+use Rattle.http_workers.specs.Causes.{cause_of}
+use Rattle.http_workers.specs.Ended.{ServesLink}
+use Rattle.http_workers.specs.declared.ended.Ended.{Ended}
+use Rattle.rdb_program.specs.Causes.{row_of, error_line}
 use Rattle.rdb_program.specs.Configured.{Accepts, IsUnserved}
-use Rattle.rdb_program.specs.declared.ending.Cause.{Cause}
 use Rattle.rdb_program.specs.declared.ending.Ending.{Ending}
 use Rattle.rdb_program.specs.declared.ending.Ending.TheVariants.{WordsRefused, Shown, ConfigFault}
 use Rattle.rdb_program.specs.declared.ending.Ending.TheVariants.{ConfigRefused, Unstarted, Served}
@@ -50,7 +51,7 @@ status_of (Shown (Err end)) = (row_of (cause_of end)).status
 status_of ConfigFault = 4
 status_of (ConfigRefused fault) = 2
 status_of Unstarted = 7
-status_of (Served cause) = (row_of cause).status
+status_of (Served ended) = (row_of ended.cause).status
 
 abbrev pub line_of : Ending → List ℕ
 line_of WordsRefused = error_line (codes "words refused")
@@ -59,7 +60,7 @@ line_of (Shown (Err end)) = (row_of (cause_of end)).line
 line_of ConfigFault = error_line (codes "fault of config")
 line_of (ConfigRefused fault) = refusal_line fault
 line_of Unstarted = error_line (codes "want of memory")
-line_of (Served cause) = (row_of cause).line
+line_of (Served ended) = (row_of ended.cause).line
 
 -- These were asked and told in one legal history from the empty world, under this policy, of one
 -- seat, at the moments that the clock's answers make.
@@ -98,15 +99,15 @@ pub record StopsAtConfig (ending : Ending) (words : List (List ℕ))
   pub clocked : IsClocked tells_before [] tells_after
 
 -- A run whose words ask for a connection, whose configuration is that of a policy, and that served
--- the connection under it.
-pub record Serves (cause : Cause) (words : List (List ℕ))
+-- the connection under it, or had no memory to begin with it.
+pub record Serves (ended : Ended) (words : List (List ℕ))
     (before : Work) (tells_before : List ℤ → Type 0)
     (after : Work) (tells_after : List ℤ → Type 0) : Type 0 where
   pub words_are : IsAnswerWords words
   pub tables : PolicyTables
   pub config : Accepts before.config tables after.config
-  pub served : framing.Served (λ exchanges. IsHistory tables tells_before exchanges tells_after)
-      before.ends cause after.ends
+  pub served : ServesLink (λ exchanges. IsHistory tables tells_before exchanges tells_after)
+      before.ends ended after.ends
 
 -- What a run did that ended so. For want of memory it may have ended at its words, of which nothing
 -- is said then.
@@ -123,8 +124,8 @@ IsRun (ConfigRefused fault) words before tells_before after tells_after =
 IsRun Unstarted words before tells_before after tells_after =
     ((after ≡ before) × IsClocked tells_before [] tells_after)
     ⊎ StopsAtConfig Unstarted words before tells_before after tells_after
-IsRun (Served cause) words before tells_before after tells_after =
-    Serves cause words before tells_before after tells_after
+IsRun (Served ended) words before tells_before after tells_after =
+    Serves ended words before tells_before after tells_after
 
 -- The line was written, or a front of it where a write of it failed or took nothing.
 abbrev pub IsReported : List ℕ → Outgoing → Outgoing → Type 0

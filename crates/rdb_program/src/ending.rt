@@ -1,46 +1,12 @@
 //! How a run ends: its exit status, and its line on standard error.
 ghost use Rattle.std.specs.Prelude.{◌≡◌};
-ghost use Rattle.rdb_program.specs.Causes.{row_of, cause_of};
+ghost use Rattle.rdb_program.specs.Causes.{row_of};
 ghost use Rattle.rdb_program.specs.Run.{status_of, line_of, refusal_line};
 
 use http_wire::WireFault;
+use http_workers::{Cause, Ended};
 use outside::WriteEnd;
 use permissions::PolicyFault;
-
-/// Why a connection ended.
-#[derive(Clone, Copy, Debug)]
-pub enum Cause {
-    /// The input was read to its end, and each message was answered.
-    End,
-    /// The reply that closes the connection went out.
-    Closed,
-    /// The input isn't messages to its end: it has one of the faults 1 to 8.
-    Wire(WireFault),
-    /// A read failed.
-    ReadFault,
-    /// A write failed.
-    WriteFault,
-    /// The output took nothing.
-    SinkTakesNothing,
-    /// Memory was wanting to read a message.
-    Memory,
-}
-
-impl From<WriteEnd> for Cause {
-    ghost use Rattle.std.specs.Prelude.{◌≡◌};
-    ghost use Rattle.rdb_program.specs.Causes.{cause_of};
-
-    ghost from_gives = { λ end cause. cause ≡ cause_of end };
-
-    fn from(end: WriteEnd) -> Cause
-        ensures { result ≡ cause_of end }
-    {
-        match end {
-            WriteEnd::WriteFault => Cause::WriteFault,
-            WriteEnd::SinkTakesNothing => Cause::SinkTakesNothing,
-        }
-    }
-}
 
 /// How a run ended. A fault of the configuration may hold a token, so nothing prints an ending
 /// whole.
@@ -56,8 +22,8 @@ pub enum Ending {
     ConfigRefused(PolicyFault),
     /// Memory was wanting before anything was read of the input.
     Unstarted,
-    /// The connection was served, and ended by this cause.
-    Served(Cause),
+    /// The connection was served, and ended so.
+    Served(Ended),
 }
 
 impl Ending {
@@ -68,11 +34,11 @@ impl Ending {
         match self {
             Ending::WordsRefused => 1,
             Ending::Shown(Ok(())) => 0,
-            Ending::Shown(Err(end)) => Cause::from(*end).status(),
+            Ending::Shown(Err(end)) => status(&Cause::from(*end)),
             Ending::ConfigFault => 4,
             Ending::ConfigRefused(_) => 2,
             Ending::Unstarted => 7,
-            Ending::Served(cause) => cause.status(),
+            Ending::Served(ended) => status(&ended.cause),
         }
     }
 
@@ -83,39 +49,39 @@ impl Ending {
         match self {
             Ending::WordsRefused => "rdb: words refused\n",
             Ending::Shown(Ok(())) => "",
-            Ending::Shown(Err(end)) => Cause::from(*end).line(),
+            Ending::Shown(Err(end)) => line(&Cause::from(*end)),
             Ending::ConfigFault => "rdb: fault of config\n",
             Ending::ConfigRefused(fault) => refusal_line(fault),
             Ending::Unstarted => "rdb: want of memory\n",
-            Ending::Served(cause) => cause.line(),
+            Ending::Served(ended) => line(&ended.cause),
         }
     }
 }
 
-impl Cause {
-    fn status(&self) -> u8
-        ensures { result ≡ (row_of self.now).status }
-    {
-        match self {
-            Cause::End | Cause::Closed => 0,
-            Cause::ReadFault | Cause::WriteFault => 4,
-            Cause::Memory => 7,
-            Cause::Wire(_) => 8,
-            Cause::SinkTakesNothing => 9,
-        }
+/// The exit status of a cause.
+fn status(cause: &Cause) -> u8
+    ensures { result ≡ (row_of cause.now).status }
+{
+    match cause {
+        Cause::End | Cause::Closed => 0,
+        Cause::ReadFault | Cause::WriteFault => 4,
+        Cause::Memory => 7,
+        Cause::Wire(_) => 8,
+        Cause::SinkTakesNothing => 9,
     }
+}
 
-    fn line(&self) -> &'static str
-        ensures { result.now ≡ (row_of self.now).line }
-    {
-        match self {
-            Cause::End | Cause::Closed => "",
-            Cause::ReadFault => "rdb: fault of input\n",
-            Cause::WriteFault => "rdb: fault of output\n",
-            Cause::Memory => "rdb: want of memory\n",
-            Cause::Wire(fault) => wire_line(fault),
-            Cause::SinkTakesNothing => "rdb: output takes nothing\n",
-        }
+/// The line of a cause.
+fn line(cause: &Cause) -> &'static str
+    ensures { result.now ≡ (row_of cause.now).line }
+{
+    match cause {
+        Cause::End | Cause::Closed => "",
+        Cause::ReadFault => "rdb: fault of input\n",
+        Cause::WriteFault => "rdb: fault of output\n",
+        Cause::Memory => "rdb: want of memory\n",
+        Cause::Wire(fault) => wire_line(fault),
+        Cause::SinkTakesNothing => "rdb: output takes nothing\n",
     }
 }
 

@@ -8,9 +8,8 @@ ghost use Rattle.rdb_program.specs.Run.{outside, line_of, IsRun, Shows, StopsAtC
 ghost use Rattle.rdb_program.specs.Run.{ProgramRun};
 ghost use Rattle.rdb_program.specs.Statuses.{StatusSays};
 
-use crate::connection::serve_connection;
 use crate::ending::Ending;
-use http_wire::Wire;
+use http_workers::serve_connection;
 use outside::{Clock, Link, PairLink, Sink, Source, put_whole, write_whole};
 use permissions::{Policy, PolicyFault};
 use policy_reading::from_toml;
@@ -60,11 +59,8 @@ fn answer<L: Link, C: Clock>(alloc: Global, policy: Policy, clock: &mut C, link:
     let Ok(mut core) = Core::new(alloc, policy) else {
         return Ending::Unstarted;
     };
-    let Ok(mut wire) = Wire::new(alloc) else {
-        return Ending::Unstarted;
-    };
     let mut teller = CoreTeller::new(&mut core, clock, alloc);
-    Ending::Served(serve_connection(alloc, &mut teller, &mut wire, link))
+    Ending::Served(serve_connection(alloc, &mut teller, link))
 }
 
 /// Serves one connection under the policy of the configuration.

@@ -8,7 +8,7 @@ use Rattle.service_core.specs.History.{Entry, Serves}
 use Rattle.call_forms.specs.declared.asked.Asked.{Asked}
 use Rattle.call_forms.specs.declared.forms.Told.{Told}
 use Rattle.service_core.proofs.HistoryLaws.{timed_goes_on}
-use Rattle.record_desk.specs.Exchange.{Exchange}
+use Rattle.tellers.specs.Exchange.{Exchange}
 use Rattle.record_desk.specs.Standing.{Moves, exchange_of}
 use Rattle.record_desk.proofs.ClockedLaws.{clocked_nothing, clocked_more}
 

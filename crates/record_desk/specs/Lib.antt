@@ -1,3 +1,2 @@
-pub mod Exchange
 pub mod Clocked
 pub mod Standing

@@ -4,7 +4,7 @@ use Rattle.std.specs.List.{AllByRecursion}
 use Rattle.service_core.specs.CoreState.{CoreState}
 use Rattle.service_core.specs.History.{Entry, IsTimed}
 use Rattle.record_desk.specs.Clocked.{IsClocked}
-use Rattle.record_desk.specs.Exchange.{Exchange}
+use Rattle.tellers.specs.Exchange.{Exchange}
 
 -- what was asked and told in an entry
 abbrev pub exchange_of : Entry → Exchange

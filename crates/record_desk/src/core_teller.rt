@@ -1,13 +1,13 @@
 //! A core and its clock as a teller.
 ghost use Rattle.std.specs.Prelude.{◌≡◌, List, [], ◌∷◌, ◌++◌};
-ghost use Rattle.record_desk.specs.Exchange.{Exchange};
+ghost use Rattle.tellers.specs.Exchange.{Exchange};
 ghost use Rattle.record_desk.specs.Standing.{Moves};
 
-use crate::Teller;
 use call_forms::{Asked, Told};
 use outside::Clock;
 use service_core::Core;
 use std::alloc::Global;
+use tellers::Teller;
 
 /// A core that is asked by one seat, at the moments of a clock.
 #[derive(Drop)]

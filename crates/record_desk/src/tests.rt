@@ -1,5 +1,5 @@
 //! A core that is asked twice, with a clock that goes on.
-use crate::{CoreTeller, Teller};
+use crate::CoreTeller;
 use call_forms::{Asked, Told};
 use lists::Bytes;
 use outside::ListClock;
@@ -8,6 +8,7 @@ use policy_reading::from_toml;
 use service_core::Core;
 use std::alloc::{AllocError, Global};
 use std::test::Fail;
+use tellers::Teller;
 
 const CONFIG: &str = "secret = \"0b\"
 [user.alice]

@@ -1,9 +1,11 @@
 -- A room that is filled read by read.
-use Rattle.std.proofs.Common.{◌≡◌, ℕ, ◌+◌, ◌<◌, ◌≤◌, List, [], ◌++◌, length, take, drop, Result, Ok, Err, refl, sym, ap, ◌∙◌, subst, arith, append-nil, append_assoc, length-append, length-take, length-drop}
+use Rattle.std.proofs.Common.{◌≡◌, ◌≢◌, inl, inr, ℕ, ◌+◌, ◌<◌, ◌≤◌, List, [], ◌++◌, length, take, drop, Result, Ok, Err, refl, sym, ap, ◌∙◌, subst, arith, append-nil, append_assoc, length-append, length-take, length-drop}
 use Rattle.std.proofs.lemmas.List.{take-append-drop, take-take, drop-take}
+use Rattle.fault_counts.specs.Causes.{counted}
 use Rattle.fault_counts.specs.declared.Failed.{Failed}
 use Rattle.outside.specs.Bytes.{Gave}
 use Rattle.outside.specs.Ends.{Incoming}
+use Rattle.outside.proofs.EndLaws.{ends_stay, ends_rise}
 use Rattle.outside.proofs.Taken.{gave_both, gave_nothing}
 use Rattle.whole_reads.specs.Filled.{ReadsAt, Fills}
 use Rattle.whole_reads.specs.declared.front.ReadEnd.{ReadEnd}
@@ -50,11 +52,16 @@ filling_more start room now had between left from at count f x =
       faults = x.cause.kept ∙ f.faults;
     }
 
+-- something came, so the end wasn't reached
+pub ends_same : (ends : ℕ) (between left : Incoming) (room now : List ℕ) (at count : ℕ) → between.ends ≡ ends → ReadsAt between at room (Ok count) now left
+    → count ≢ 0 → left.ends ≡ ends
+ends_same ends between left room now at count before x some = x.ends ∙ ends_stay between.ends (drop at now) count some ∙ before
+
 -- nothing came, and it is the end
 pub filled_end : (start room now : List ℕ) (had between left : Incoming) (from at count : ℕ)
-    → Filling start had from at room between → ReadsAt between at room (Ok count) now left → count ≡ 0
+    → Filling start had from at room between → between.ends ≡ had.ends → at < length now → ReadsAt between at room (Ok count) now left → count ≡ 0
     → Fills start had from (Ok at) now left
-filled_end start room now had between left from at count f x none =
+filled_end start room now had between left from at count f ends less x none =
     let more = filling_more start room now had between left from at count f x in
     let there = more.there in
     let within = more.within in
@@ -65,13 +72,14 @@ filled_end start room now had between left from at count f x none =
       bound = omega (arith, there, within);
       answer = (sym same ∙ there, ap (λ k. take k now) (sym same) ∙ more.front, λ less. x.at_end none);
       faults = more.faults;
+      ends = inl (less, x.ends ∙ ends_rise between.ends (drop at now) count none (simp length-drop (omega (arith, less))) ∙ ap counted ends);
     }
 
 -- a read failed
 pub filled_fault : (start room now : List ℕ) (had between left : Incoming) (from at : ℕ) (e : Failed)
-    (r : Result ℕ ReadEnd) → Filling start had from at room between → at < length now
+    (r : Result ℕ ReadEnd) → Filling start had from at room between → between.ends ≡ had.ends → at < length now
     → ReadsAt between at room (Err e) now left → r ≡ Err end.Failed → Fills start had from r now left
-filled_fault start room now had between left from at e r f less x is =
+filled_fault start room now had between left from at e r f ends less x is =
     let there = f.there in
     let same = f.faults in
     let later = x.cause.later in
@@ -82,11 +90,12 @@ filled_fault start room now had between left from at e r f less x is =
       bound = omega (arith, there, len, less);
       answer = omega (arith, there, len, less);
       faults = (omega (arith, same, later), rw (sym same) x.cause.failed);
+      ends = x.ends ∙ ends;
     })
 
 pub filled_all : (start room : List ℕ) (had left : Incoming) (from at : ℕ)
-    → Filling start had from at room left → length room ≤ at → Fills start had from (Ok at) room left
-filled_all start room had left from at f all =
+    → Filling start had from at room left → left.ends ≡ had.ends → length room ≤ at → Fills start had from (Ok at) room left
+filled_all start room had left from at f ends all =
     let there = f.there in
     let within = f.within in
     record {
@@ -95,4 +104,5 @@ filled_all start room had left from at f all =
       bound = omega (arith, there, within);
       answer = (f.there, f.front, λ less. absurd (omega (arith, less, all)));
       faults = f.faults;
+      ends = inr (omega (arith, within, all), ends);
     }

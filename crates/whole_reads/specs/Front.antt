@@ -1,7 +1,7 @@
 -- What reading the front of a source did.
 use Rattle.std.specs.Prelude.{◌≡◌, ℕ, ◌<◌, ◌≤◌, ◌⊎◌, List, length, Option, Result, Ok, Err}
 use Rattle.std.specs.Global.{Vec}
-use Rattle.fault_counts.specs.Causes.{Rose}
+use Rattle.fault_counts.specs.Causes.{Rose, counted}
 use Rattle.outside.specs.Bytes.{Gave, IsEnd}
 use Rattle.outside.specs.Ends.{Incoming}
 use Rattle.whole_reads.specs.declared.front.ReadEnd.{ReadEnd}
@@ -19,11 +19,19 @@ CountsRead before (Ok done) now = now ≡ before
 CountsRead before (Err Failed) now = (before ≤ now) × Rose before now
 CountsRead before (Err Memory) now = now ≡ before
 
--- What reading up to so many bytes did: what the source gave, never more than the most, the answer to it, and the count of
--- failed reads.
+-- The end was reached by one read where fewer bytes came than the most, and by none where as many came, or at an error. So
+-- behind the end nothing is read.
+abbrev pub CountsEnds : ℕ → List ℕ → ℕ → Result (Vec ℕ) ReadEnd → ℕ → Type 0
+CountsEnds most got before (Ok bytes) now =
+    ((length got < most) × (now ≡ counted before)) ⊎ ((length got ≡ most) × (now ≡ before))
+CountsEnds most got before (Err e) now = now ≡ before
+
+-- What reading up to so many bytes did: what the source gave, never more than the most, the answer to it, and the counts of
+-- failed reads and of ends.
 pub record ReadsFront (before : Incoming) (most : ℕ) (result : Result (Vec ℕ) ReadEnd) (after : Incoming) : Type 0 where
   pub got : List ℕ
   pub gave : Gave before.left got after.left
   pub bounded : length got ≤ most
   pub answer : IsFront most got result after.left
   pub faults : CountsRead before.faults result after.faults
+  pub ends : CountsEnds most got before.ends result after.ends

@@ -1,5 +1,5 @@
 //! The system's clock.
-ghost use Rattle.std.specs.Prelude.{ℤ, List};
+ghost use Rattle.std.specs.Prelude.{ℤ, List, pos, ◌≤ℤ◌};
 
 use crate::Clock;
 use std::time::{SystemTime, UNIX_EPOCH};
@@ -24,7 +24,9 @@ impl<R: std::time::Clock> Clock for WallClock<R> {
     ghost tells = { λ _ _. ⊥ };
 
     /// The microseconds since 1970, or 0 where the system's clock can't be read or stands before 1970.
-    fn now(&mut self) -> i64 {
+    fn now(&mut self) -> i64
+        ensures { pos 0 ≤ℤ result }
+    {
         let Ok(time) = SystemTime::now(&self.rt) else {
             return 0;
         };

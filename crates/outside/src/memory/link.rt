@@ -8,6 +8,7 @@ ghost use Rattle.outside.specs.Memory.{EndsRead, link_after_read, link_after_wri
 
 use super::output::Output;
 use super::pieces::Pieces;
+use crate::source::count_end;
 use crate::{Failed, Link};
 use fault_counts::{Count, Outcome, Schedule};
 use std::alloc::{AllocError, Global};
@@ -19,6 +20,7 @@ pub struct MemoryLink {
     schedule: Schedule,
     pieces: Pieces,
     read_faults: Count,
+    ends: Count,
     output: Output,
 }
 
@@ -31,6 +33,7 @@ impl Model for MemoryLink {
       calls = l.schedule;
       pieces = l.pieces;
       read_faults = l.read_faults;
+      ends = l.ends;
       output = l.output;
     } };
 }
@@ -49,12 +52,14 @@ impl MemoryLink {
         ensures pieces { IfOk result (λ l. l.pieces ≡ without_empty
             (map (λ v. v.items) pieces.items)) }
         ensures read_faults { IfOk result (λ l. l.read_faults ≡ 0) }
+        ensures ends { IfOk result (λ l. l.ends ≡ 0) }
         ensures output { IfOk result (λ l. l.output ≡ nothing_written) }
     {
         Ok(MemoryLink {
             schedule: Schedule::new(fails),
             pieces: Pieces::new(alloc, pieces),
             read_faults: Count::new(),
+            ends: Count::new(),
             output: Output::new(alloc),
         })
     }
@@ -71,6 +76,13 @@ impl MemoryLink {
         ensures { result ≡ self.now.read_faults }
     {
         self.read_faults.value()
+    }
+
+    /// How many reads gave nothing into room that isn't empty.
+    pub fn ends(&self) -> u64
+        ensures { result ≡ self.now.ends }
+    {
+        self.ends.value()
     }
 
     /// How many writes failed.
@@ -103,10 +115,14 @@ impl Link for MemoryLink {
         ensures only { OnlyReads (link_ends self.old) (link_ends self.new) }
         ensures ends { EndsRead (outcome_of (times_listed self.old.calls))
             (first_piece self.old.pieces) room.new result }
-        ensures after { self.new ≡ link_after_read self.old result }
+        ensures after { self.new ≡ link_after_read self.old room.new result }
     {
         match self.schedule.next_outcome() {
-            Outcome::Works => Ok(self.pieces.give(room)),
+            Outcome::Works => {
+                let count = self.pieces.give(room);
+                count_end(&mut self.ends, room, count);
+                Ok(count)
+            }
             Outcome::Fails | Outcome::Stalls => self.read_faults.failed(),
         }
     }

@@ -5,6 +5,7 @@ ghost use Rattle.outside.specs.Ends.{ReadsOnce};
 ghost use Rattle.outside.specs.Memory.{EndsRead, source_after, source_ends};
 
 use super::pieces::Unread;
+use crate::source::count_end;
 use crate::{Failed, Source};
 use fault_counts::{Count, Outcome, Schedule};
 use std::alloc::{AllocError, Global};
@@ -16,6 +17,7 @@ pub struct MemorySource {
     schedule: Schedule,
     unread: Unread,
     faults: Count,
+    ends: Count,
 }
 
 impl Model for MemorySource {
@@ -23,7 +25,12 @@ impl Model for MemorySource {
 
     ghost Value = { SourceState };
 
-    ghost view = { λ s. record { calls = s.schedule; left = s.unread; faults = s.faults } };
+    ghost view = { λ s. record {
+      calls = s.schedule;
+      left = s.unread;
+      faults = s.faults;
+      ends = s.ends;
+    } };
 }
 
 impl MemorySource {
@@ -32,11 +39,13 @@ impl MemorySource {
         ensures calls { IfOk result (λ s. s.calls ≡ no_call_yet fails.items) }
         ensures left { IfOk result (λ s. s.left ≡ bytes.items) }
         ensures faults { IfOk result (λ s. s.faults ≡ 0) }
+        ensures ends { IfOk result (λ s. s.ends ≡ 0) }
     {
         Ok(MemorySource {
             schedule: Schedule::new(fails),
             unread: Unread::new(bytes),
             faults: Count::new(),
+            ends: Count::new(),
         })
     }
 
@@ -45,6 +54,13 @@ impl MemorySource {
         ensures { result ≡ self.now.faults }
     {
         self.faults.value()
+    }
+
+    /// How many reads gave nothing into room that isn't empty.
+    pub fn ends(&self) -> u64
+        ensures { result ≡ self.now.ends }
+    {
+        self.ends.value()
     }
 }
 
@@ -58,10 +74,14 @@ impl Source for MemorySource {
         ensures read { ReadsOnce (source_ends self.old) room.new result (source_ends self.new) }
         ensures ends { EndsRead (outcome_of (times_listed self.old.calls)) self.old.left room.new
             result }
-        ensures after { self.new ≡ source_after self.old result }
+        ensures after { self.new ≡ source_after self.old room.new result }
     {
         match self.schedule.next_outcome() {
-            Outcome::Works => Ok(self.unread.give(room)),
+            Outcome::Works => {
+                let count = self.unread.give(room);
+                count_end(&mut self.ends, room, count);
+                Ok(count)
+            }
             Outcome::Fails | Outcome::Stalls => self.faults.failed(),
         }
     }

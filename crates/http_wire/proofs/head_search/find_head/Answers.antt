@@ -21,14 +21,14 @@ pub returns-in-Found-clause-finds : goal.returns-in-Found-clause-finds
 returns-in-Found-clause-finds g c =
     finds_held _ _ _ _ _ c.search.invariant.searched (ap head_end (sym c.as_slice.ensures.value) ∙ c.in-Found.ensures)
     (subst (λ x. length x ≤ head_limit) c.as_slice.ensures.value c.as_slice.ensures.short)
-    c.search.invariant.searched.faults
+    c.search.invariant.searched.faults c.search.invariant.searched.ends
 
 pub returns-then-progress-eq-HEAD_LIMIT-clause-finds : goal.returns-then-progress-eq-HEAD_LIMIT-clause-finds
 returns-then-progress-eq-HEAD_LIMIT-clause-finds g c =
     let passed = subst (λ x. Passed x c.in-Goes.next) c.as_slice.ensures.value c.in-Goes.ensures in
     finds_held _ _ _ _ _ c.search.invariant.searched (endless c.search.buffer c.in-Goes.next passed c.if-progress-eq-HEAD_LIMIT.true)
     (subst (λ x. length x ≤ head_limit) c.as_slice.ensures.value c.as_slice.ensures.short)
-    c.search.invariant.searched.faults
+    c.search.invariant.searched.faults c.search.invariant.searched.ends
 
 pub returns-in_err-count-clause-finds : goal.returns-in_err-count-clause-finds
 returns-in_err-count-clause-finds g c =
@@ -55,7 +55,7 @@ search-preserved g c =
     let more = passed_more _ _ _ _ _ passed ok.filled.read in
     record {
       searched = searched_more _ _ _ _ _ _ _ c.search.invariant.searched
-          (undecided_passed _ _ passed c.if-progress-eq-HEAD_LIMIT.false short) ok.filled;
+          (undecided_passed _ _ passed c.if-progress-eq-HEAD_LIMIT.false short) ok.filled c.if-count-eq0.false;
       within = more.0;
       passed = more.1;
       only = ok.only ∙ c.search.invariant.only;

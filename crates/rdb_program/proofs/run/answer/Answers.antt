@@ -1,7 +1,7 @@
 use Rattle.std.proofs.Common.{◌≡◌, [], sym, ap, ◌∙◌}
 use Rattle.service_core.specs.CoreState.{CoreState}
 use Rattle.record_desk.proofs.StandingLaws.{moves_nowhere}
-use Rattle.rdb_program.proofs.FramingLaws.{served, asked_so}
+use Rattle.http_workers.proofs.FramingLaws.{asked_so}
 use Rattle.rdb_program.proofs.RunLaws.{history_from}
 use Rattle.rdb_program.proofs.run.answer.Goals as goal
 
@@ -17,10 +17,10 @@ returns-clause-run g c = λ words before after are accepts.
       words_are = are;
       tables = _;
       config = accepts;
-      served = served _ _ _ _ (asked_so _ _ _ _ _
+      served = asked_so _ _ _ _ _
           (λ es asked. history_from (λ clock. g.C.Clock.tells (g.C.Clock.state clock)) _ first.core.now last.core.now first.clock.now _ last.clock.now _ es
           (ap (λ (k : CoreState). k.settings.policy) c.new-teller.ensures.core_now ∙ c.in-Ok.ensures.settings)
           (ap (λ (k : CoreState). k.world) c.new-teller.ensures.core_now ∙ c.in-Ok.ensures.world)
           c.new-teller.ensures.clock_now (sym clock) (asked first [] (moves_nowhere _ _)))
-          c.serve_connection.ensures.connection);
+          c.serve_connection.ensures.serves;
     }

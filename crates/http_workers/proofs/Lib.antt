@@ -1,0 +1,4 @@
+pub mod TurnLaws
+pub mod ClosingLaws
+pub mod Serving
+pub mod FramingLaws
