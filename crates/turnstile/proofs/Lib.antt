@@ -1,0 +1,4 @@
+pub mod Totals
+pub mod FairLaws
+pub mod SeatLaws
+pub mod StepLaws

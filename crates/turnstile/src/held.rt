@@ -1,0 +1,48 @@
+//! Values with a history, and what is done with one in a turn.
+ghost use Rattle.std.specs.Prelude.{◌≡◌, ℕ, ◌+◌, ◌<◌, ◌^◌, List, [], ◌∷◌, ◌++◌, length};
+
+/// A value with a history.
+///
+/// Starts and entries are plain data, of which no value need be made. Each entry has the number of the seat that made it.
+pub trait Held {
+    type Start;
+
+    type Entry;
+
+    // The value stands for these entries, from this start.
+    ghost stands: { Self → Self.Start → List Self.Entry → Type 0 };
+
+    // The number of the seat that made the entry.
+    ghost by: { Self.Entry → ℕ };
+
+    // How many entries the value has.
+    ghost entries: { Self → ℕ };
+
+    // The start from which a value without entries stands for none.
+    ghost start: { Self → Self.Start };
+
+    ghost counts: { (v : Self) (s : Self.Start) (log : List Self.Entry)
+        → stands v s log → entries v ≡ length log };
+
+    ghost begins: { (v : Self) → entries v ≡ 0 → stands v (start v) [] };
+}
+
+/// What is done with the value in a turn. It adds one entry.
+pub trait Call<T: Held>: Drop {
+    type Answer;
+
+    // The call may add this entry to these entries, with this answer.
+    ghost may: { Self → List T.Entry → T.Entry → Self.Answer → Type 0 };
+
+    fn run(self, held: &mut T, seat_number: u64) -> Self::Answer
+        requires { (start : T.Start) × (log : List T.Entry)
+            × T.stands held.old start log × (length log < 2 ^ 63) }
+        ensures { (start : T.Start) (log : List T.Entry)
+            → T.stands held.old start log → length log < 2 ^ 63
+            → (e : T.Entry) × T.stands held.new start (log ++ e ∷ [])
+            × (T.by e ≡ seat_number) × may self log e result };
+}
+
+/// No ticket is left.
+#[derive(Debug, Drop)]
+pub struct Spent;
