@@ -23,13 +23,17 @@ pub enum Role {
     Ends(u64),
 }
 
-/// What a seat knows: its number, how many seats it may split off, how many tickets it found drawn, the numbers of the
-/// seats that were joined into it, and the history that it has seen. No value of it is made.
+/// What a seat knows. No value of it is made: it is for contracts.
 pub struct Known<E> {
+    /// Each entry of the seat has it.
     pub number: u64,
+    /// So many seats may still be split off.
     pub splits: u64,
+    /// The greatest number of tickets that the seat found drawn.
     pub drawn: u64,
+    /// The numbers of the seats that were joined into it, and their ended ones.
     pub ended: LinkedList<u64>,
+    /// The history, as far as the seat has seen it.
     pub seen: LinkedList<E>,
 }
 

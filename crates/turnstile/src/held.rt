@@ -5,8 +5,10 @@ ghost use Rattle.std.specs.Prelude.{◌≡◌, ℕ, ◌+◌, ◌<◌, ◌^◌, L
 ///
 /// Starts and entries are plain data, of which no value need be made. Each entry has the number of the seat that made it.
 pub trait Held {
+    /// From where a history begins.
     type Start;
 
+    /// What one turn adds to it.
     type Entry;
 
     // The value stands for these entries, from this start.
@@ -21,19 +23,23 @@ pub trait Held {
     // The start from which a value without entries stands for none.
     ghost start: { Self → Self.Start };
 
+    // It has as many as it stands for.
     ghost counts: { (v : Self) (s : Self.Start) (log : List Self.Entry)
         → stands v s log → entries v ≡ length log };
 
+    // And from that start it does.
     ghost begins: { (v : Self) → entries v ≡ 0 → stands v (start v) [] };
 }
 
 /// What is done with the value in a turn. It adds one entry.
 pub trait Call<T: Held>: Drop {
+    /// What the caller is told.
     type Answer;
 
     // The call may add this entry to these entries, with this answer.
     ghost may: { Self → List T.Entry → T.Entry → Self.Answer → Type 0 };
 
+    /// Does it, in the turn of the seat with this number.
     fn run(self, held: &mut T, seat_number: u64) -> Self::Answer
         requires { (start : T.Start) × (log : List T.Entry)
             × T.stands held.old start log × (length log < 2 ^ 63) }
@@ -43,6 +49,6 @@ pub trait Call<T: Held>: Drop {
             × (T.by e ≡ seat_number) × may self log e result };
 }
 
-/// No ticket is left.
+/// All 2^63 tickets for turns are drawn.
 #[derive(Debug, Drop)]
 pub struct Spent;
