@@ -13,7 +13,8 @@ NoneOf by numbers (e ∷ es) = (times (by e) numbers ≡ 0) × NoneOf by numbers
 
 -- the history begins with what was seen, and the rest of it has none of these numbers
 abbrev pub Begins : {E : Type 0} → (E → ℕ) → List ℕ → List E → List E → Type 0
-Begins {E} by numbers log seen = (others : List E) × (log ≡ seen ++ others) × NoneOf by numbers others
+Begins {E} by numbers log seen =
+    (others : List E) × (log ≡ seen ++ others) × NoneOf by numbers others
 
 -- each of the entries has this number or a lower one
 abbrev pub AtMost : {E : Type 0} → (E → ℕ) → ℕ → List E → Type 0

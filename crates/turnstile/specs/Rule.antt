@@ -91,7 +91,8 @@ abbrev pub total : {A : Type 0} → (A → ℕ) → List A → ℕ
 total f [] = 0
 total f (x ∷ xs) = f x + total f xs
 
--- Tickets are different, lie between the turns passed and the tickets drawn, and are as many. Who knows that it is its turn has the next one
+-- Tickets are different, lie between the turns passed and the tickets drawn, and are as many. Who
+-- knows that it is its turn has the next one
 pub record IsFair (drawn passed : ℕ) (roles : List Role) : Type 0 where
   pub room : drawn ≤ 9223372036854775809
   pub many : passed + total tickets_of roles ≡ drawn
@@ -109,7 +110,8 @@ IsTaken homes (Holds t) = homes ≡ none ∷ []
 IsTaken homes (Ends t) = homes ≡ some None ∷ []
 
 -- the value is at home and stands for the history, or one that has the turn has taken it
-abbrev pub IsPlaced : {T E : Type 0} → (T → List E → Type 0) → List (Maybe (Option T)) → List Role → List E → Type 0
+abbrev pub IsPlaced : {T E : Type 0} → (T → List E → Type 0) → List (Maybe (Option T))
+    → List Role → List E → Type 0
 IsPlaced {T} stands homes roles log =
     ((v : T) × (homes ≡ some (Some v) ∷ []) × stands v log × ((i t : ℕ) → ¬ HasTurn roles i t))
     ⊎ ((i : ℕ) × (r : Role) × (get_elem? roles i ≡ some r) × IsTaken homes r)
@@ -128,8 +130,10 @@ count n views = total (λ v. times n (all_names v.known)) views
 abbrev pub HasNumbers : {E : Type 0} → ℕ → List (View E) → Type 0
 HasNumbers split views = (n : ℕ) → (count n views ≤ 1) × (split < n → count n views ≡ 0)
 
--- What a seat knows is true, where so many tickets were drawn and so many seats split off, and this is the history
-pub record Knows {E : Type 0} (by : E → ℕ) (drawn split : ℕ) (log : List E) (k : Known E) : Type 0 where
+-- What a seat knows is true, where so many tickets were drawn and so many seats split off, and this
+-- is the history
+pub record Knows {E : Type 0} (by : E → ℕ) (drawn split : ℕ) (log : List E)
+    (k : Known E) : Type 0 where
   pub found : k.drawn ≤ drawn
   pub low : k.number ≤ split
   pub splitter : 0 < k.splits → k.number ≡ 0
@@ -142,9 +146,11 @@ AllKnow by drawn split log (k ∷ ks) = Knows by drawn split log k × AllKnow by
 
 -- and in its turn a seat knows the whole history
 abbrev pub ViewKnows : {E : Type 0} → (E → ℕ) → ℕ → ℕ → List E → View E → Type 0
-ViewKnows by drawn split log v = AllKnow by drawn split log v.known × ((t : ℕ) → turn_of v.role ≡ Some t → (own_of v).seen ≡ log)
+ViewKnows by drawn split log v =
+    AllKnow by drawn split log v.known × ((t : ℕ) → turn_of v.role ≡ Some t → (own_of v).seen ≡ log)
 
-pub record Kept {T E : Type 0} (stands : T → List E → Type 0) (by : E → ℕ) (s : State (Option T) (View E)) : Type 0 where
+pub record Kept {T E : Type 0} (stands : T → List E → Type 0) (by : E → ℕ)
+    (s : State (Option T) (View E)) : Type 0 where
   pub drawn : ℕ
   pub passed : ℕ
   pub split : ℕ

@@ -1,4 +1,5 @@
-//! The table of a turnstile: word 0 counts the tickets drawn, word 1 the turns passed, and slot 0 has the value.
+//! The table of a turnstile: word 0 counts the tickets drawn, word 1 the turns passed, and slot 0
+//! has the value.
 ghost use Rattle.turnstile.specs.Rule.{Kept, idle, gone};
 ghost use Rattle.turnstile.specs.Seats.{first_known, split_left, split_right};
 ghost use Rattle.turnstile.specs.Steps.{drew, looked, passed_on, ended, met, settled};
@@ -37,7 +38,8 @@ pub struct Known<E> {
     pub seen: LinkedList<E>,
 }
 
-/// A seat at the table: what one seat knows, or two that are being joined, or none that was joined away.
+/// A seat at the table: what one seat knows, or two that are being joined, or none that was joined
+/// away.
 pub struct View<E> {
     pub role: Role,
     pub known: LinkedList<Known<E>>,

@@ -3,7 +3,8 @@ ghost use Rattle.std.specs.Prelude.{◌≡◌, ℕ, ◌+◌, ◌<◌, ◌^◌, L
 
 /// A value with a history.
 ///
-/// Starts and entries are plain data, of which no value need be made. Each entry has the number of the seat that made it.
+/// Starts and entries are plain data, of which no value need be made. Each entry has the number of
+/// the seat that made it.
 pub trait Held {
     /// From where a history begins.
     type Start;

@@ -1,4 +1,5 @@
-//! A lock of tickets over a value with a history: each turn adds one entry to it, and each seat knows what it has seen.
+//! A lock of tickets over a value with a history: each turn adds one entry to it, and each seat
+//! knows what it has seen.
 #![tactic(auto)]
 
 mod board;

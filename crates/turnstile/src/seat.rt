@@ -7,8 +7,8 @@ use crate::Held;
 use crate::board::Place;
 use std::marker::Model;
 
-/// A place at a turnstile, for one caller at a time. It has a number of its own. Contracts see which turnstile it is of,
-/// and what it knows.
+/// A place at a turnstile, for one caller at a time. It has a number of its own. Contracts see
+/// which turnstile it is of, and what it knows.
 pub struct Seat<T: Held> {
     pub(crate) place: Place<T>,
     pub(crate) number: u64,

@@ -12,7 +12,8 @@ use crate::board::{
 use std::marker::Brand;
 use std::snapshot::Snapshot;
 
-/// Tries to draw this ticket, and returns the number of tickets drawn: the ticket, where it was drawn.
+/// Tries to draw this ticket, and returns the number of tickets drawn: the ticket, where it was
+/// drawn.
 pub(crate) fn draw<T: Held>(board: &Board<T>, place: &mut Place<T>, ticket: u64) -> u64
     requires table { IsOf place.old.table_id board.now.shared.table_id }
     requires idle { place.old.me ≡ (idle (own_of place.old.me.0), []) }
@@ -48,8 +49,8 @@ fn look_by<T: Held, J: Standing<T, T::Entry>>(
     board.shared.load::<Looks<J>>(place, 1)
 }
 
-/// Returns the number of turns passed. Where it is the ticket, it is its turn: the seat has the slot and finds the whole
-/// history.
+/// Returns the number of turns passed. Where it is the ticket, it is its turn: the seat has the
+/// slot and finds the whole history.
 pub(crate) fn look<T: Held>(board: &Board<T>, place: &mut Place<T>, ticket: u64) -> u64
     requires table { IsOf place.old.table_id board.now.shared.table_id }
     requires waits { place.old.me ≡ (waiting ticket (own_of place.old.me.0), []) }

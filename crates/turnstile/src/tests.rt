@@ -127,7 +127,8 @@ fn take_all<R: Threads + Wait + Sync>(rt: &R, gate: &Turnstile<Tally>, callers: 
     );
 }
 
-/// Joins all seats into the first one, and answers the greatest of the last answers, where each caller has one.
+/// Joins all seats into the first one, and answers the greatest of the last answers, where each
+/// caller has one.
 fn join_all(
     gate: &Turnstile<Tally>,
     first: &mut Seat<Tally>,

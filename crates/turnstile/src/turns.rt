@@ -29,7 +29,8 @@ pub(crate) fn draw_next<T: Held, R: Wait>(
     ensures none { IfNone result (let all : ℕ = 9223372036854775808 in
         place.new.me ≡ (idle (record (own_of place.old.me.0) { drawn = all }), [])) }
 {
-    // Never the ticket for the end: where all others are drawn, a try for the last of them is lost and tells so.
+    // Never the ticket for the end: where all others are drawn, a try for the last of them is lost
+    // and tells so.
     let mut ticket = board.shared.peek(0).min(TICKETS - 1);
     for _ in rt.forever() {
         let found = draw(board, place, ticket);

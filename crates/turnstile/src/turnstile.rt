@@ -14,7 +14,8 @@ use std::marker::Model;
 use std::sync::Wait;
 use std::sync::atomic::AtomicU64;
 
-/// A value that callers take turns with. Contracts see which turnstile it is, and the start of its history.
+/// A value that callers take turns with. Contracts see which turnstile it is, and the start of its
+/// history.
 #[derive(Drop)]
 pub struct Turnstile<T: Held> {
     board: Board<T>,
@@ -37,8 +38,8 @@ impl<T: Held> Model for Turnstile<T> {
 }
 
 impl<T: Held> Turnstile<T> {
-    /// A turnstile for a value without entries, and its first seat, which has number 0 and may split off 2^32 others.
-    /// Hands the value back for want of memory.
+    /// A turnstile for a value without entries, and its first seat, which has number 0 and may
+    /// split off 2^32 others. Hands the value back for want of memory.
     pub fn begin(alloc: Global, held: T) -> Result<(Turnstile<T>, Seat<T>), T>
         requires { T.entries held ≡ 0 }
         ensures ok { IfOk result (λ r. (r.1.table ≡ r.0.table) × (r.0.start ≡ T.start held)
@@ -54,9 +55,11 @@ impl<T: Held> Turnstile<T> {
         }
     }
 
-    /// Waits for a turn, runs the call on the value, and passes the turn. `Spent` where all 2^63 tickets are drawn.
+    /// Waits for a turn, runs the call on the value, and passes the turn. `Spent` where all 2^63
+    /// tickets are drawn.
     ///
-    /// The seat has then seen what it had seen, entries of other seats, and the one that its call added.
+    /// The seat has then seen what it had seen, entries of other seats, and the one that its call
+    /// added.
     pub fn turn<R: Wait, Q: Call<T>>(
         &self,
         rt: &R,
@@ -104,7 +107,8 @@ impl<T: Held> Turnstile<T> {
         split_seat(place, number)
     }
 
-    /// Joins a seat into another one, which has then seen what both had. The other's numbers are among its ended ones.
+    /// Joins a seat into another one, which has then seen what both had. The other's numbers are
+    /// among its ended ones.
     pub fn join(&self, seat: &mut Seat<T>, other: Seat<T>)
         requires own { (seat.old.table ≡ self.now.table) × (other.table ≡ self.now.table) }
         ensures own { seat.new.table ≡ seat.old.table }

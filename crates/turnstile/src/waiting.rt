@@ -52,14 +52,15 @@ pub(crate) fn wait<T: Held, R: Wait>(
 {
     let bell = bell_of(bells, ticket);
     for _ in rt.forever() {
-        // First the bell, then the look: a pass that the look misses rings after the bell was read here, so that the
-        // sleep below sees another number, or is woken.
+        // First the bell, then the look: a pass that the look misses rings after the bell was read
+        // here, so that the sleep below sees another number, or is woken.
         let rung = bell.load(Ordering::SeqCst);
         // One look: each further one before a sleep made turns slower.
         if look(board, place, ticket) == ticket {
             return;
         }
-        // It ends at a ring, for this ticket or for another one of the bell, or for no reason: hence the loop.
+        // It ends at a ring, for this ticket or for another one of the bell, or for no reason:
+        // hence the loop.
         bell.park(rt, (rung & LOW) as u32);
     }
     unreachable!()
@@ -72,6 +73,7 @@ pub(crate) fn ring(bells: &[AtomicU64], ticket: u64)
     let bell = bell_of(bells, ticket);
     // First the number: who has read the old one and doesn't sleep yet won't.
     bell.fetch_add(1, Ordering::SeqCst);
-    // All: another ticket of this bell may sleep here too, and to wake that one alone would leave the turn unused.
+    // All: another ticket of this bell may sleep here too, and to wake that one alone would leave
+    // the turn unused.
     bell.wake_all();
 }
