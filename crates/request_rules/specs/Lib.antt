@@ -5,3 +5,4 @@ pub mod Broken
 pub mod Order
 pub mod Understood
 pub mod Breaches
+pub mod Askers

@@ -1,5 +1,5 @@
 //! Which rule a demand breaks, if any. Nothing here takes memory.
-ghost use Rattle.std.specs.Prelude.{◌≡◌, ◌<◌, ◌↔◌, IsTrue, Contains, length, option_map};
+ghost use Rattle.std.specs.Prelude.{◌≡◌, ◌↔◌, IsTrue, Contains, option_map};
 ghost use Rattle.call_forms.specs.declared.asked.Asked.{Asked};
 ghost use Rattle.request_rules.specs.Demands.{demand_of};
 ghost use Rattle.request_rules.specs.Broken.{IsBroken, BadUpdateToken, DeadlineRange, Denied, IsInReach, Itself, NoUpdateToken, NotActive, NotFound, Taken, TooMany};
@@ -7,12 +7,13 @@ ghost use Rattle.request_rules.specs.Order.{Judges};
 ghost use Rattle.request_rules.specs.Settings.{Settings};
 ghost use Rattle.request_rules.specs.Understood.{IsCallOf, IsChecked};
 ghost use Rattle.request_rules.specs.Breaches.{Finds, case_of, refusal_of};
+ghost use Rattle.request_rules.specs.Askers.{IsAsker, MayJudge};
 
 use crate::breaches::Breach;
 use crate::demand::{Demand, demand_of};
 use crate::locating::{first_missing, place_of, row_of};
 use crate::reading::{Call, TokenCheck};
-use crate::rights::Asker;
+use crate::rights::{Asker, Holding};
 use crate::rules::Rule;
 use invocations::Table;
 use names_realms::{InvocationId, Moment, State};
@@ -63,7 +64,7 @@ fn bad_update_token<'r>(token: TokenCheck, demand: &Demand<'r>) -> Option<Breach
 
 /// The first right that the caller lacks.
 fn denied<'r>(asker: &Asker<'r>, table: &'r Table, demand: &Demand<'r>) -> Option<Breach<'r>>
-    requires { asker.now.caller < length asker.now.policy.now.users }
+    requires { IsAsker asker.now }
     ensures { Finds (Denied asker.now.policy.now table.now.rows asker.now.caller demand.now)
         result }
 {
@@ -163,12 +164,14 @@ pub struct Situation<'r> {
     pub policy: &'r Policy,
     pub table: &'r Table,
     pub moment: Moment,
+    /// What was found before of the caller's rights, by `holding_for`.
+    pub holding: &'r Option<Holding<'r>>,
 }
 
 impl<'r> Situation<'r> {
     /// What breaks one rule, if it is broken.
     fn broken_by(&self, call: &Call, demand: &Demand<'r>, rule: Rule) -> Option<Breach<'r>>
-        requires { call.now.caller < length self.now.policy.now.users }
+        requires { MayJudge self.now call.now.caller }
         ensures { (asked : Asked)
             → IsChecked (record { policy = self.now.policy.now }) asked demand.now call.now.token
             → Finds (IsBroken (case_of self.now asked call.now.caller) demand.now rule) result }
@@ -176,6 +179,7 @@ impl<'r> Situation<'r> {
         let asker = Asker {
             policy: self.policy,
             caller: call.caller,
+            holding: self.holding,
         };
         match rule {
             Rule::NotFound => not_found(self.table, demand),
@@ -192,7 +196,7 @@ impl<'r> Situation<'r> {
 
     /// The first of these rules that a demand breaks, if any.
     fn judge_demand(&self, rules: &[Rule], call: &Call, demand: &Demand<'r>) -> Option<Breach<'r>>
-        requires { call.now.caller < length self.now.policy.now.users }
+        requires { MayJudge self.now call.now.caller }
         ensures { (asked : Asked)
             → IsChecked (record { policy = self.now.policy.now }) asked demand.now call.now.token
             → Judges (IsBroken (case_of self.now asked call.now.caller) demand.now) rules.now
@@ -208,7 +212,7 @@ impl<'r> Situation<'r> {
 
     /// The first of these rules that a call breaks, if any.
     pub fn judge(&self, rules: &[Rule], call: &'r Call) -> Option<Breach<'r>>
-        requires { call.now.caller < length self.now.policy.now.users }
+        requires { MayJudge self.now call.now.caller }
         ensures { (asked : Asked)
             → IsCallOf (record { policy = self.now.policy.now }) asked call.now
             → Judges

@@ -16,4 +16,5 @@ pub use demand::{Demand, demand_of};
 pub use judging::Situation;
 pub use locating::{place_of, places_of};
 pub use reading::{Call, TokenCheck, Understood, understand};
+pub use rights::{Holding, holding_for};
 pub use rules::Rule;

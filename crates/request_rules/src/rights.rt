@@ -1,15 +1,19 @@
 //! Whether a caller has the rights that a request takes.
-ghost use Rattle.std.specs.Prelude.{◌≡◌, ◌<◌, ◌∷◌, [], Some, length};
+ghost use Rattle.std.specs.Prelude.{◌≡◌, ◌<◌, ◌↔◌, ◌∷◌, [], Some, IfOk, IfSome, IsTrue, length};
+ghost use Rattle.permissions.specs.Allows.{Allows};
 ghost use Rattle.request_rules.specs.Demands.{right, rights_here, rights_in, rights_of, rights_taken};
 ghost use Rattle.request_rules.specs.Named.{named};
 ghost use Rattle.request_rules.specs.Order.{FirstOf};
 ghost use Rattle.request_rules.specs.Broken.{Lacks};
+ghost use Rattle.request_rules.specs.Askers.{IsAsker, IsHeldBy};
 
-use crate::demand::Demand;
+use crate::demand::{Demand, demand_of};
 use crate::locating::row_of;
+use crate::reading::Call;
 use invocations::Table;
 use names_realms::{InvocationId, Realm};
-use permissions::{CallerId, Permission, Policy};
+use permissions::{CallerId, Granted, Permission, Policy};
+use std::alloc::{AllocError, Global};
 use std::marker::Model;
 
 /// A right that a caller lacks.
@@ -27,21 +31,113 @@ impl<'r> Model for Lacking<'r> {
     ghost view = { λ l. record { permission = l.permission; realm = l.realm.now } };
 }
 
-/// A caller, and who may do what.
+/// How many asks for one permission are few: for these alone it isn't worth while to go over all
+/// realms.
+const FEW: usize = 8;
+
+/// In which realms a caller has one permission, found before many asks for it.
+#[derive(Drop)]
+pub struct Holding<'p> {
+    permission: Permission,
+    granted: Granted<'p>,
+}
+
+impl<'p> Model for Holding<'p> {
+    ghost use Rattle.std.specs.Prelude.{◌≡◌};
+    ghost use Rattle.permissions.specs.Granting.{Granting};
+
+    ghost Value = { Granting };
+
+    ghost view = { λ h. h.granted };
+
+    ghost invariant = { λ h. h.granted.permission ≡ h.permission };
+}
+
+impl<'p> Holding<'p> {
+    /// In which realms a caller has a permission. `Err` where there is no memory.
+    fn of(
+        alloc: Global,
+        policy: &'p Policy,
+        caller: CallerId,
+        permission: Permission,
+    ) -> Result<Holding<'p>, AllocError>
+        requires { caller < length policy.now.users }
+        ensures { IfOk result (IsHeldBy policy.now caller) }
+    {
+        let granted = policy.granted(alloc, caller, permission)?;
+        Ok(Holding {
+            permission,
+            granted,
+        })
+    }
+
+    /// Whether the caller has the permission in the realm, where it is the one that was asked.
+    fn tells(&self, permission: Permission, realm: &Realm) -> Option<bool>
+        ensures { IfSome result (λ told.
+            IsTrue told ↔ Allows self.now.policy self.now.caller permission realm.now) }
+    {
+        if self.permission == permission {
+            Some(self.granted.in_realm(realm))
+        } else {
+            None
+        }
+    }
+}
+
+/// The permission of which a demand asks many realms, if there is one.
+fn asked_often(demand: &Demand) -> Option<Permission> {
+    if demand.included.len() <= FEW {
+        return None;
+    }
+    demand.of_included.first().copied()
+}
+
+/// In which realms the caller has the permission of which a request asks many, found by one pass over
+/// the realms, and none where it asks of few. `Err` where there is no memory.
+pub fn holding_for<'p>(
+    alloc: Global,
+    policy: &'p Policy,
+    call: &Call,
+) -> Result<Option<Holding<'p>>, AllocError>
+    requires { call.now.caller < length policy.now.users }
+    ensures { IfOk result (λ found. IfSome found (IsHeldBy policy.now call.now.caller)) }
+{
+    match asked_often(&demand_of(&call.request)) {
+        Some(permission) => Ok(Some(Holding::of(alloc, policy, call.caller, permission)?)),
+        None => Ok(None),
+    }
+}
+
+/// A caller, who may do what, and what of it was found before.
 #[derive(Clone, Copy)]
 pub(crate) struct Asker<'r> {
     pub policy: &'r Policy,
     pub caller: CallerId,
+    pub holding: &'r Option<Holding<'r>>,
 }
 
 impl<'r> Asker<'r> {
+    /// Whether the caller has a permission in a realm.
+    fn may(&self, permission: Permission, realm: &Realm) -> bool
+        requires { IsAsker self.now }
+        ensures { IsTrue result
+            ↔ Allows self.now.policy.now self.now.caller permission realm.now }
+    {
+        if let Some(holding) = self.holding {
+            if let Some(told) = holding.tells(permission, realm) {
+                return told;
+            }
+        }
+        self.policy.allows(self.caller, permission, realm)
+    }
+
     /// A right, if the caller lacks it.
     fn lacks(&self, permission: Permission, realm: &'r Realm) -> Option<Lacking<'r>>
-        requires { self.now.caller < length self.now.policy.now.users }
+        requires { IsAsker self.now }
         ensures { FirstOf (Lacks self.now.policy.now self.now.caller)
             (right permission realm.now ∷ []) result }
     {
-        if self.policy.allows(self.caller, permission, realm) {
+        if self.may(permission, realm) {
             return None;
         }
         Some(Lacking { permission, realm })
@@ -49,7 +145,7 @@ impl<'r> Asker<'r> {
 
     /// The first of these permissions in a realm that the caller lacks.
     fn lacks_here(&self, realm: &'r Realm, takes: &[Permission]) -> Option<Lacking<'r>>
-        requires { self.now.caller < length self.now.policy.now.users }
+        requires { IsAsker self.now }
         ensures { FirstOf (Lacks self.now.policy.now self.now.caller)
             (rights_here (Some realm.now) takes.now) result }
     {
@@ -69,7 +165,7 @@ impl<'r> Asker<'r> {
         takes: &[Permission],
         id: &InvocationId,
     ) -> Option<Lacking<'r>>
-        requires { self.now.caller < length self.now.policy.now.users }
+        requires { IsAsker self.now }
         ensures { FirstOf (Lacks self.now.policy.now self.now.caller)
             (rights_of (named table.now.rows id.now) takes.now) result }
     {
@@ -87,7 +183,7 @@ impl<'r> Asker<'r> {
         takes: &[Permission],
         ids: &[InvocationId],
     ) -> Option<Lacking<'r>>
-        requires { self.now.caller < length self.now.policy.now.users }
+        requires { IsAsker self.now }
         ensures { FirstOf (Lacks self.now.policy.now self.now.caller)
             (rights_in table.now.rows takes.now ids.now) result }
     {
@@ -101,7 +197,7 @@ impl<'r> Asker<'r> {
 
     /// The first right to what is new that the caller lacks.
     fn lacks_new(&self, demand: &Demand<'r>) -> Option<Lacking<'r>>
-        requires { self.now.caller < length self.now.policy.now.users }
+        requires { IsAsker self.now }
         ensures { FirstOf (Lacks self.now.policy.now self.now.caller)
             (rights_here demand.now.realm demand.now.takes) result }
     {
@@ -113,7 +209,7 @@ impl<'r> Asker<'r> {
 
     /// The first right to an invocation that has to be there that the caller lacks.
     fn lacks_named(&self, table: &'r Table, demand: &Demand<'r>) -> Option<Lacking<'r>>
-        requires { self.now.caller < length self.now.policy.now.users }
+        requires { IsAsker self.now }
         ensures { FirstOf (Lacks self.now.policy.now self.now.caller)
             (rights_in table.now.rows demand.now.of_named demand.now.named) result }
     {
@@ -122,7 +218,7 @@ impl<'r> Asker<'r> {
 
     /// The first right to an invocation to be included that the caller lacks.
     fn lacks_included(&self, table: &'r Table, demand: &Demand<'r>) -> Option<Lacking<'r>>
-        requires { self.now.caller < length self.now.policy.now.users }
+        requires { IsAsker self.now }
         ensures { FirstOf (Lacks self.now.policy.now self.now.caller)
             (rights_in table.now.rows demand.now.of_included demand.now.included) result }
     {
@@ -131,7 +227,7 @@ impl<'r> Asker<'r> {
 
     /// The first right that the caller lacks.
     pub(crate) fn lacking(&self, table: &'r Table, demand: &Demand<'r>) -> Option<Lacking<'r>>
-        requires { self.now.caller < length self.now.policy.now.users }
+        requires { IsAsker self.now }
         ensures { FirstOf (Lacks self.now.policy.now self.now.caller)
             (rights_taken table.now.rows demand.now) result }
     {

@@ -1,17 +1,15 @@
 -- What is so of what a caller wants that breaks no rule for what is demanded.
-use Rattle.std.proofs.Common.{◌≡◌, ◌≢◌, ◌<◌, ◌≤◌, ◌+◌, ℕ, suc, zero, ℤ, pos, ◌+ℤ◌, ◌≤ℤ◌, ◌<ℤ◌, true, List, [], ◌∷◌, length, codes, Option, Some, None, unwrap_or, refl, sym, ap, ◌∙◌, subst, inl, inr, arith, rules}
-use Rattle.std.specs.Prelude.{◌++◌, ◌⊎◌, slice_get, Contains}
-use Rattle.std.specs.List.{All, cons_option, filter_map}
+use Rattle.std.proofs.Common.{◌≡◌, ◌≢◌, ◌<◌, ℕ, zero, ℤ, pos, ◌+ℤ◌, ◌≤ℤ◌, ◌<ℤ◌, List, [], ◌∷◌, length, codes, Option, Some, None, unwrap_or, refl, sym, ap, ◌∙◌, subst, inl, inr, arith, rules}
+use Rattle.std.specs.Prelude.{◌++◌, slice_get, Contains}
+use Rattle.std.specs.List.{All, cons_option}
 use Rattle.std.specs.Option.{ForSome}
 use Rattle.std.proofs.lemmas.Int.{ints}
 use Rattle.std.proofs.lemmas.List.Elements.{All-cons, All-nil}
 use Rattle.std.proofs.lemmas.Option.{none-some, same_Some}
-use Rattle.names_realms.specs.Names.{IsInvocationId, invocation_name}
-use Rattle.names_realms.specs.Realms.{IsRealm}
+use Rattle.names_realms.specs.Names.{invocation_name}
 use Rattle.names_realms.specs.declared.pairs.Pair.{Pair}
 use Rattle.names_realms.specs.declared.states.State.{State}
 use Rattle.names_realms.specs.declared.states.State.TheVariants.{Active, Finalizing, Finalized}
-use Rattle.policy_checks.specs.Checks.{is_name}
 use Rattle.inclusion_graph.proofs.EdgeLemmas.{in_rest}
 use Rattle.invocations.specs.declared.invocation.Invocation.{Invocation}
 use Rattle.invocations.specs.Rows.{HasId, IsInState, ids_of}
@@ -33,7 +31,7 @@ use Rattle.request_rules.specs.Named.{place_named, places_named}
 use Rattle.request_rules.specs.Demands.{demand_of}
 use Rattle.request_rules.specs.Order.{FirstOf, IsUnbroken}
 use Rattle.request_rules.specs.Understood.{IsChecked, token_for, token_handed}
-use Rattle.request_rules.specs.Broken.{IsBroken, IsInReach, IsMissing, Wants, greatest_lifetime, least_lifetime, of_invocation, order, out_of_reach, refusal}
+use Rattle.request_rules.specs.Broken.{IsBroken, IsInReach, IsMissing, Wants, of_invocation, order, out_of_reach, refusal}
 use Rattle.request_rules.proofs.Decided.{reach_or_not}
 use Rattle.request_rules.proofs.Judged.{IsAmong, unbroken_each}
 use Rattle.request_rules.proofs.PlaceLaws.{place-has, place-named, place-within, place_holds}
@@ -44,7 +42,7 @@ use Rattle.service_core.specs.Step.{FindsFull, IsAccepted, IsJudgedAs, Refuses, 
 use Rattle.service_core.proofs.CoreLaws.{named_there}
 use Rattle.service_core.proofs.AskedForms.{asked_has_forms}
 use Rattle.service_core.proofs.ShowLaws.{row_placed}
-use Rattle.service_core.proofs.Asks.{create, update, finalize, include, get}
+use Rattle.service_core.proofs.Asks.{create, update, include}
 
 -- A caller wants this, and it breaks no rule for what is demanded.
 pub record IsCleared (s : Settings) (w : World) (moment : ℤ) (asked : Asked) (caller : ℕ) (request : Request) : Type 0 where

@@ -1,11 +1,10 @@
 -- The core's world, its places and its rows.
-use Rattle.std.proofs.Common.{◌≡◌, ◌<◌, ◌≤◌, ◌+◌, ◌++◌, ℕ, List, [], ◌∷◌, ℤ, length, take, get_or, map, Option, Some, None, option_map, refl, sym, ap, ◌∙◌, subst, add-one, arith, suc, zero}
+use Rattle.std.proofs.Common.{◌≡◌, ◌<◌, ◌≤◌, ◌+◌, ◌++◌, ℕ, List, [], ◌∷◌, ℤ, length, take, get_or, Option, Some, None, option_map, refl, sym, ap, ◌∙◌, subst, add-one, arith, suc, zero}
 use Rattle.std.specs.Prelude.{slice_get}
-use Rattle.std.specs.List.{cons_option, filter_map}
+use Rattle.std.specs.List.{cons_option}
 use Rattle.std.proofs.Math.Seq.{take-suc}
 use Rattle.std.proofs.lemmas.List.Elements.{filter_map-append}
 use Rattle.std.proofs.lemmas.Option.{slice_get_read, slice_get-map}
-use Rattle.policy_checks.specs.Index.{place_of}
 use Rattle.invocations.specs.declared.invocation.Invocation.{Invocation}
 use Rattle.invocations.specs.Rows.{HasId, ids_of}
 use Rattle.request_rules.specs.Named.{place_named}

@@ -1,12 +1,12 @@
 -- Which rule a request breaks can be told in every world.
-use Rattle.std.proofs.Common.{◌⊎◌, ℕ, ℤ, Option, None, inl, inr}
+use Rattle.std.proofs.Common.{ℕ, ℤ, Option, inl, inr}
 use Rattle.call_forms.specs.declared.asked.Asked.{Asked}
 use Rattle.call_forms.specs.declared.forms.Refusal.{Refusal}
 use Rattle.message_forms.specs.declared.requests.Request.{Request}
 use Rattle.invocation_world.specs.World.{World}
 use Rattle.request_rules.specs.Settings.{Settings}
-use Rattle.request_rules.specs.Demands.{Right, demand_of}
-use Rattle.request_rules.specs.Broken.{Case, IsBroken, Lacks, order}
+use Rattle.request_rules.specs.Demands.{demand_of}
+use Rattle.request_rules.specs.Broken.{Case, IsBroken, order}
 use Rattle.request_rules.proofs.Decided.{RightsAreTold, broken_told}
 use Rattle.request_rules.proofs.Judged.{judged_there}
 use Rattle.service_core.specs.Step.{IsJudgedAs, case_in}

@@ -1,17 +1,14 @@
 -- Rows become final in time.
-use Rattle.std.proofs.Common.{◌≡◌, ◌⊎◌, ℕ, zero, suc, ℤ, ◌≤ℤ◌, ◌<ℤ◌, List, [], ◌∷◌, ◌++◌, Option, Some, None, inl, inr, refl, sym, ap, ◌∙◌, subst, arith}
+use Rattle.std.proofs.Common.{◌≡◌, ◌⊎◌, ℕ, zero, suc, ℤ, ◌≤ℤ◌, ◌<ℤ◌, List, [], ◌∷◌, ◌++◌, Some, inl, inr, refl, sym, ap, ◌∙◌, subst, arith}
 use Rattle.std.specs.List.{slice_get}
-use Rattle.std.proofs.lemmas.Bool.{cases_Bool, cond-true, cond-false}
 use Rattle.std.proofs.lemmas.Int.{ints, by_lt_z}
 use Rattle.std.proofs.lemmas.Option.{none-some, same_Some}
-use Rattle.names_realms.specs.declared.pairs.Pair.{Pair}
 use Rattle.names_realms.specs.declared.states.State.{State}
 use Rattle.names_realms.specs.declared.states.State.TheVariants.{Active, Finalizing, Finalized}
 use Rattle.inclusion_graph.specs.declared.edge.Edge.{Edge}
-use Rattle.inclusion_graph.specs.Edges.{edges_from, fresh, targets_of}
 use Rattle.invocations.specs.declared.invocation.Invocation.{Invocation}
 use Rattle.invocations.specs.Due.{IsDue}
-use Rattle.invocations.specs.Rows.{IsInState, begun, ended, states_of, with_changed}
+use Rattle.invocations.specs.Rows.{IsInState, begun, ended, with_changed}
 use Rattle.invocations.proofs.RowLemmas.{at_front, at_place}
 use Rattle.call_forms.specs.declared.asked.Asked.{Asked}
 use Rattle.call_forms.specs.declared.forms.Answer.{Answer}
@@ -19,21 +16,19 @@ use Rattle.call_forms.specs.declared.forms.Standin.TheVariants.{Unavailable, Mem
 use Rattle.call_forms.specs.declared.forms.Told.{Told}
 use Rattle.call_forms.specs.declared.forms.Told.TheVariants.{Made, Standin as Instead}
 use Rattle.message_forms.specs.declared.requests.Request.{Request}
-use Rattle.message_forms.specs.declared.requests.Request.TheVariants as asks
-use Rattle.invocation_world.specs.World.{World, IsCallMoment, IsRow, IsStage, IsValid, new_row}
+use Rattle.invocation_world.specs.World.{World, IsCallMoment, IsRow, IsStage, IsValid}
 use Rattle.invocation_world.specs.Settling.{SettlesRows}
 use Rattle.invocation_world.specs.Advancing.{Advances, CarriesOut, IsLeast, all_begun}
-use Rattle.invocation_world.specs.Changes.{is_update, updated, with_begun, with_edges, with_inclusions, with_row_updated, with_update}
+use Rattle.invocation_world.specs.Changes.{updated}
 use Rattle.invocation_world.specs.Laws.{KeepsFinal}
 use Rattle.invocation_world.proofs.AdvanceFacts.{least_row}
 use Rattle.invocation_world.proofs.BegunFacts.{all_begun_at, due_begun}
 use Rattle.invocation_world.proofs.RowFacts.{active≢finalizing, active≢finalized, finalizing≢finalized, all_at, apart, changed_other, state_is}
 use Rattle.invocation_world.proofs.SettleFacts.{ended_or_same, row_stays}
 use Rattle.invocation_world.proofs.ValidFacts.{all_begin, valid_settled}
-use Rattle.request_rules.specs.Settings.{Settings, HasNames, caller_name}
-use Rattle.request_rules.specs.Named.{place_named, places_named}
+use Rattle.request_rules.specs.Settings.{Settings, HasNames}
 use Rattle.service_core.specs.Finality.{CarriesInTime, EndsInTime, ToldInTime}
-use Rattle.service_core.specs.Step.{IsAccepted, Performs, Refuses, begun_from, changed, changed_at, with_end_begun}
+use Rattle.service_core.specs.Step.{IsAccepted, Performs, Refuses, changed}
 use Rattle.service_core.specs.History.{Entry, Leads, Tells}
 use Rattle.service_core.specs.Laws.{FinalInTime}
 use Rattle.service_core.proofs.ChangeLaws.{change_keeps}

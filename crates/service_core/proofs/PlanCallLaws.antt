@@ -10,14 +10,13 @@ use Rattle.invocations.specs.Rows.{HasId, IsInState}
 use Rattle.call_forms.specs.declared.asked.Asked.{Asked}
 use Rattle.call_forms.specs.declared.forms.Answer.{Answer}
 use Rattle.message_forms.specs.declared.requests.Request.{Request}
-use Rattle.message_forms.specs.declared.requests.Request.TheVariants as asks
 use Rattle.service_core.proofs.Asks.{create, update, finalize, include, get}
 use Rattle.invocation_world.specs.World.{World, IsPair, IsRow, new_row}
 use Rattle.request_rules.specs.declared.reading.Call.{Call}
 use Rattle.request_rules.specs.Settings.{Settings, HasNames, caller_name}
-use Rattle.request_rules.specs.Demands.{Demand, demand_of}
+use Rattle.request_rules.specs.Demands.{demand_of}
 use Rattle.request_rules.specs.Named.{place_named, places_named}
-use Rattle.request_rules.specs.Understood.{IsChecked, token_for, token_handed}
+use Rattle.request_rules.specs.Understood.{IsChecked, token_handed}
 use Rattle.service_core.specs.declared.plan.Prepared.{Prepared}
 use Rattle.service_core.specs.declared.planning.Place.{Place}
 use Rattle.service_core.specs.CoreState.{CoreState, held_by}

@@ -1,8 +1,6 @@
 -- What was planned for a call is what its request comes to.
-use Rattle.std.proofs.Common.{◌≡◌, ◌≢◌, ◌↔◌, ◌<◌, ◌≤◌, ◌+◌, ◌++◌, ℕ, ℤ, Bool, true, false, IsTrue, List, [], ◌∷◌, length, codes, Option, Some, None, refl, sym, ap, ◌∙◌, subst, arith}
-use Rattle.std.specs.Prelude.{slice_get, Contains}
-use Rattle.std.specs.List.{All}
-use Rattle.std.specs.Option.{ForSome}
+use Rattle.std.proofs.Common.{◌≡◌, ◌<◌, ◌≤◌, ◌+◌, ℕ, ℤ, List, [], length, codes, Option, Some, None, refl, sym, ap, ◌∙◌, subst, arith}
+use Rattle.std.specs.Prelude.{slice_get}
 use Rattle.std.proofs.lemmas.Option.{same_Some}
 use Rattle.names_realms.specs.declared.pairs.Pair.{Pair}
 use Rattle.names_realms.specs.declared.states.State.{State}
@@ -16,12 +14,11 @@ use Rattle.call_forms.specs.declared.asked.Asked.{Asked}
 use Rattle.call_forms.specs.declared.forms.Answer.{Answer}
 use Rattle.message_forms.specs.declared.replies.Reply.TheVariants as reply
 use Rattle.message_forms.specs.declared.requests.Request.{Request}
-use Rattle.message_forms.specs.declared.requests.Request.TheVariants as asks
 use Rattle.service_core.proofs.Asks.{create, update, finalize, include, get}
-use Rattle.invocation_world.specs.World.{World, IsPair, IsValid, ReachesActive, new_row, with_row}
+use Rattle.invocation_world.specs.World.{World, new_row, with_row}
 use Rattle.invocation_world.specs.States as states
 use Rattle.invocation_world.specs.Settling.{Settles}
-use Rattle.invocation_world.specs.Changes.{is_update, updated, with_begun, with_edges, with_inclusions, with_update}
+use Rattle.invocation_world.specs.Changes.{updated, with_begun, with_edges, with_inclusions, with_update}
 use Rattle.invocation_world.proofs.KeepFacts.{keeps_added, keeps_updated}
 use Rattle.invocation_world.proofs.RowFacts.{row_in}
 use Rattle.invocation_world.proofs.ValidFacts.{valid_settles}
@@ -35,7 +32,7 @@ use Rattle.service_core.specs.declared.plan.Prepared.TheVariants as prepared
 use Rattle.service_core.specs.declared.planning.Place.{Place}
 use Rattle.service_core.specs.CoreState.{CoreState, PlanState, held_by}
 use Rattle.service_core.specs.Answers.{Shows, done, shown_with}
-use Rattle.service_core.specs.Planning.{AreEdgesPlanned, IsEndPlanned, IsIncludePlanned, IsRowPlanned, IsUpdatePlanned, ended_if, plan_of, showing, targets_new}
+use Rattle.service_core.specs.Planning.{AreEdgesPlanned, IsEndPlanned, IsIncludePlanned, IsRowPlanned, IsUpdatePlanned, ended_if, plan_of, showing}
 use Rattle.service_core.specs.Plans.{Fits, IsPlanOf, IsPrepared, IsTimely}
 use Rattle.service_core.specs.Step.{IsAccepted, Performs, begun_from, changed, changed_at, with_end_begun}
 use Rattle.service_core.proofs.CoreLaws.{may_change, planned_valid}

@@ -1,5 +1,5 @@
 -- What is planned for one row.
-use Rattle.std.proofs.Common.{◌≡◌, ◌<◌, ◌≤◌, ◌↔◌, ℕ, ℤ, Bool, IsTrue, List, [], length, codes, Option, Some, refl, sym, ap, ◌∙◌, subst, arith}
+use Rattle.std.proofs.Common.{◌≡◌, ◌<◌, ◌≤◌, ◌↔◌, ℕ, Bool, IsTrue, List, [], length, codes, Option, Some, sym, ap, ◌∙◌, subst, arith}
 use Rattle.std.specs.Prelude.{slice_get}
 use Rattle.names_realms.specs.declared.states.State.TheVariants.{Active}
 use Rattle.invocations.specs.declared.faults.AddFault.{AddFault}
@@ -13,7 +13,7 @@ use Rattle.message_forms.specs.Shown.{InvocationShown}
 use Rattle.invocation_world.specs.World.{World, ReachesActive}
 use Rattle.invocation_world.specs.States.{WorldState}
 use Rattle.invocation_world.specs.Changes.{with_begun}
-use Rattle.invocation_world.proofs.RowFacts.{apart, state_at, state_is}
+use Rattle.invocation_world.proofs.RowFacts.{apart, state_at}
 use Rattle.request_rules.proofs.PlaceLaws.{place_of-has}
 use Rattle.service_core.specs.declared.plan.Change.TheVariants.{Add, End}
 use Rattle.service_core.specs.declared.plan.Prepared.{Prepared}

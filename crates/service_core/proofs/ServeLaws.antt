@@ -1,5 +1,5 @@
 -- Calls that are judged, and due deadlines that are carried out.
-use Rattle.std.proofs.Common.{◌≡◌, ◌<◌, ℕ, ℤ, ◌≤ℤ◌, List, [], ◌∷◌, length, Option, Some, refl, sym, ap, ◌∙◌, subst, inl, inr, arith}
+use Rattle.std.proofs.Common.{◌≡◌, ◌<◌, ℤ, ◌≤ℤ◌, List, [], ◌∷◌, length, Option, Some, refl, sym, subst, inl, inr, arith}
 use Rattle.std.proofs.lemmas.Int.{ints}
 use Rattle.invocations.specs.declared.invocation.Invocation.{Invocation}
 use Rattle.call_forms.specs.declared.asked.Asked.{Asked}
@@ -22,7 +22,6 @@ use Rattle.request_rules.proofs.PolicyLaws.{caller_is_there}
 use Rattle.service_core.specs.declared.plan.Change.{Change}
 use Rattle.service_core.specs.declared.plan.Change.TheVariants.{Tick}
 use Rattle.service_core.specs.CoreState.{CoreState}
-use Rattle.service_core.specs.Judged.{IsJudged}
 use Rattle.service_core.specs.Plans.{Carries, IsTimely}
 use Rattle.service_core.specs.Step.{IsJudgedAs, Refuses}
 

@@ -1,19 +1,19 @@
 -- What a change leaves of the rows that answers show.
-use Rattle.std.proofs.Common.{◌≡◌, ◌≢◌, ◌↔◌, ◌<◌, ◌++◌, ℕ, ℤ, Bool, true, false, IsTrue, List, [], ◌∷◌, length, Option, Some, None, option_map, nat_eq, refl, sym, ap, ◌∙◌, subst, inl, inr, arith}
-use Rattle.std.specs.Prelude.{slice_get, Contains}
+use Rattle.std.proofs.Common.{◌≡◌, ◌≢◌, ◌↔◌, ◌++◌, ℕ, ℤ, Bool, true, false, IsTrue, List, [], ◌∷◌, length, Option, Some, None, option_map, nat_eq, refl, sym, ap, ◌∙◌, subst, inl, inr, arith}
+use Rattle.std.specs.Prelude.{slice_get}
 use Rattle.std.specs.List.{All, cons_option, filter_map}
 use Rattle.std.proofs.lemmas.Bool.{cases_Bool, cond-false, cond-true}
 use Rattle.std.proofs.lemmas.List.Elements.{All-head, All-tail}
 use Rattle.std.proofs.lemmas.Option.{same_Some, slice_get-map}
 use Rattle.policy_checks.specs.Index.{place_of}
 use Rattle.names_realms.specs.declared.pairs.Pair.{Pair}
-use Rattle.names_realms.specs.declared.states.State.TheVariants.{Active, Finalizing, Finalized}
+use Rattle.names_realms.specs.declared.states.State.TheVariants.{Active}
 use Rattle.inclusion_graph.specs.declared.edge.Edge.{Edge}
-use Rattle.inclusion_graph.specs.Edges.{target_from, targets_of}
+use Rattle.inclusion_graph.specs.Edges.{targets_of}
 use Rattle.inclusion_graph.proofs.EdgeLemmas.{eqb_other}
 use Rattle.invocations.specs.declared.invocation.Invocation.{Invocation}
 use Rattle.invocations.specs.Faults.{CanAdd}
-use Rattle.invocations.specs.Rows.{HasId, IsInState, begun, ended, ids_of, states_of, with_changed}
+use Rattle.invocations.specs.Rows.{IsInState, begun, ended, ids_of, with_changed}
 use Rattle.invocations.proofs.RowLemmas.{at_end, ids_stay, table_push}
 use Rattle.call_forms.specs.declared.forms.Answer.{Answer}
 use Rattle.message_forms.specs.declared.replies.Reply.TheVariants as reply
@@ -21,7 +21,7 @@ use Rattle.message_forms.specs.Shown.{InvocationShown}
 use Rattle.invocation_world.specs.World.{World, IsInclusion, IsValid, ReachesActive, with_row}
 use Rattle.invocation_world.specs.Settling.{Settles, SettlesRows}
 use Rattle.invocation_world.specs.Changes.{is_update, updated, with_begun, with_row_updated, with_update}
-use Rattle.invocation_world.proofs.RowFacts.{changed_here, same_lists, stands, state_is}
+use Rattle.invocation_world.proofs.RowFacts.{changed_here, same_lists, stands}
 use Rattle.invocation_world.proofs.SettleFacts.{begun_here, ended_or_same, settled_once}
 use Rattle.invocation_world.proofs.ValidFacts.{valid_settles}
 use Rattle.invocation_world.proofs.WorldFacts.{same_world}

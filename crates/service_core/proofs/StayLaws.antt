@@ -1,15 +1,12 @@
 -- Rows that stay the same invocations.
-use Rattle.std.proofs.Common.{◌≡◌, ◌⊎◌, ℕ, ℤ, List, [], ◌∷◌, ◌++◌, Option, Some, None, inl, inr, refl, sym, ap, ◌∙◌, subst}
+use Rattle.std.proofs.Common.{◌≡◌, ◌⊎◌, ℕ, ℤ, List, [], ◌∷◌, ◌++◌, Option, Some, inl, inr, refl, sym, ap, ◌∙◌, subst}
 use Rattle.std.specs.List.{slice_get}
-use Rattle.std.proofs.lemmas.Bool.{cases_Bool, cases_eq, cond-true, cond-false}
+use Rattle.std.proofs.lemmas.Bool.{cases_eq}
 use Rattle.std.proofs.lemmas.Option.{same_Some}
 use Rattle.names_realms.specs.declared.pairs.Pair.{Pair}
-use Rattle.names_realms.specs.declared.states.State.{State}
-use Rattle.names_realms.specs.declared.states.State.TheVariants.{Active, Finalizing, Finalized}
 use Rattle.inclusion_graph.specs.declared.edge.Edge.{Edge}
-use Rattle.inclusion_graph.specs.Edges.{edges_from, fresh, targets_of}
 use Rattle.invocations.specs.declared.invocation.Invocation.{Invocation}
-use Rattle.invocations.specs.Rows.{begun, ended, states_of, with_changed}
+use Rattle.invocations.specs.Rows.{begun, ended, with_changed}
 use Rattle.invocations.proofs.RowLemmas.{at_front}
 use Rattle.call_forms.specs.declared.asked.Asked.{Asked}
 use Rattle.call_forms.specs.declared.forms.Answer.{Answer}
@@ -17,17 +14,15 @@ use Rattle.call_forms.specs.declared.forms.Standin.TheVariants.{Unavailable, Mem
 use Rattle.call_forms.specs.declared.forms.Told.{Told}
 use Rattle.call_forms.specs.declared.forms.Told.TheVariants.{Made, Standin as Instead}
 use Rattle.message_forms.specs.declared.requests.Request.{Request}
-use Rattle.message_forms.specs.declared.requests.Request.TheVariants.{CreateInvocation, UpdateInvocation, FinalizeInvocation, UpdateIncludedInvocations, GetInvocation}
-use Rattle.invocation_world.specs.World.{World, new_row}
+use Rattle.invocation_world.specs.World.{World}
 use Rattle.invocation_world.specs.Settling.{SettlesRows}
 use Rattle.invocation_world.specs.Advancing.{Advances, CarriesOut, after_deadlines, all_begun}
-use Rattle.invocation_world.specs.Changes.{is_update, updated, with_begun, with_edges, with_inclusions, with_row_updated, with_update}
+use Rattle.invocation_world.specs.Changes.{updated}
 use Rattle.invocation_world.proofs.RowFacts.{changed_here, changed_other}
 use Rattle.invocation_world.proofs.SettleFacts.{ended_or_same}
 use Rattle.invocation_world.proofs.ValidFacts.{all_begin}
-use Rattle.request_rules.specs.Settings.{Settings, caller_name}
-use Rattle.request_rules.specs.Named.{place_named, places_named}
-use Rattle.service_core.specs.Step.{Acts, Performs, Refuses, begun_from, changed, changed_at, with_end_begun}
+use Rattle.request_rules.specs.Settings.{Settings}
+use Rattle.service_core.specs.Step.{Acts, Performs, Refuses, changed}
 use Rattle.service_core.specs.History.{Tells}
 use Rattle.service_core.specs.Laws.{IsSameInvocation, RowsStay}
 use Rattle.service_core.proofs.ChangeLaws.{change_keeps}

@@ -1,7 +1,10 @@
 -- The code's own words: a call that was judged, and what was told for a request at a moment at
 -- which nothing is due.
-use Rattle.std.specs.Prelude.{◌≡◌, ℤ, None}
+use Rattle.std.specs.Prelude.{◌≡◌, ℤ, Option, Some, None}
 use Rattle.call_forms.specs.declared.asked.Asked.{Asked}
+use Rattle.call_forms.specs.declared.forms.Answer.{Answer}
+use Rattle.call_forms.specs.declared.forms.Refusal.{Refusal}
+use Rattle.call_forms.specs.Rules.{refusal_answer}
 use Rattle.call_forms.specs.declared.forms.Standin.TheVariants.{Unavailable, Memory, Spent}
 use Rattle.call_forms.specs.declared.forms.Told.{Told}
 use Rattle.call_forms.specs.declared.forms.Told.TheVariants.{Made, Standin as Instead}
@@ -17,6 +20,16 @@ use Rattle.service_core.specs.Step.{IsJudgedAs, Refuses, Performs}
 pub record IsJudged (core : CoreState) (moment : ℤ) (asked : Asked) (call : Call) : Type 0 where
   pub call_is : IsCallOf core.settings asked call
   pub none : IsJudgedAs core.settings core.world moment asked call.caller call.request None
+
+-- The answer refuses the call, by the first rule for what is demanded that it breaks; or it breaks
+-- none.
+abbrev pub TellsRefusal : CoreState → ℤ → Asked → Call → Option Answer → Type 0
+TellsRefusal core moment asked call None =
+    IsJudgedAs core.settings core.world moment asked call.caller call.request None
+TellsRefusal core moment asked call (Some answer) =
+    (r : Refusal)
+    × IsJudgedAs core.settings core.world moment asked call.caller call.request (Some r)
+    × (answer ≡ refusal_answer r)
 
 -- The request is refused or performed, or want of memory was told and nothing changed.
 abbrev pub IsAnswered : Settings → World → ℤ → Asked → Told → World → Type 0

@@ -16,7 +16,7 @@ use Rattle.invocation_world.specs.States.{WorldState}
 use Rattle.invocation_world.specs.Changes.{is_update, updated, with_begun}
 use Rattle.request_rules.specs.Broken.{table_full}
 use Rattle.service_core.specs.declared.plan.Change.{Change}
-use Rattle.service_core.specs.declared.plan.Change.TheVariants.{Tick, Add, Update, End, Include}
+use Rattle.service_core.specs.declared.plan.Change.TheVariants.{Add, Update, End, Include}
 use Rattle.service_core.specs.declared.plan.Prepared.{Prepared}
 use Rattle.service_core.specs.declared.plan.Prepared.TheVariants as prepared
 use Rattle.service_core.specs.declared.planning.Place.{Place}

@@ -8,7 +8,8 @@ ghost use Rattle.request_rules.specs.Settings.{HasNames};
 ghost use Rattle.request_rules.specs.Understood.{IsCallOf};
 ghost use Rattle.service_core.specs.Step.{moment_of};
 ghost use Rattle.service_core.specs.Plans.{Carries, Fits, IsPrepared, IsTimely};
-ghost use Rattle.service_core.specs.Judged.{IsAnswered, IsJudged};
+ghost use Rattle.call_forms.specs.declared.asked.Asked.{Asked};
+ghost use Rattle.service_core.specs.Judged.{IsAnswered, IsJudged, TellsRefusal};
 ghost use Rattle.service_core.specs.History.{Serves};
 ghost use Rattle.invocations.specs.Rows.{HasId};
 ghost use Rattle.request_rules.specs.Named.{place_named};
@@ -23,7 +24,9 @@ use invocations::Invocation;
 use message_forms::Request;
 use names_realms::{InvocationId, Moment};
 use permissions::Policy;
-use request_rules::{Call, Rule, Situation, Understood, place_of, places_of, understand};
+use request_rules::{
+    Call, Holding, Rule, Situation, Understood, holding_for, place_of, places_of, understand,
+};
 use std::alloc::{AllocError, Global};
 use std::marker::Model;
 
@@ -106,9 +109,10 @@ impl Core {
         Ok(Plan::new(Change::Tick(moment), None))
     }
 
-    /// What a call at this moment is judged by.
-    fn situation(&self, moment: Moment) -> Situation<'_>
+    /// What a call at this moment is judged by, with what was found before of its caller's rights.
+    fn situation<'c>(&'c self, moment: Moment, holding: &'c Option<Holding<'c>>) -> Situation<'c>
         ensures policy { record { policy = result.policy.now } ≡ self.now.settings }
+        ensures holding { result.holding.now ≡ holding.now }
         ensures rows { result.table.now.rows ≡ self.now.world.invocations }
         ensures moment { result.moment ≡ moment }
         ensures valid { IsValid self.now.world }
@@ -117,6 +121,7 @@ impl Core {
             policy: &self.policy,
             table: self.world.table(),
             moment,
+            holding,
         }
     }
 
@@ -187,6 +192,27 @@ impl Core {
         }
     }
 
+    /// The answer that refuses a call at this moment, where it breaks a rule for what is demanded.
+    /// `Err` where there is no memory.
+    fn refused(
+        &self,
+        alloc: Global,
+        moment: Moment,
+        call: &Call,
+    ) -> Result<Option<Answer>, AllocError>
+        requires { call.now.caller < length self.now.settings.policy.users }
+        ensures valid { IfOk result (λ _. IsValid self.now.world) }
+        ensures told { (asked : Asked) → IsCallOf self.now.settings asked call.now
+            → IfOk result (TellsRefusal self.now moment asked call.now) }
+    {
+        let holding = holding_for(alloc, &self.policy, call)?;
+        let situation = self.situation(moment, &holding);
+        match situation.judge(Rule::order(), call) {
+            Some(breach) => Ok(Some(breach.answer(alloc)?)),
+            None => Ok(None),
+        }
+    }
+
     /// What a caller's request comes to at this moment.
     fn prepare_call(
         &mut self,
@@ -205,8 +231,8 @@ impl Core {
         ensures spare_inclusions { self.old.spare_inclusions ≤ self.new.spare_inclusions }
         ensures prepared { IfOk result (IsPrepared self.new moment asked.now) }
     {
-        if let Some(breach) = self.situation(moment).judge(Rule::order(), &call) {
-            return Ok(Prepared::Refused(breach.answer(alloc)?));
+        if let Some(answer) = self.refused(alloc, moment, &call)? {
+            return Ok(Prepared::Refused(answer));
         }
         self.plan(alloc, moment, asked, call)
     }

@@ -1,5 +1,3 @@
-use Rattle.std.proofs.Common.{ap, ◌∙◌}
-use Rattle.std.specs.Prelude.{map}
 use Rattle.service_core.proofs.ShowableLaws.{can_show_updated, with_parts}
 use Rattle.service_core.proofs.showing.show_updated.Goals as goal
 

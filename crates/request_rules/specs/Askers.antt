@@ -1,0 +1,21 @@
+-- The code's own words: what was found of a caller's rights before they are asked.
+use Rattle.std.specs.Prelude.{◌≡◌, ◌<◌, ℕ, IfSome, length}
+use Rattle.policy_tables.specs.declared.tables.PolicyTables.{PolicyTables}
+use Rattle.permissions.specs.Granting.{Granting}
+use Rattle.request_rules.specs.declared.judging.Situation.{Situation}
+use Rattle.request_rules.specs.declared.rights.Asker.{Asker}
+
+-- What was found is of this caller, by this policy.
+pub record IsHeldBy (policy : PolicyTables) (caller : ℕ) (found : Granting) : Type 0 where
+  pub policy_is : found.policy ≡ policy
+  pub caller_is : found.caller ≡ caller
+
+-- The caller is there, and what was found is of this one.
+pub record IsAsker (asker : Asker) : Type 0 where
+  pub there : asker.caller < length asker.policy.now.users
+  pub held : IfSome asker.holding.now (IsHeldBy asker.policy.now asker.caller)
+
+-- A call of this caller can be judged here.
+pub record MayJudge (x : Situation) (caller : ℕ) : Type 0 where
+  pub there : caller < length x.policy.now.users
+  pub held : IfSome x.holding.now (IsHeldBy x.policy.now caller)
