@@ -667,15 +667,16 @@ const LONG_BODY: &[u8] = b"POST /a HTTP/1.1\r\nContent-Length: 300000\r\n\r\n";
 
 /// Whether a long body is read that comes in pieces of a size, so that its room grows several times.
 fn is_long_body(alloc: Global, size: usize) -> Result<bool, AllocError> {
-    let mut stream = Vec::from_slice(alloc, LONG_BODY)?;
-    for i in 0..300_000 {
-        stream.push((i % 251) as u8)?;
+    let mut body = Vec::new(alloc);
+    for i in 0..300_000u32 {
+        body.push((i % 251) as u8)?;
     }
+    let stream = joined(alloc, &[LONG_BODY, body.as_slice()])?;
     let pieces = cut(alloc, stream.as_slice(), size)?;
     let mut link = MemoryLink::new(alloc, pieces, Vec::new(alloc))?;
     let mut wire = Wire::new(alloc)?;
     Ok(match wire.next(alloc, &mut link) {
-        Ok(Some(message)) => message.asked.body.as_slice() == &stream.as_slice()[LONG_BODY.len()..],
+        Ok(Some(message)) => message.asked.body.as_slice() == body.as_slice(),
         _ => false,
     })
 }

@@ -11,8 +11,8 @@ use call_forms::{Answer, Asked};
 use message_forms::{Method, Request, read_request};
 use names_realms::InvocationId;
 use permissions::{CallerId, Policy};
-use update_tokens::{token_is, update_token};
 use std::alloc::{AllocError, Global};
+use update_tokens::{token_is, update_token};
 
 /// What the update token of a request comes to.
 #[derive(Clone, Copy)]

@@ -92,8 +92,8 @@ fn asked_often(demand: &Demand) -> Option<Permission> {
     demand.of_included.first().copied()
 }
 
-/// In which realms the caller has the permission of which a request asks many, found by one pass over
-/// the realms, and none where it asks of few. `Err` where there is no memory.
+/// In which realms the caller has the permission of which a request asks many, found by one pass
+/// over the realms, and none where it asks of few. `Err` where there is no memory.
 pub fn holding_for<'p>(
     alloc: Global,
     policy: &'p Policy,

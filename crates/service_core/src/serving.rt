@@ -57,8 +57,8 @@ impl Model for Core {
 }
 
 impl Core {
-    /// The empty world under a policy without a fault, as `Policy::from_toml` reads it. `Err` where
-    /// there is no memory.
+    /// The empty world under a policy without a fault, as `policy_reading::from_toml` reads it.
+    /// `Err` where there is no memory.
     pub fn new(alloc: Global, policy: Policy) -> Result<Core, AllocError>
         requires { IsSound policy }
         ensures world { IfOk result (λ core. core.world ≡ empty_world) }
