@@ -5,8 +5,8 @@
 use call_forms::Asked;
 use lists::Bytes;
 use names_realms::{InvocationId, NameFault};
-use update_tokens::update_token;
 use std::alloc::{AllocError, Global};
+use update_tokens::update_token;
 
 /// 2023-11-14T22:13:20Z, in microseconds since 1970: second 0 of a script.
 const START: i64 = 1_700_000_000_000_000;
