@@ -1,14 +1,13 @@
 -- What update tokens come to.
-use Rattle.std.proofs.Common.{◌≡◌, ◌≢◌, ◌↔◌, ℕ, List, [], Bool, true, false, Some, None, Ok, Result, IsTrue, refl, sym, ap, ◌∙◌}
+use Rattle.std.proofs.Common.{◌≡◌, ◌↔◌, ℕ, List, [], Bool, false, Some, Ok, Result, IsTrue, sym, ap, ◌∙◌}
 use Rattle.std.specs.Result.{result_unwrap_or}
 use Rattle.std.proofs.lemmas.Bool.{false≢true}
-use Rattle.std.proofs.lemmas.Option.{same_Some}
 use Rattle.hex.specs.Hex.{decode_of}
 use Rattle.hex.specs.declared.error.FromHexError.{FromHexError}
 use Rattle.policy_tables.specs.declared.tables.PolicyTables.{PolicyTables}
 use Rattle.update_tokens.specs.Hash.{token_text}
 use Rattle.call_forms.specs.declared.asked.Asked.{Asked}
-use Rattle.request_rules.specs.declared.reading.TokenCheck.TheVariants.{New, Wrong}
+use Rattle.request_rules.specs.declared.reading.TokenCheck.TheVariants.{Wrong}
 use Rattle.request_rules.specs.Settings.{Settings, secret_of}
 use Rattle.request_rules.specs.Demands.{Demand}
 use Rattle.request_rules.specs.Understood.{IsChecked}
@@ -17,12 +16,6 @@ use Rattle.request_rules.specs.Understood.{IsChecked}
 pub secret_read : (tables : PolicyTables) (secret : List ℕ) → decode_of tables.secret ≡ Ok secret
     → secret ≡ secret_of (record { policy = tables })
 secret_read tables secret is = sym (ap (λ (r : Result (List ℕ) FromHexError). result_unwrap_or r []) is)
-
--- the update token of a new invocation
-pub token_made : (s : Settings) (asked : Asked) (d : Demand) (id secret token : List ℕ) → Some id ≡ d.makes
-    → d.changed ≡ None → secret ≡ secret_of s → token ≡ token_text secret id → IsChecked s asked d (New token)
-token_made s asked d id secret token makes unchanged secret_is token_is =
-    (id, unchanged, sym makes, token_is ∙ ap (λ (x : List ℕ). token_text x id) secret_is)
 
 -- the update token that is shown isn't the one of the invocation
 pub shows_other : (s : Settings) (asked : Asked) (d : Demand) (id text token secret : List ℕ) (told : Bool)

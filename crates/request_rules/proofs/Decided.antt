@@ -1,5 +1,5 @@
 -- Which rule a request breaks can be told in every world, where each right can be told.
-use Rattle.std.proofs.Common.{◌≡◌, ◌≢◌, ◌<◌, ◌+◌, ◌++◌, ℕ, zero, ℤ, ◌+ℤ◌, List, [], ◌∷◌, length, codes, decimal, Contains, Option, Some, None, inl, inr, refl, sym, ap, ◌∙◌, subst, arith}
+use Rattle.std.proofs.Common.{◌≡◌, ◌++◌, ℕ, zero, ℤ, ◌+ℤ◌, List, [], ◌∷◌, length, codes, decimal, Contains, Option, Some, None, inl, inr, refl, sym, ap, ◌∙◌, subst, arith}
 use Rattle.std.specs.Prelude.{◌⊎◌}
 use Rattle.std.specs.Str.{bytes_eq}
 use Rattle.std.specs.Cmp.Lexicographic.{bytes_decides}
@@ -12,15 +12,12 @@ use Rattle.names_realms.specs.declared.states.State.{State}
 use Rattle.names_realms.specs.declared.states.State.TheVariants.{Active, Finalizing, Finalized}
 use Rattle.policy_tables.specs.declared.tables.PolicyTables.{PolicyTables}
 use Rattle.update_tokens.specs.Hash.{token_text}
-use Rattle.inclusion_graph.specs.declared.edge.Edge.{Edge}
-use Rattle.inclusion_graph.specs.Edges.{fresh, targets_of}
 use Rattle.inclusion_graph.proofs.ListLemmas.{in_one}
 use Rattle.invocations.specs.declared.invocation.Invocation.{Invocation}
 use Rattle.call_forms.specs.declared.asked.Asked.{Asked}
 use Rattle.call_forms.specs.declared.forms.Refusal.{Refusal}
 use Rattle.message_forms.specs.declared.methods.Method.{Method}
 use Rattle.message_forms.specs.declared.requests.Request.{Request}
-use Rattle.message_forms.specs.declared.requests.Request.TheVariants as asks
 use Rattle.message_forms.specs.Methods.{method_of}
 use Rattle.message_forms.specs.Replies.{state_text}
 use Rattle.message_forms.proofs.FaultLaws.{asks_or_has_fault, fault_is_refused}
@@ -28,9 +25,9 @@ use Rattle.request_rules.specs.declared.rules.Rule.{Rule}
 use Rattle.request_rules.specs.declared.rules.Rule.TheVariants as rule
 use Rattle.request_rules.specs.Settings.{Settings, caller_of, secret_of}
 use Rattle.request_rules.specs.Demands.{Demand, Right, rights_taken}
-use Rattle.request_rules.specs.Named.{named, place_named, places_named}
+use Rattle.request_rules.specs.Named.{named, place_named}
 use Rattle.request_rules.specs.Order.{FirstOf, IsUnbroken}
-use Rattle.request_rules.specs.Broken.{BadUpdateToken, Case, DeadlineRange, Denied, HasNoMethod, IsBroken, IsInReach, IsMissing, IsRefusedAlone, Itself, Lacks, NoUpdateToken, NotActive, NotFound, OverflowsInclusions, TableFull, Taken, TooMany, Wants, denied, greatest_lifetime, least_lifetime, of_invocation, out_of_reach, refusal, table_full, target_of}
+use Rattle.request_rules.specs.Broken.{BadUpdateToken, Case, DeadlineRange, Denied, HasNoMethod, IsBroken, IsInReach, IsMissing, IsRefusedAlone, Itself, Lacks, NoUpdateToken, NotActive, NotFound, Taken, TooMany, Wants, denied, greatest_lifetime, least_lifetime, of_invocation, out_of_reach, refusal, target_of}
 use Rattle.request_rules.proofs.Firsts.{no_first}
 use Rattle.request_rules.proofs.Judged.{Told}
 
@@ -199,31 +196,6 @@ broken_told x d rights rule.TooMany = many_told d
 broken_told x d rights rule.Taken = taken_told x.rows d d.makes refl
 
 -- ---- the last rule
-
-overflow_told : (rows : List Invocation) (inclusions : List Edge) (including : List ℕ) (add : List (List ℕ)) (o : Option ℕ)
-    → place_named rows including ≡ o → Told (OverflowsInclusions rows inclusions including add)
-overflow_told rows inclusions including add None e = inr (λ r is. none-some is.place (sym e ∙ is.stands))
-overflow_told rows inclusions including add (Some p) e =
-    elim (cases_lt 262_144 (length inclusions + length (fresh (targets_of inclusions p) (places_named rows add)))) [
-      | inl many ↦ inl (table_full (codes "inclusions") (length inclusions), record { place = p; stands = e; many = many; refusal_is = refl })
-      | inr few ↦ inr (λ r is.
-          let same : is.place ≡ p = same_Some is.place p (sym is.stands ∙ e) in
-          let many : 262_144 < length inclusions + length (fresh (targets_of inclusions p) (places_named rows add)) =
-          subst (λ (q : ℕ). 262_144 < length inclusions + length (fresh (targets_of inclusions q) (places_named rows add))) same is.many in
-          omega (arith, few, many))
-    ]
-
-pub full_told : (rows : List Invocation) (inclusions : List Edge) (request : Request) → Told (TableFull rows inclusions request)
-full_told rows inclusions (asks.CreateInvocation q) =
-    elim (cases_lt (length rows) 65_536) [
-      | inl few ↦ inr (λ r is. let many = is.0 in omega arith)
-      | inr many ↦ inl (table_full (codes "invocations") (length rows), (many, refl))
-    ]
-full_told rows inclusions (asks.UpdateIncludedInvocations q) =
-    overflow_told rows inclusions q.including q.add (place_named rows q.including) refl
-full_told rows inclusions (asks.UpdateInvocation q) = inr (λ r never. never)
-full_told rows inclusions (asks.FinalizeInvocation q) = inr (λ r never. never)
-full_told rows inclusions (asks.GetInvocation q) = inr (λ r never. never)
 
 -- ---- what a request says by itself
 

@@ -1,5 +1,5 @@
 -- One refusal is told of the rules, and which can be decided where each rule can.
-use Rattle.std.proofs.Common.{◌≡◌, ℕ, List, [], ◌∷◌, Option, Some, None, refl, sym, ap, ◌∙◌, subst, inl, inr}
+use Rattle.std.proofs.Common.{◌≡◌, List, [], ◌∷◌, Option, Some, None, refl, sym, ap, ◌∙◌, subst, inl, inr}
 use Rattle.std.specs.Prelude.{◌⊎◌}
 use Rattle.call_forms.specs.declared.forms.Refusal.{Refusal}
 use Rattle.request_rules.specs.Order.{IsUnbroken, Judges}

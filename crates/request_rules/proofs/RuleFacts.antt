@@ -1,14 +1,12 @@
 -- Each rule is broken in one way. A further rule takes one lemma here.
-use Rattle.std.proofs.Common.{◌≡◌, ◌++◌, ℕ, ℤ, List, Some, None, refl, sym, ap, ◌∙◌}
+use Rattle.std.proofs.Common.{◌≡◌, ◌++◌, ℕ, ℤ, List, Some, sym, ap, ◌∙◌}
 use Rattle.std.specs.Prelude.{codes}
 use Rattle.names_realms.specs.Names.{invocation_name}
 use Rattle.policy_tables.specs.declared.tables.PolicyTables.{PolicyTables}
 use Rattle.invocations.specs.declared.invocation.Invocation.{Invocation}
-use Rattle.inclusion_graph.specs.declared.edge.Edge.{Edge}
 use Rattle.call_forms.specs.declared.asked.Asked.{Asked}
 use Rattle.call_forms.specs.declared.forms.Refusal.{Refusal}
 use Rattle.message_forms.specs.declared.requests.Request.{Request}
-use Rattle.message_forms.specs.declared.requests.Request.TheVariants as asks
 use Rattle.message_forms.specs.Refusals.{refusal_of}
 use Rattle.message_forms.specs.Replies.{state_text}
 use Rattle.request_rules.specs.declared.rules.Rule.{Rule}
@@ -16,8 +14,7 @@ use Rattle.request_rules.specs.declared.rules.Rule.TheVariants as rule
 use Rattle.request_rules.specs.Settings.{Settings}
 use Rattle.request_rules.specs.Named.{named}
 use Rattle.request_rules.specs.Demands.{Demand, rights_taken}
-use Rattle.request_rules.specs.Order.{Judges}
-use Rattle.request_rules.specs.Broken.{Alone, BadUpdateToken, Case, DeadlineRange, Denied, HasBadBody, IsBroken, IsBrokenAlone, IsMissing, IsRefusedAlone, Itself, Lacks, NoUpdateToken, NotActive, NotFound, TableFull, Taken, TooMany, Wants, body_right, caller_known, denied, method_known, of_invocation, order, order_alone, out_of_reach, refusal, target_of}
+use Rattle.request_rules.specs.Broken.{Alone, BadUpdateToken, Case, DeadlineRange, Denied, HasBadBody, IsBroken, IsBrokenAlone, IsMissing, IsRefusedAlone, Itself, Lacks, NoUpdateToken, NotActive, NotFound, Taken, Wants, body_right, caller_known, denied, method_known, of_invocation, order_alone, out_of_reach, refusal, target_of}
 use Rattle.request_rules.proofs.Firsts.{one_first}
 use Rattle.request_rules.proofs.FormLaws.{one_request_asked, one_fault}
 use Rattle.request_rules.proofs.Judged.{IsOne, one_judged}
@@ -96,13 +93,6 @@ one_broken x d rule.DeadlineRange r p this that = one_deadline x.moment d r p th
 one_broken x d rule.Itself r p this that = one_itself d r p this that
 one_broken x d rule.TooMany r p this that = this.refusal_is ∙ sym that.refusal_is
 one_broken x d rule.Taken r p this that = one_taken x.rows d r p this that
-
-pub one_table_full : (rows : List Invocation) (edges : List Edge) (request : Request) → IsOne (TableFull rows edges request)
-one_table_full rows edges (asks.CreateInvocation q) r p this that = this.1 ∙ sym that.1
-one_table_full rows edges (asks.UpdateIncludedInvocations q) r p this that = this.refusal_is ∙ sym that.refusal_is
-one_table_full rows edges (asks.UpdateInvocation q) r p never that = absurd never
-one_table_full rows edges (asks.FinalizeInvocation q) r p never that = absurd never
-one_table_full rows edges (asks.GetInvocation q) r p never that = absurd never
 
 -- one caller wants one thing
 pub one_caller : (s : Settings) (asked : Asked) (c d : ℕ) (p q : Request) → Wants s asked c p → Wants s asked d q → c ≡ d

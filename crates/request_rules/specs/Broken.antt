@@ -1,5 +1,5 @@
 -- Which rules a request breaks. Each rule is said by itself.
-use Rattle.std.specs.Prelude.{◌≡◌, ◌≢◌, ◌⊎◌, ℕ, ◌+◌, ◌<◌, ◌≤◌, ◌==◌, if◌then◌else◌, ℤ, pos, ◌+ℤ◌, ◌≤ℤ◌, List, [], ◌∷◌, ◌++◌, length, Contains, codes, decimal, Option, Some, None}
+use Rattle.std.specs.Prelude.{◌≡◌, ◌≢◌, ℕ, ◌<◌, ◌==◌, if◌then◌else◌, ℤ, pos, ◌+ℤ◌, ◌≤ℤ◌, List, [], ◌∷◌, ◌++◌, length, Contains, codes, decimal, Some, None}
 use Rattle.moments_spans.specs.Moments.{moment_text}
 use Rattle.names_realms.specs.Names.{invocation_name}
 use Rattle.names_realms.specs.declared.states.State.TheVariants.{Active}
@@ -12,18 +12,15 @@ use Rattle.call_forms.specs.declared.asked.Asked.{Asked}
 use Rattle.call_forms.specs.declared.forms.Refusal.{Refusal}
 use Rattle.message_forms.specs.declared.methods.Method.{Method}
 use Rattle.message_forms.specs.declared.requests.Request.{Request}
-use Rattle.message_forms.specs.declared.requests.Request.TheVariants as asks
 use Rattle.message_forms.specs.declared.reading.FormFault.{FormFault}
 use Rattle.message_forms.specs.Methods.{method_of}
 use Rattle.message_forms.specs.Reading.{Asks, HasFault}
 use Rattle.message_forms.specs.Refusals.{refusal_of}
 use Rattle.message_forms.specs.Replies.{state_text}
-use Rattle.inclusion_graph.specs.declared.edge.Edge.{Edge}
-use Rattle.inclusion_graph.specs.Edges.{fresh, targets_of}
 use Rattle.request_rules.specs.declared.rules.Rule.{Rule}
 use Rattle.request_rules.specs.declared.rules.Rule.TheVariants as rule
 use Rattle.request_rules.specs.Settings.{Settings, caller_of, secret_of}
-use Rattle.request_rules.specs.Named.{named, place_named, places_named}
+use Rattle.request_rules.specs.Named.{named, place_named}
 use Rattle.request_rules.specs.Demands.{Demand, Right, rights_taken}
 use Rattle.request_rules.specs.Order.{FirstOf, Judges}
 
@@ -219,26 +216,3 @@ number_of rule.DeadlineRange = 13
 number_of rule.Itself = 14
 number_of rule.TooMany = 15
 number_of rule.Taken = 19
-
-abbrev pub table_full : List ℕ → ℕ → Refusal
-table_full table count = refusal 20 (table ++ (codes " " ++ decimal count))
-
--- The new inclusions are more than there may be beside those that are there.
-pub record OverflowsInclusions (rows : List Invocation) (edges : List Edge)
-    (including : List ℕ) (add : List (List ℕ)) (r : Refusal) : Type 0 where
-  pub place : ℕ
-  pub stands : place_named rows including ≡ Some place
-  pub many : 262_144
-      < length edges + length (fresh (targets_of edges place) (places_named rows add))
-  pub refusal_is : r ≡ table_full (codes "inclusions") (length edges)
-
--- Rule 20, which is asked last: there are fewer than 65,536 invocations, and at most 262,144
--- inclusions with the new ones.
-abbrev pub TableFull : List Invocation → List Edge → Request → Refusal → Type 0
-TableFull rows edges (asks.CreateInvocation q) r =
-    (65_536 ≤ length rows) × (r ≡ table_full (codes "invocations") (length rows))
-TableFull rows edges (asks.UpdateIncludedInvocations q) r =
-    OverflowsInclusions rows edges q.including q.add r
-TableFull rows edges (asks.UpdateInvocation q) r = ⊥
-TableFull rows edges (asks.FinalizeInvocation q) r = ⊥
-TableFull rows edges (asks.GetInvocation q) r = ⊥

@@ -1,12 +1,12 @@
 -- What a request says by itself, whatever the world and the moment.
-use Rattle.std.specs.Prelude.{◌≡◌, ◌≢◌, ℕ, List, Option, Some, None}
+use Rattle.std.specs.Prelude.{◌≡◌, ◌≢◌, ℕ, List, Some, None}
 use Rattle.update_tokens.specs.Hash.{token_text}
 use Rattle.call_forms.specs.declared.asked.Asked.{Asked}
 use Rattle.call_forms.specs.declared.forms.Refusal.{Refusal}
 use Rattle.call_forms.specs.Rules.{refusal_answer}
 use Rattle.request_rules.specs.declared.reading.Call.{Call}
 use Rattle.request_rules.specs.declared.reading.TokenCheck.{TokenCheck}
-use Rattle.request_rules.specs.declared.reading.TokenCheck.TheVariants.{New, Missing, Wrong, Right, Unasked}
+use Rattle.request_rules.specs.declared.reading.TokenCheck.TheVariants.{Missing, Wrong, Right, Unasked}
 use Rattle.request_rules.specs.declared.reading.Understood.{Understood}
 use Rattle.request_rules.specs.declared.reading.Understood.TheVariants.{Refused, Wanted}
 use Rattle.request_rules.specs.Settings.{Settings, secret_of}
@@ -17,11 +17,9 @@ use Rattle.request_rules.specs.Broken.{Wants, IsRefusedAlone}
 abbrev pub token_for : Settings → List ℕ → List ℕ
 token_for s id = token_text (secret_of s) id
 
--- A request that changes an invocation shows no token, another one, or the right one. A request for
--- a new invocation will hand out its token. Of other requests none is asked.
+-- A request that changes an invocation shows no token, another one, or the right one. Of other
+-- requests none is asked.
 abbrev pub IsChecked : Settings → Asked → Demand → TokenCheck → Type 0
-IsChecked s asked d (New token) =
-    (id : List ℕ) × (d.changed ≡ None) × (d.makes ≡ Some id) × (token ≡ token_for s id)
 IsChecked s asked d Missing =
     (id : List ℕ) × (d.changed ≡ Some id) × (asked.update_token ≡ None)
 IsChecked s asked d Wrong =
@@ -29,15 +27,7 @@ IsChecked s asked d Wrong =
     × (asked.update_token ≡ Some token) × (token ≢ token_for s id)
 IsChecked s asked d Right =
     (id : List ℕ) × (d.changed ≡ Some id) × (asked.update_token ≡ Some (token_for s id))
-IsChecked s asked d Unasked = (d.makes ≡ None) × (d.changed ≡ None)
-
--- the token that is handed out
-abbrev pub token_handed : TokenCheck → Option (List ℕ)
-token_handed (New token) = Some token
-token_handed Missing = None
-token_handed Wrong = None
-token_handed Right = None
-token_handed Unasked = None
+IsChecked s asked d Unasked = d.changed ≡ None
 
 -- A call is what a caller asks for, with what its update token comes to.
 pub record IsCallOf (s : Settings) (asked : Asked) (call : Call) : Type 0 where

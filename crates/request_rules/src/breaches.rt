@@ -4,7 +4,7 @@ ghost use Rattle.moments_spans.specs.Moments.{moment_text};
 ghost use Rattle.policy_checks.specs.Permissions.{permission_text};
 ghost use Rattle.call_forms.specs.Rules.{refusal_answer};
 ghost use Rattle.message_forms.specs.Replies.{state_text};
-ghost use Rattle.request_rules.specs.Broken.{number_of, table_full};
+ghost use Rattle.request_rules.specs.Broken.{number_of};
 ghost use Rattle.request_rules.specs.Breaches.{refusal_of};
 
 use crate::refusals::refused;
@@ -14,9 +14,6 @@ use message_forms::state_name;
 use names_realms::{InvocationId, Moment, Realm, State};
 use permissions::Permission;
 use std::alloc::{AllocError, Global};
-
-/// The rule that there is room for what is added.
-const TABLE_FULL: u8 = 20;
 
 /// A rule that a request breaks, with what breaks it. It is found without memory.
 #[derive(Clone, Copy)]
@@ -110,22 +107,6 @@ fn number_text(alloc: Global, number: usize) -> Result<Vec<u8>, AllocError>
     Ok(format!(in alloc; "{number}")?.into_bytes())
 }
 
-/// A table of rows, and how many it has.
-fn rows_text(alloc: Global, count: u32) -> Result<Vec<u8>, AllocError>
-    ensures { IfOk result (λ text.
-        text.items ≡ codes "invocations" ++ (codes " " ++ decimal count)) }
-{
-    Ok(format!(in alloc; "invocations {count}")?.into_bytes())
-}
-
-/// The table of inclusions, and how many it has.
-fn inclusions_text(alloc: Global, count: u32) -> Result<Vec<u8>, AllocError>
-    ensures { IfOk result (λ text.
-        text.items ≡ codes "inclusions" ++ (codes " " ++ decimal count)) }
-{
-    Ok(format!(in alloc; "inclusions {count}")?.into_bytes())
-}
-
 impl Breach<'_> {
     /// The broken rule.
     fn rule(&self) -> Rule
@@ -168,22 +149,4 @@ impl Breach<'_> {
     {
         refused(alloc, self.rule().number(), self.subject(alloc)?)
     }
-}
-
-/// The answer that there are so many invocations, which are as many as there may be. `Err` where
-/// there is no memory for its text.
-pub fn rows_full(alloc: Global, count: u32) -> Result<Answer, AllocError>
-    ensures { IfOk result (λ answer.
-        answer ≡ refusal_answer (table_full (codes "invocations") count)) }
-{
-    refused(alloc, TABLE_FULL, rows_text(alloc, count)?)
-}
-
-/// The answer that there are so many inclusions that the new ones would be too many. `Err` where
-/// there is no memory for its text.
-pub fn inclusions_full(alloc: Global, count: u32) -> Result<Answer, AllocError>
-    ensures { IfOk result (λ answer.
-        answer ≡ refusal_answer (table_full (codes "inclusions") count)) }
-{
-    refused(alloc, TABLE_FULL, inclusions_text(alloc, count)?)
 }

@@ -11,7 +11,7 @@ mod refusals;
 mod rights;
 mod rules;
 
-pub use breaches::{Breach, inclusions_full, rows_full};
+pub use breaches::Breach;
 pub use demand::{Demand, demand_of};
 pub use judging::Situation;
 pub use locating::{place_of, places_of};

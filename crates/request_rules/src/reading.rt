@@ -3,7 +3,7 @@ ghost use Rattle.std.specs.Prelude.{◌≡◌, ◌<◌, Some, IfOk, IfSome, IsSo
 ghost use Rattle.message_forms.specs.Methods.{method_of};
 ghost use Rattle.request_rules.specs.Settings.{caller_of};
 ghost use Rattle.request_rules.specs.Demands.{Demand, demand_of};
-ghost use Rattle.request_rules.specs.Understood.{IsChecked, IsUnderstood, token_handed};
+ghost use Rattle.request_rules.specs.Understood.{IsChecked, IsUnderstood};
 
 use crate::demand::{Demand, demand_of};
 use crate::refusals::{bad_body, no_caller, no_method};
@@ -12,13 +12,11 @@ use message_forms::{Method, Request, read_request};
 use names_realms::InvocationId;
 use permissions::{CallerId, Policy};
 use std::alloc::{AllocError, Global};
-use update_tokens::{token_is, update_token};
+use update_tokens::token_is;
 
 /// What the update token of a request comes to.
 #[derive(Clone, Copy)]
 pub enum TokenCheck {
-    /// The request makes an invocation, and this is its token.
-    New([u8; 64]),
     /// The request changes an invocation, and shows no token.
     Missing,
     /// It shows another one.
@@ -27,21 +25,6 @@ pub enum TokenCheck {
     Right,
     /// None is asked.
     Unasked,
-}
-
-impl TokenCheck {
-    /// The token that is handed out.
-    pub fn handed_out(self) -> Option<[u8; 64]>
-        ensures { result ≡ token_handed self }
-    {
-        match self {
-            TokenCheck::New(token) => Some(token),
-            TokenCheck::Missing => None,
-            TokenCheck::Wrong => None,
-            TokenCheck::Right => None,
-            TokenCheck::Unasked => None,
-        }
-    }
 }
 
 /// What a caller asks for, with what its update token comes to.
@@ -94,11 +77,8 @@ fn check_shown(policy: &Policy, asked: &Asked, id: &InvocationId) -> TokenCheck
 fn check_demand(policy: &Policy, asked: &Asked, demand: &Demand) -> TokenCheck
     ensures { IsChecked (record { policy = policy.now }) asked.now demand.now result }
 {
-    if let Some(id) = demand.changed {
-        return check_shown(policy, asked, id);
-    }
-    match demand.makes {
-        Some(id) => TokenCheck::New(update_token(policy.secret(), id)),
+    match demand.changed {
+        Some(id) => check_shown(policy, asked, id),
         None => TokenCheck::Unasked,
     }
 }

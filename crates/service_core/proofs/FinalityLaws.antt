@@ -15,7 +15,6 @@ use Rattle.call_forms.specs.declared.forms.Answer.{Answer}
 use Rattle.call_forms.specs.declared.forms.Standin.TheVariants.{Unavailable, Memory, Spent}
 use Rattle.call_forms.specs.declared.forms.Told.{Told}
 use Rattle.call_forms.specs.declared.forms.Told.TheVariants.{Made, Standin as Instead}
-use Rattle.message_forms.specs.declared.requests.Request.{Request}
 use Rattle.invocation_world.specs.World.{World, IsCallMoment, IsRow, IsStage, IsValid}
 use Rattle.invocation_world.specs.Settling.{SettlesRows}
 use Rattle.invocation_world.specs.Advancing.{Advances, CarriesOut, IsLeast, all_begun}
@@ -28,13 +27,16 @@ use Rattle.invocation_world.proofs.SettleFacts.{ended_or_same, row_stays}
 use Rattle.invocation_world.proofs.ValidFacts.{all_begin, valid_settled}
 use Rattle.request_rules.specs.Settings.{Settings, HasNames}
 use Rattle.service_core.specs.Finality.{CarriesInTime, EndsInTime, ToldInTime}
-use Rattle.service_core.specs.Step.{IsAccepted, Performs, Refuses, changed}
+use Rattle.request_effects.specs.declared.effect.Effect.{Effect}
+use Rattle.request_effects.specs.Effects.{with_effect}
+use Rattle.request_effects.specs.Fitting.{IsTimely, Suits}
+use Rattle.service_core.specs.Step.{Performs, Refuses, effect_for}
 use Rattle.service_core.specs.History.{Entry, Leads, Tells}
 use Rattle.service_core.specs.Laws.{FinalInTime}
-use Rattle.service_core.proofs.ChangeLaws.{change_keeps}
+use Rattle.service_core.proofs.ChangeLaws.{effect_keeps}
 use Rattle.service_core.proofs.StayLaws.{advanced_rows}
-use Rattle.service_core.proofs.ClearedLaws.{is_still_active, was_cleared}
-use Rattle.service_core.proofs.HistoryLaws.{advanced_may, leads_valid}
+use Rattle.service_core.proofs.ClearedLaws.{accepted_suits}
+use Rattle.service_core.proofs.HistoryLaws.{advanced_timely, leads_valid}
 use Rattle.service_core.proofs.FinalLaws.{all_final, judged_final}
 
 -- the rows that a change made final got its time as their end
@@ -198,29 +200,31 @@ added_was rows new active p row e is =
           absurd (active≢finalized no)
     ]
 
-change_was : (s : Settings) (w : World) (moment : ℤ) (caller : ℕ) (request : Request)
-    → WasFinal w.invocations (changed s w moment caller request).invocations
-change_was s w moment caller request =
-    change_keeps WasFinal s w moment caller request
+effect_was : (w : World) (moment : ℤ) (effect : Effect) → Suits w moment effect
+    → WasFinal w.invocations (with_effect moment effect w).invocations
+effect_was w moment effect may =
+    effect_keeps WasFinal w moment effect may
     (record {
       when_same = all_was w.invocations;
       when_added = added_was w.invocations;
-      when_updated = λ deadline tags id p changes at. changed_was (updated deadline tags) (λ r is. is) w.invocations p;
+      when_updated = λ deadline tags p active. changed_was (updated deadline tags) (λ r is. is) w.invocations p;
       when_begun = λ p active. changed_was (begun moment) (λ r is. absurd (finalizing≢finalized is)) w.invocations p;
     })
 
 none_ended : (time : ℤ) (rows : List Invocation) → AreEndedAt time rows rows
 none_ended time rows p row e is not = absurd (not (state_is Finalized rows p row e is))
 
-judged_at : (s : Settings) (w : World) (moment : ℤ) (asked : Asked) (answer : Answer) (after : World)
+judged_at : (s : Settings) (w : World) (moment : ℤ) (asked : Asked) (answer : Answer) (after : World) → HasNames s → IsTimely w moment
     → Refuses s w moment asked after answer ⊎ Performs s w moment asked after answer
     → AreEndedAt moment w.invocations after.invocations
-judged_at s w moment asked answer after (inl refused) =
+judged_at s w moment asked answer after names timely (inl refused) =
     subst (λ (v : World). AreEndedAt moment w.invocations v.invocations) (sym refused.same) (none_ended moment w.invocations)
-judged_at s w moment asked answer after (inr performs) =
-    let mid = changed s w moment performs.caller performs.request in
+judged_at s w moment asked answer after names timely (inr performs) =
+    let effect = effect_for s w moment performs.caller performs.request in
+    let mid = with_effect moment effect w in
     settled_at moment mid.inclusions w.invocations mid.invocations after.invocations
-    (change_was s w moment performs.caller performs.request) performs.acts.rows
+    (effect_was w moment effect (accepted_suits s w moment asked performs.caller performs.request names timely performs.accepted))
+    performs.acts.rows
 
 -- what is changed is an active row, or a new one
 all_waiting : (rows : List Invocation) → WaitingStay rows rows
@@ -236,27 +240,27 @@ changed_waiting change rows p active q row e is =
 added_waiting : (rows : List Invocation) (new : Invocation) → WaitingStay rows (rows ++ new ∷ [])
 added_waiting rows new p row e is = at_front rows new row p e
 
-change_waiting : (s : Settings) (w : World) (moment : ℤ) (asked : Asked) (caller : ℕ) (request : Request)
-    → IsAccepted s w moment asked caller request → WaitingStay w.invocations (changed s w moment caller request).invocations
-change_waiting s w moment asked caller request accepted =
-    let none = was_cleared s w moment asked caller request accepted in
-    change_keeps WaitingStay s w moment caller request
+effect_waiting : (w : World) (moment : ℤ) (effect : Effect) → Suits w moment effect
+    → WaitingStay w.invocations (with_effect moment effect w).invocations
+effect_waiting w moment effect may =
+    effect_keeps WaitingStay w moment effect may
     (record {
       when_same = all_waiting w.invocations;
       when_added = λ new active. added_waiting w.invocations new;
-      when_updated = λ deadline tags id p changes at.
-          changed_waiting (updated deadline tags) w.invocations p (is_still_active s w moment asked caller request id p none changes at);
+      when_updated = λ deadline tags. changed_waiting (updated deadline tags) w.invocations;
       when_begun = changed_waiting (begun moment) w.invocations;
     })
 
-judged_kept : (s : Settings) (w : World) (moment : ℤ) (asked : Asked) (answer : Answer) (after : World)
+judged_kept : (s : Settings) (w : World) (moment : ℤ) (asked : Asked) (answer : Answer) (after : World) → HasNames s → IsTimely w moment
     → Refuses s w moment asked after answer ⊎ Performs s w moment asked after answer → AreKept moment w.invocations after.invocations
-judged_kept s w moment asked answer after (inl refused) =
+judged_kept s w moment asked answer after names timely (inl refused) =
     subst (λ (v : World). AreKept moment w.invocations v.invocations) (sym refused.same) (λ p row e is. inl e)
-judged_kept s w moment asked answer after (inr performs) =
-    let mid = changed s w moment performs.caller performs.request in
+judged_kept s w moment asked answer after names timely (inr performs) =
+    let effect = effect_for s w moment performs.caller performs.request in
+    let mid = with_effect moment effect w in
     settled_kept moment mid.inclusions w.invocations mid.invocations after.invocations
-    (change_waiting s w moment asked performs.caller performs.request performs.accepted) performs.acts.rows
+    (effect_waiting w moment effect (accepted_suits s w moment asked performs.caller performs.request names timely performs.accepted))
+    performs.acts.rows
 
 ends_in_time : (time : ℤ) (w after : World) → IsValid after → KeepsFinal w after → AreKept time w.invocations after.invocations
     → AreEndedAt time w.invocations after.invocations → EndsInTime after.inclusions time w.invocations after.invocations
@@ -278,15 +282,15 @@ tells_in_time : (s : Settings) (w : World) (e : Entry) (told : Told) (after : Wo
     → w.last ≤ℤ e.moment → IsValid after → Tells s w e.moment e.asked told after → ToldInTime w e told after
 tells_in_time s w e (Made answer) after names valid call later right step =
     let between = step.between in
-    let may = advanced_may w between e.moment valid call later step.advances in
+    let may = advanced_timely w between e.moment valid call later step.advances in
     record {
       deadlines = step.advances.deadlines;
       between = between.invocations;
       due = advanced_in_time e.moment w between valid call step.advances;
       asked = ends_in_time e.moment between after right
-          (judged_final s between e.moment e.asked answer after may.valid step.judged)
-          (judged_kept s between e.moment e.asked answer after step.judged)
-          (judged_at s between e.moment e.asked answer after step.judged);
+          (judged_final s between e.moment e.asked answer after names may step.judged)
+          (judged_kept s between e.moment e.asked answer after names may step.judged)
+          (judged_at s between e.moment e.asked answer after names may step.judged);
     }
 tells_in_time s w e (Instead Memory) after names valid call later right (inl same) = inl same
 tells_in_time s w e (Instead Memory) after names valid call later right (inr advances) =

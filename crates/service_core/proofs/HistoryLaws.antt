@@ -10,22 +10,23 @@ use Rattle.call_forms.specs.declared.forms.Told.TheVariants.{Made, Standin as In
 use Rattle.invocation_world.specs.World.{World, IsCallMoment, IsValid}
 use Rattle.invocation_world.specs.Advancing.{Advances, after_deadlines}
 use Rattle.invocation_world.proofs.AdvanceFacts.{advance_valid}
-use Rattle.invocation_world.proofs.KeepFacts.{MayChange}
 use Rattle.request_rules.specs.Settings.{Settings, HasNames}
-use Rattle.service_core.specs.Step.{Performs, Refuses}
+use Rattle.request_effects.specs.Fitting.{IsTimely}
+use Rattle.request_effects.proofs.EffectLaws.{effect_valid}
+use Rattle.service_core.specs.Step.{Performs, Refuses, effect_for}
 use Rattle.service_core.specs.History.{Entry, IsTimed, Leads, Tells}
 use Rattle.service_core.specs.Laws.{LegalKeepsValid, TimedGoesOn, TimedIsLegal}
-use Rattle.service_core.proofs.StepLaws.{acted_valid}
+use Rattle.service_core.proofs.ClearedLaws.{accepted_suits}
 
 last_after : (moment : ℤ) (ds : List ℤ) (rows : List Invocation) (w : World) → w.last ≤ℤ moment
     → (after_deadlines moment ds rows w).last ≤ℤ moment
 last_after moment [] rows w later = later
 last_after moment (d ∷ ds) rows w later = omega (arith, ints)
 
--- once due deadlines are carried out, a valid world may change
-pub advanced_may : (w between : World) (moment : ℤ) → IsValid w → IsCallMoment moment → w.last ≤ℤ moment → Advances w moment between
-    → MayChange moment between
-advanced_may w between moment valid call later advances =
+-- once due deadlines are carried out, nothing is due
+pub advanced_timely : (w between : World) (moment : ℤ) → IsValid w → IsCallMoment moment → w.last ≤ℤ moment → Advances w moment between
+    → IsTimely between moment
+advanced_timely w between moment valid call later advances =
     let both = advance_valid moment w between valid call later advances in
     record {
       valid = both.0;
@@ -35,19 +36,20 @@ advanced_may w between moment valid call later advances =
     }
 
 judged_valid : (s : Settings) (w : World) (moment : ℤ) (asked : Asked) (answer : Answer) (after : World) → HasNames s
-    → MayChange moment w → Refuses s w moment asked after answer ⊎ Performs s w moment asked after answer → IsValid after
+    → IsTimely w moment → Refuses s w moment asked after answer ⊎ Performs s w moment asked after answer → IsValid after
 judged_valid s w moment asked answer after names may (inl refused) = subst IsValid (sym refused.same) may.valid
 judged_valid s w moment asked answer after names may (inr performs) =
-    acted_valid s w moment asked performs.caller performs.request after names may performs.accepted performs.acts
+    effect_valid w after moment (effect_for s w moment performs.caller performs.request) may
+    (accepted_suits s w moment asked performs.caller performs.request names may performs.accepted) performs.accepted.room performs.acts
 
 tells_valid : (s : Settings) (w : World) (moment : ℤ) (asked : Asked) (told : Told) (after : World) → HasNames s
     → IsCallMoment moment → w.last ≤ℤ moment → Tells s w moment asked told after → IsValid w → IsValid after
 tells_valid s w moment asked (Made answer) after names call later step valid =
-    judged_valid s step.between moment asked answer after names (advanced_may w step.between moment valid call later step.advances)
+    judged_valid s step.between moment asked answer after names (advanced_timely w step.between moment valid call later step.advances)
     step.judged
 tells_valid s w moment asked (Instead Memory) after names call later (inl same) valid = subst IsValid (sym same) valid
 tells_valid s w moment asked (Instead Memory) after names call later (inr advances) valid =
-    (advanced_may w after moment valid call later advances).valid
+    (advanced_timely w after moment valid call later advances).valid
 tells_valid s w moment asked (Instead Unavailable) after names call later never valid = absurd never
 tells_valid s w moment asked (Instead Spent) after names call later never valid = absurd never
 

@@ -1,14 +1,11 @@
 -- Calls that are judged, and due deadlines that are carried out.
-use Rattle.std.proofs.Common.{◌≡◌, ◌<◌, ℤ, ◌≤ℤ◌, List, [], ◌∷◌, length, Option, Some, refl, sym, subst, inl, inr, arith}
-use Rattle.std.proofs.lemmas.Int.{ints}
+use Rattle.std.proofs.Common.{◌≡◌, ◌<◌, ℤ, ◌≤ℤ◌, List, length, Option, Some, refl, sym, subst, inl, inr}
 use Rattle.invocations.specs.declared.invocation.Invocation.{Invocation}
 use Rattle.call_forms.specs.declared.asked.Asked.{Asked}
 use Rattle.call_forms.specs.declared.forms.Answer.{Answer}
 use Rattle.call_forms.specs.declared.forms.Refusal.{Refusal}
 use Rattle.call_forms.specs.Rules.{refusal_answer}
 use Rattle.invocation_world.specs.World.{World, IsCallMoment, IsValid}
-use Rattle.invocation_world.specs.Advancing.{Advances, after_deadlines}
-use Rattle.invocation_world.proofs.AdvanceFacts.{advance_valid}
 use Rattle.request_rules.specs.declared.reading.Call.{Call}
 use Rattle.request_rules.specs.declared.rules.Rule.{Rule}
 use Rattle.request_rules.specs.declared.reading.Understood.{Understood}
@@ -19,34 +16,19 @@ use Rattle.request_rules.specs.Order.{Judges}
 use Rattle.request_rules.specs.Broken.{IsBroken, order}
 use Rattle.request_rules.specs.Understood.{IsCallOf, IsUnderstood}
 use Rattle.request_rules.proofs.PolicyLaws.{caller_is_there}
-use Rattle.service_core.specs.declared.plan.Change.{Change}
-use Rattle.service_core.specs.declared.plan.Change.TheVariants.{Tick}
+use Rattle.request_effects.specs.Fitting.{IsTimely}
+use Rattle.service_core.specs.declared.plan.Work.{Work}
+use Rattle.service_core.specs.declared.plan.Work.TheVariants.{Tick}
 use Rattle.service_core.specs.CoreState.{CoreState}
-use Rattle.service_core.specs.Plans.{Carries, IsTimely}
+use Rattle.service_core.specs.Plans.{Carries}
 use Rattle.service_core.specs.Step.{IsJudgedAs, Refuses}
+use Rattle.service_core.proofs.HistoryLaws.{advanced_timely}
 
--- due deadlines lead to a world in which nothing is due
-last_after : (moment : ℤ) (deadlines : List ℤ) (rows : List Invocation) (w : World) → w.last ≤ℤ moment
-    → (after_deadlines moment deadlines rows w).last ≤ℤ moment
-last_after moment [] rows w later = later
-last_after moment (d ∷ deadlines) rows w later = omega (arith, ints)
-
-timely_after : (w after : World) (moment : ℤ) → IsValid w → IsCallMoment moment → w.last ≤ℤ moment → Advances w moment after
-    → IsTimely after moment
-timely_after w after moment valid call later advances =
-    let both = advance_valid moment w after valid call later advances in
-    record {
-      valid = both.0;
-      call = call;
-      later = subst (λ (v : World). v.last ≤ℤ moment) (sym advances.after_is) (last_after moment advances.deadlines advances.rows w later);
-      quiet = both.1;
-    }
-
-pub ticked : (old new : CoreState) (change : Change) (after : World) (moment : ℤ) → IsValid old.world → IsCallMoment moment
-    → old.world.last ≤ℤ moment → new ≡ old → change ≡ Tick moment → Carries new.world change after → IsTimely after moment
-ticked old new change after moment valid call later same is carries =
-    timely_after old.world after moment valid call later
-    (subst (λ (x : Change). Carries old.world x after) is (subst (λ (core : CoreState). Carries core.world change after) same carries))
+pub ticked : (old new : CoreState) (work : Work) (after : World) (moment : ℤ) → IsValid old.world → IsCallMoment moment
+    → old.world.last ≤ℤ moment → new ≡ old → work ≡ Tick moment → Carries new.world work after → IsTimely after moment
+ticked old new work after moment valid call later same is carries =
+    advanced_timely old.world after moment valid call later
+    (subst (λ (x : Work). Carries old.world x after) is (subst (λ (core : CoreState). Carries core.world work after) same carries))
 
 -- what is judged in the situation of a core is judged there
 pub caller_there : (s t : Settings) (asked : Asked) (call : Call) → t ≡ s → IsCallOf s asked call → call.caller < length t.policy.users

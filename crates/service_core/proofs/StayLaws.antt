@@ -1,31 +1,37 @@
 -- Rows that stay the same invocations.
-use Rattle.std.proofs.Common.{◌≡◌, ◌⊎◌, ℕ, ℤ, List, [], ◌∷◌, ◌++◌, Option, Some, inl, inr, refl, sym, ap, ◌∙◌, subst}
+use Rattle.std.proofs.Common.{◌≡◌, ◌⊎◌, ℕ, ℤ, List, [], ◌∷◌, ◌++◌, Option, Some, None, inl, inr, refl, sym, ap, ◌∙◌, subst, length}
 use Rattle.std.specs.List.{slice_get}
-use Rattle.std.proofs.lemmas.Bool.{cases_eq}
+use Rattle.std.proofs.lemmas.Bool.{cases_Bool, cases_eq, cond-false, cond-true}
 use Rattle.std.proofs.lemmas.Option.{same_Some}
 use Rattle.names_realms.specs.declared.pairs.Pair.{Pair}
 use Rattle.inclusion_graph.specs.declared.edge.Edge.{Edge}
+use Rattle.inclusion_graph.specs.Edges.{edges_from}
 use Rattle.invocations.specs.declared.invocation.Invocation.{Invocation}
-use Rattle.invocations.specs.Rows.{begun, ended, with_changed}
-use Rattle.invocations.proofs.RowLemmas.{at_front}
+use Rattle.invocations.specs.Rows.{ids_of, begun, ended, with_changed}
+use Rattle.invocations.proofs.RowLemmas.{at_end, at_front}
 use Rattle.call_forms.specs.declared.asked.Asked.{Asked}
 use Rattle.call_forms.specs.declared.forms.Answer.{Answer}
 use Rattle.call_forms.specs.declared.forms.Standin.TheVariants.{Unavailable, Memory, Spent}
 use Rattle.call_forms.specs.declared.forms.Told.{Told}
 use Rattle.call_forms.specs.declared.forms.Told.TheVariants.{Made, Standin as Instead}
-use Rattle.message_forms.specs.declared.requests.Request.{Request}
-use Rattle.invocation_world.specs.World.{World}
+use Rattle.invocation_world.specs.World.{World, IsValid}
 use Rattle.invocation_world.specs.Settling.{SettlesRows}
 use Rattle.invocation_world.specs.Advancing.{Advances, CarriesOut, after_deadlines, all_begun}
-use Rattle.invocation_world.specs.Changes.{updated}
+use Rattle.invocation_world.specs.Changes.{is_update, updated, with_row_updated}
 use Rattle.invocation_world.proofs.RowFacts.{changed_here, changed_other}
 use Rattle.invocation_world.proofs.SettleFacts.{ended_or_same}
 use Rattle.invocation_world.proofs.ValidFacts.{all_begin}
 use Rattle.request_rules.specs.Settings.{Settings}
-use Rattle.service_core.specs.Step.{Acts, Performs, Refuses, changed}
+use Rattle.request_rules.specs.Named.{place_named}
+use Rattle.request_rules.proofs.PlaceLaws.{place_holds, placed}
+use Rattle.request_effects.proofs.PlaceFacts.{id_at, row_placed}
+use Rattle.request_effects.specs.declared.effect.Effect.{Effect}
+use Rattle.request_effects.specs.declared.effect.Effect.TheVariants as does
+use Rattle.request_effects.specs.Effects.{Does, with_effect}
+use Rattle.service_core.specs.Step.{Performs, Refuses, effect_for}
 use Rattle.service_core.specs.History.{Tells}
-use Rattle.service_core.specs.Laws.{IsSameInvocation, RowsStay}
-use Rattle.service_core.proofs.ChangeLaws.{change_keeps}
+use Rattle.service_core.specs.Laws.{IsSameInvocation, RowsStay, ShownIsNamed}
+use Rattle.service_core.proofs.ChangeLaws.{edges_keep}
 
 -- each row stands at its place later, the same invocation
 abbrev pub AllStay : List Invocation → List Invocation → Type 0
@@ -124,29 +130,41 @@ begun_kept moment row = record { id = refl; realm = refl; creator = refl; create
 added_stay : (rows : List Invocation) (new : Invocation) → AllStay rows (rows ++ new ∷ [])
 added_stay rows new p row e = (row, at_front rows new row p e, itself row)
 
-change_stay : (s : Settings) (w : World) (moment : ℤ) (caller : ℕ) (request : Request)
-    → AllStay w.invocations (changed s w moment caller request).invocations
-change_stay s w moment caller request =
-    change_keeps AllStay s w moment caller request
-    (record {
-      when_same = all_stay w.invocations;
-      when_added = λ new active. added_stay w.invocations new;
-      when_updated = λ deadline tags id p changes at. changed_stay (updated deadline tags) (update_kept deadline tags) w.invocations p;
-      when_begun = λ p active. changed_stay (begun moment) (begun_kept moment) w.invocations p;
-    })
+update_stay : (moment : ℤ) (p : ℕ) (deadline : Option ℤ) (tags : Option (List Pair)) (w : World) (o : Option Invocation)
+    → AllStay w.invocations (with_row_updated moment p deadline tags w o).invocations
+update_stay moment p deadline tags w None = all_stay w.invocations
+update_stay moment p deadline tags w (Some row) =
+    let after : World = record {
+      invocations = with_changed (updated deadline tags) w.invocations p;
+      inclusions = w.inclusions;
+      last = moment;
+    } in
+    let Leaves : World → Type 0 = λ v. AllStay w.invocations v.invocations in
+    elim (cases_Bool (is_update deadline tags row)) [
+      | inl yes_ ↦ subst Leaves (sym (cond-true (is_update deadline tags row) after w yes_))
+          (changed_stay (updated deadline tags) (update_kept deadline tags) w.invocations p)
+      | inr no_ ↦ subst Leaves (sym (cond-false (is_update deadline tags row) after w no_)) (all_stay w.invocations)
+    ]
 
-pub acted_stay : (s : Settings) (w : World) (moment : ℤ) (caller : ℕ) (request : Request) (after : World)
-    → Acts s w moment caller request after → AllStay w.invocations after.invocations
-acted_stay s w moment caller request after acts =
-    let mid = changed s w moment caller request in
-    stay_both w.invocations mid.invocations after.invocations (change_stay s w moment caller request)
+effect_stay : (w : World) (moment : ℤ) (effect : Effect) → AllStay w.invocations (with_effect moment effect w).invocations
+effect_stay w moment does.Nothing = all_stay w.invocations
+effect_stay w moment (does.Add row) = added_stay w.invocations row
+effect_stay w moment (does.Update place deadline tags) = update_stay moment place deadline tags w (slice_get w.invocations place)
+effect_stay w moment (does.End place) = changed_stay (begun moment) (begun_kept moment) w.invocations place
+effect_stay w moment (does.Include plan) = edges_keep AllStay moment w (edges_from plan.from plan.targets) (all_stay w.invocations)
+
+pub acted_stay : (w : World) (moment : ℤ) (effect : Effect) (after : World) → Does moment effect w after
+    → AllStay w.invocations after.invocations
+acted_stay w moment effect after acts =
+    let mid = with_effect moment effect w in
+    stay_both w.invocations mid.invocations after.invocations (effect_stay w moment effect)
     (settled_stay moment mid.inclusions mid.invocations after.invocations acts.rows)
 
 judged_stay : (s : Settings) (w : World) (moment : ℤ) (asked : Asked) (answer : Answer) (after : World)
     → Refuses s w moment asked after answer ⊎ Performs s w moment asked after answer → AllStay w.invocations after.invocations
 judged_stay s w moment asked answer after (inl refused) = stay_same w.invocations after.invocations (ap (λ (v : World). v.invocations) refused.same)
 judged_stay s w moment asked answer after (inr performs) =
-    acted_stay s w moment performs.caller performs.request after performs.acts
+    acted_stay w moment (effect_for s w moment performs.caller performs.request) after performs.acts
 
 tells_stay : (s : Settings) (w : World) (moment : ℤ) (asked : Asked) (told : Told) (after : World) → Tells s w moment asked told after
     → AllStay w.invocations after.invocations
@@ -163,3 +181,27 @@ rows_stay s w [] v end = stay_same w.invocations v.invocations (ap (λ (u : Worl
 rows_stay s w (e ∷ h) v legal =
     stay_both w.invocations legal.0.invocations v.invocations (tells_stay s w e.moment e.asked e.told legal.0 legal.1.tells)
     (rows_stay s legal.0 h v legal.2)
+
+-- what stands at a place is found there by its id, in a valid world
+found_there : (after : World) (place : ℕ) (row : Invocation) (id : List ℕ) → IsValid after → slice_get after.invocations place ≡ Some row
+    → row.id ≡ id → place_named after.invocations id ≡ Some place
+found_there after place row id valid here is =
+    placed after.invocations id place valid.table
+    (id_at after.invocations place row here ∙ ap (λ (x : List ℕ). Some x) is)
+
+pub shown_is_named : ShownIsNamed
+shown_is_named w after moment effect valid acts =
+    let stay = acted_stay w moment effect after acts in
+    record {
+      named = λ id place at.
+          let row = row_placed w.invocations id place at in
+          let later = stay place row.0 row.1 in
+          let row_id : row.0.id ≡ id =
+          same_Some row.0.id id (sym (id_at w.invocations place row.0 row.1) ∙ place_holds id (ids_of w.invocations) place at) in
+          found_there after place later.0 id valid later.1 (later.2.id ∙ row_id);
+      made = λ row is.
+          let added : Does moment (does.Add row) w after = subst (λ (e : Effect). Does moment e w after) is acts in
+          let later = settled_stay moment w.inclusions (w.invocations ++ row ∷ []) after.invocations added.rows (length w.invocations) row
+          (at_end w.invocations row) in
+          found_there after (length w.invocations) later.0 row.id valid later.1 later.2.id;
+    }

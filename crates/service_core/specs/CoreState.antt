@@ -4,7 +4,7 @@ use Rattle.call_forms.specs.declared.forms.Answer.{Answer}
 use Rattle.invocation_world.specs.World.{World}
 use Rattle.invocation_world.specs.States.{WorldState}
 use Rattle.request_rules.specs.Settings.{Settings}
-use Rattle.service_core.specs.declared.plan.Change.{Change}
+use Rattle.service_core.specs.declared.plan.Work.{Work}
 
 -- A core: what it is set up with, its world, and for how many more rows and inclusions it has room.
 pub record CoreState : Type 0 where
@@ -21,8 +21,8 @@ held_by core = record {
   spare_inclusions = core.spare_inclusions;
 }
 
--- A plan: what it changes, and the answer that it gives. The plan that carries out due deadlines
+-- A plan: what is to be done, and the answer that it gives. The plan that carries out due deadlines
 -- gives none.
 pub record PlanState : Type 0 where
-  pub change : Change
+  pub work : Work
   pub answer : Option Answer

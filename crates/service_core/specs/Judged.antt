@@ -12,14 +12,8 @@ use Rattle.std.specs.Prelude.{◌⊎◌}
 use Rattle.invocation_world.specs.World.{World}
 use Rattle.request_rules.specs.declared.reading.Call.{Call}
 use Rattle.request_rules.specs.Settings.{Settings}
-use Rattle.request_rules.specs.Understood.{IsCallOf}
 use Rattle.service_core.specs.CoreState.{CoreState}
 use Rattle.service_core.specs.Step.{IsJudgedAs, Refuses, Performs}
-
--- The call is of the request, and breaks no rule for what is demanded.
-pub record IsJudged (core : CoreState) (moment : ℤ) (asked : Asked) (call : Call) : Type 0 where
-  pub call_is : IsCallOf core.settings asked call
-  pub none : IsJudgedAs core.settings core.world moment asked call.caller call.request None
 
 -- The answer refuses the call, by the first rule for what is demanded that it breaks; or it breaks
 -- none.

@@ -1,9 +1,13 @@
 -- Laws of steps and histories.
-use Rattle.std.specs.Prelude.{◌≡◌, ℕ, ℤ, List, [], ◌∷◌, ◌++◌, Some, slice_get}
+use Rattle.std.specs.Prelude.{◌≡◌, ℕ, ℤ, List, [], ◌∷◌, ◌++◌, Some, length, slice_get}
 use Rattle.call_forms.specs.declared.asked.Asked.{Asked}
 use Rattle.call_forms.specs.declared.forms.Answer.{Answer}
 use Rattle.invocations.specs.declared.invocation.Invocation.{Invocation}
 use Rattle.request_rules.specs.Settings.{Settings, HasNames}
+use Rattle.request_rules.specs.Named.{place_named}
+use Rattle.request_effects.specs.declared.effect.Effect.{Effect}
+use Rattle.request_effects.specs.declared.effect.Effect.TheVariants as does
+use Rattle.request_effects.specs.Effects.{Does}
 use Rattle.invocation_world.specs.World.{World, IsValid}
 use Rattle.invocation_world.specs.Laws.{KeepsFinal}
 use Rattle.service_core.specs.Finality.{AllInTime}
@@ -48,6 +52,19 @@ RowsStay =
     → (place : ℕ) (row : Invocation) → slice_get w.invocations place ≡ Some row
     → (later : Invocation) × (slice_get v.invocations place ≡ Some later)
     × IsSameInvocation row later
+
+-- An effect leaves each invocation at its place, found by its id, and a new one after the others: so
+-- what a request shows by a place is the invocation that it names, or makes.
+pub record StaysNamed (w : World) (effect : Effect) (after : World) : Type 0 where
+  pub named : (id : List ℕ) (place : ℕ) → place_named w.invocations id ≡ Some place
+      → place_named after.invocations id ≡ Some place
+  pub made : (row : Invocation) → effect ≡ does.Add row
+      → place_named after.invocations row.id ≡ Some (length w.invocations)
+
+abbrev pub ShownIsNamed : Type 0
+ShownIsNamed =
+    (w after : World) (moment : ℤ) (effect : Effect) → IsValid after → Does moment effect w after
+    → StaysNamed w effect after
 
 -- What is final stays as it is, with all that it reaches.
 abbrev pub FinalStays : Type 0

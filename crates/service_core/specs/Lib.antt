@@ -1,4 +1,3 @@
-pub mod Answers
 pub mod Step
 pub mod History
 pub mod CoreState

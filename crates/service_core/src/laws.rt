@@ -1,5 +1,5 @@
 //! Laws of steps and histories. These functions do nothing: what each of them ensures is the law.
-ghost use Rattle.service_core.specs.Laws.{FinalInTime, FinalStays, HasSteps, LegalKeepsValid, RowsStay, StepsAreUnique, TimedGoesOn, TimedIsLegal};
+ghost use Rattle.service_core.specs.Laws.{FinalInTime, FinalStays, HasSteps, LegalKeepsValid, RowsStay, ShownIsNamed, StepsAreUnique, TimedGoesOn, TimedIsLegal};
 
 /// Each request at a moment leads from each world to some world, with some answer.
 pub fn a_step_is_there()
@@ -19,6 +19,12 @@ pub fn ids_stay_unique()
 /// A history takes no invocation away, and each stays whose it is, where, and since when.
 pub fn rows_stay()
     ensures { RowsStay }
+{}
+
+/// An effect leaves each invocation at its place, found by its id, and a new one after the others.
+/// So what is shown by a place is what the request names, or makes.
+pub fn shown_is_named()
+    ensures { ShownIsNamed }
 {}
 
 /// What is final stays as it is, with all that it reaches, in each history from a valid world.

@@ -2,17 +2,15 @@
 #![tactic(auto)]
 
 mod laws;
-mod making;
 mod plan;
 mod planning;
 mod serving;
-mod showing;
 #[cfg(test)]
 mod tests;
 
 pub use laws::{
     a_step_is_there, final_in_time, final_stays, ids_stay_unique, one_step, rows_stay,
-    timed_goes_on, timed_is_legal,
+    shown_is_named, timed_goes_on, timed_is_legal,
 };
-pub use plan::{Change, Plan, Prepared};
+pub use plan::{Plan, Prepared, Work};
 pub use serving::Core;

@@ -1,43 +1,24 @@
-//! What an accepted request will change.
+//! What is planned and not yet carried out.
 ghost use Rattle.std.specs.Prelude.{◌≡◌};
 
 use call_forms::Answer;
-use inclusion_graph::EdgePlan;
-use invocations::Invocation;
-use lists::Listed;
-use names_realms::{Moment, Pair};
+use names_realms::Moment;
+use request_effects::Change;
 use std::marker::Model;
 
-/// What a plan changes.
+/// What is to be done.
 #[derive(Drop)]
-pub enum Change {
+pub enum Work {
     /// The deadlines that are due at this moment are carried out.
     Tick(Moment),
-    /// This invocation is added.
-    Add(Invocation),
-    /// The invocation at a place gets another deadline or other tags, each where it is given.
-    Update {
-        moment: Moment,
-        place: u32,
-        deadline: Option<Moment>,
-        tags: Option<Listed<Pair>>,
-    },
-    /// The finalization of the invocation at a place begins.
-    End {
-        moment: Moment,
-        place: u32,
-    },
-    /// These inclusions are added.
-    Include {
-        moment: Moment,
-        plan: EdgePlan,
-    },
+    /// A request's change is made.
+    Change(Change),
 }
 
-/// A change that is ready to be made, and the answer that it gives, where it answers a request.
+/// What is ready to be done, and the answer that it gives, where it answers a request.
 #[derive(Drop)]
 pub struct Plan {
-    change: Change,
+    work: Work,
     answer: Option<Answer>,
 }
 
@@ -46,23 +27,23 @@ impl Model for Plan {
 
     ghost Value = { PlanState };
 
-    ghost view = { λ p. record { change = p.change; answer = p.answer } };
+    ghost view = { λ p. record { work = p.work; answer = p.answer } };
 }
 
 impl Plan {
-    /// The plan of a change, with its answer.
-    pub(crate) fn new(change: Change, answer: Option<Answer>) -> Plan
-        ensures { result ≡ record { change = change; answer = answer } }
+    /// The plan of what is to be done, with its answer.
+    pub(crate) fn new(work: Work, answer: Option<Answer>) -> Plan
+        ensures { result ≡ record { work = work; answer = answer } }
     {
-        Plan { change, answer }
+        Plan { work, answer }
     }
 
-    /// The change and the answer.
-    pub(crate) fn into_parts(self) -> (Change, Option<Answer>)
-        ensures change { result.0 ≡ self.change }
+    /// What is to be done, and the answer.
+    pub(crate) fn into_parts(self) -> (Work, Option<Answer>)
+        ensures work { result.0 ≡ self.work }
         ensures answer { result.1 ≡ self.answer }
     {
-        (self.change, self.answer)
+        (self.work, self.answer)
     }
 }
 

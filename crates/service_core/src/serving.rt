@@ -1,32 +1,25 @@
 //! The core: the world in memory, and its steps.
-ghost use Rattle.std.specs.Prelude.{◌≡◌, ◌≤ℤ◌, ◌<◌, ◌≤◌, pos, IfOk, MatchBool, None, OnErr, OnOk, Some, length};
+ghost use Rattle.std.specs.Prelude.{◌≡◌, ◌≤ℤ◌, ◌<◌, ◌≤◌, pos, IfOk, MatchBool, None, OnErr, OnOk, length};
 ghost use Rattle.std.specs.Int.{int_min, int_max};
-ghost use Rattle.permissions.specs.Faults.{IsSound};
 ghost use Rattle.invocation_world.specs.World.{empty_world, IsCallMoment, IsValid, latest_call};
 ghost use Rattle.invocation_world.specs.Advancing.{Advances, IsDueAt, IsQuiet};
-ghost use Rattle.request_rules.specs.Settings.{HasNames};
 ghost use Rattle.request_rules.specs.Understood.{IsCallOf};
+ghost use Rattle.request_effects.specs.Fitting.{IsTimely};
 ghost use Rattle.service_core.specs.Step.{moment_of};
-ghost use Rattle.service_core.specs.Plans.{Carries, Fits, IsPrepared, IsTimely};
+ghost use Rattle.service_core.specs.Plans.{Carries, Fits, IsPrepared};
 ghost use Rattle.call_forms.specs.declared.asked.Asked.{Asked};
-ghost use Rattle.service_core.specs.Judged.{IsAnswered, IsJudged, TellsRefusal};
+ghost use Rattle.service_core.specs.Judged.{IsAnswered, TellsRefusal};
 ghost use Rattle.service_core.specs.History.{Serves};
-ghost use Rattle.invocations.specs.Rows.{HasId};
-ghost use Rattle.request_rules.specs.Named.{place_named};
 
-use crate::making::{Wish, pairs_of};
-use crate::plan::{Change, Plan, Prepared};
-use crate::planning::{Place, plan_end, plan_inclusions, plan_row, plan_update};
-use crate::showing::show_at;
+use crate::plan::{Plan, Prepared, Work};
+use crate::planning::plan;
 use call_forms::{Answer, Asked, Standin, Told};
 use invocation_world::InvocationWorld;
 use invocations::Invocation;
-use message_forms::Request;
-use names_realms::{InvocationId, Moment};
+use names_realms::Moment;
 use permissions::Policy;
-use request_rules::{
-    Call, Holding, Rule, Situation, Understood, holding_for, place_of, places_of, understand,
-};
+use request_effects::carry_out;
+use request_rules::{Call, Holding, Rule, Situation, Understood, holding_for, understand};
 use std::alloc::{AllocError, Global};
 use std::marker::Model;
 
@@ -57,13 +50,12 @@ impl Model for Core {
 }
 
 impl Core {
-    /// The empty world under a policy without a fault, as `policy_reading::from_toml` reads it.
-    /// `Err` where there is no memory.
+    /// The empty world under a policy. `Err` where there is no memory.
     pub fn new(alloc: Global, policy: Policy) -> Result<Core, AllocError>
-        requires { IsSound policy }
         ensures world { IfOk result (λ core. core.world ≡ empty_world) }
         ensures settings { IfOk result (λ core. core.settings.policy ≡ policy) }
     {
+        let _ = policy.tables();
         let world = InvocationWorld::new(alloc)?;
         Ok(Core { policy, world })
     }
@@ -101,12 +93,12 @@ impl Core {
         requires later { self.old.world.last ≤ℤ moment }
         requires due { IsDueAt self.old.world moment }
         ensures core { self.new ≡ self.old }
-        ensures change { IfOk result (λ plan. plan.change ≡ Change.Tick moment) }
+        ensures work { IfOk result (λ plan. plan.work ≡ Work.Tick moment) }
         ensures answer { IfOk result (λ plan. plan.answer ≡ None) }
-        ensures fits { IfOk result (λ plan. Fits self.new plan.change) }
+        ensures fits { IfOk result (λ plan. Fits self.new plan.work) }
     {
         let _ = alloc;
-        Ok(Plan::new(Change::Tick(moment), None))
+        Ok(Plan::new(Work::Tick(moment), None))
     }
 
     /// What a call at this moment is judged by, with what was found before of its caller's rights.
@@ -122,73 +114,6 @@ impl Core {
             table: self.world.table(),
             moment,
             holding,
-        }
-    }
-
-    /// The place of an invocation that is there, at a moment.
-    fn place(&self, moment: Moment, id: &InvocationId) -> Place
-        requires { HasId self.now.world.invocations id.now }
-        ensures place { place_named self.now.world.invocations id.now ≡ Some result.place }
-        ensures within { result.place < length self.now.world.invocations }
-        ensures moment { result.moment ≡ moment }
-    {
-        match place_of(self.world.table(), id) {
-            Some(place) => Place { place, moment },
-            None => unreachable!(),
-        }
-    }
-
-    /// What a call comes to that breaks no rule for what is demanded.
-    fn plan(
-        &mut self,
-        alloc: Global,
-        moment: Moment,
-        asked: &Asked,
-        call: Call,
-    ) -> Result<Prepared, AllocError>
-        requires timely { IsTimely self.old.world moment }
-        requires judged { IsJudged self.old moment asked.now call }
-        ensures world { self.new.world ≡ self.old.world }
-        ensures settings { self.new.settings ≡ self.old.settings }
-        ensures spare_rows { self.old.spare_rows ≤ self.new.spare_rows }
-        ensures spare_inclusions { self.old.spare_inclusions ≤ self.new.spare_inclusions }
-        ensures prepared { IfOk result (IsPrepared self.new moment asked.now) }
-    {
-        let _ = asked;
-        let Call {
-            caller,
-            request,
-            token,
-        } = call;
-        match request {
-            Request::CreateInvocation(q) => {
-                let wish = Wish {
-                    id: q.id,
-                    realm: q.invocation.realm,
-                    deadline: q.invocation.deadline,
-                    tags: q.invocation.tags,
-                };
-                let row = wish.into_row(alloc, &self.policy, caller, moment)?;
-                plan_row(alloc, &mut self.world, row, token.handed_out())
-            }
-            Request::UpdateInvocation(q) => {
-                let at = self.place(moment, &q.id);
-                let tags = pairs_of(alloc, q.tags)?;
-                plan_update(alloc, &self.world, at, q.deadline, tags)
-            }
-            Request::FinalizeInvocation(q) => {
-                let at = self.place(moment, &q.id);
-                plan_end(alloc, &mut self.world, at)
-            }
-            Request::UpdateIncludedInvocations(q) => {
-                let at = self.place(moment, &q.including);
-                let targets = places_of(alloc, self.world.table(), q.add.as_slice())?;
-                plan_inclusions(alloc, &mut self.world, at, targets.as_slice())
-            }
-            Request::GetInvocation(q) => {
-                let at = self.place(moment, &q.id);
-                Ok(Prepared::Answered(show_at(alloc, &self.world, at.place)?))
-            }
         }
     }
 
@@ -234,7 +159,8 @@ impl Core {
         if let Some(answer) = self.refused(alloc, moment, &call)? {
             return Ok(Prepared::Refused(answer));
         }
-        self.plan(alloc, moment, asked, call)
+        let _ = asked;
+        plan(alloc, &mut self.world, &self.policy, moment, call)
     }
 
     /// What a request comes to at this moment, at which nothing is due. It takes all the memory that
@@ -260,40 +186,28 @@ impl Core {
         }
     }
 
-    /// Makes a planned change.
-    fn carry_out(&mut self, change: Change)
-        requires { Fits self.old change }
-        ensures world { Carries self.old.world change self.new.world }
+    /// Does what was planned.
+    fn work(&mut self, work: Work)
+        requires { Fits self.old work }
+        ensures world { Carries self.old.world work self.new.world }
         ensures settings { self.new.settings ≡ self.old.settings }
     {
-        match change {
-            Change::Tick(moment) => self.world.advance(moment),
-            Change::Add(row) => {
-                self.world.add_prepared(row);
-            }
-            Change::Update {
-                moment,
-                place,
-                deadline,
-                tags,
-            } => {
-                self.world.update(place, deadline, tags, moment);
-            }
-            Change::End { moment, place } => self.world.retire(place, moment),
-            Change::Include { moment, plan } => self.world.include(plan, moment),
+        match work {
+            Work::Tick(moment) => self.world.advance(moment),
+            Work::Change(change) => carry_out(&mut self.world, change),
         }
     }
 
     /// Makes a change that was prepared, and gives its answer: none for due deadlines. It takes no
     /// memory.
     pub fn commit(&mut self, plan: Plan) -> Option<Answer>
-        requires { Fits self.old plan.change }
-        ensures world { Carries self.old.world plan.change self.new.world }
+        requires { Fits self.old plan.work }
+        ensures world { Carries self.old.world plan.work self.new.world }
         ensures settings { self.new.settings ≡ self.old.settings }
         ensures answer { result ≡ plan.answer }
     {
-        let (change, answer) = plan.into_parts();
-        self.carry_out(change);
+        let (work, answer) = plan.into_parts();
+        self.work(work);
         answer
     }
 

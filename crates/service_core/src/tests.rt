@@ -138,6 +138,7 @@ fn laws_do_nothing() {
     crate::one_step();
     crate::ids_stay_unique();
     crate::rows_stay();
+    crate::shown_is_named();
     crate::final_stays();
     crate::final_in_time();
     crate::timed_is_legal();

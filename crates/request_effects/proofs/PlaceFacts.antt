@@ -1,0 +1,72 @@
+-- Rows by their ids and places.
+use Rattle.std.proofs.Common.{◌≡◌, ◌≢◌, ◌<◌, ℕ, zero, List, [], ◌∷◌, length, Option, Some, None, option_map, refl, sym, ap, ◌∙◌, subst, inl, inr, arith}
+use Rattle.std.specs.Prelude.{slice_get, Contains, IfSome}
+use Rattle.std.specs.List.{All, cons_option}
+use Rattle.std.proofs.lemmas.List.Elements.{All-cons, All-nil}
+use Rattle.std.proofs.lemmas.Option.{same_Some, slice_get-map, slice_get_read}
+use Rattle.inclusion_graph.proofs.EdgeLemmas.{in_rest}
+use Rattle.invocations.specs.declared.invocation.Invocation.{Invocation}
+use Rattle.invocations.specs.Rows.{HasId, ids_of}
+use Rattle.invocation_world.proofs.RowFacts.{stands}
+use Rattle.request_rules.specs.Named.{place_named, places_named}
+use Rattle.request_rules.proofs.PlaceLaws.{place-within, place_holds, place_there}
+
+-- an id that a row has is placed
+pub named_there : (rows : List Invocation) (id : List ℕ) → HasId rows id → None ≡ place_named rows id → ⊥
+named_there rows id has none =
+    let here : slice_get (ids_of rows) has.0 ≡ Some id = slice_get_read (ids_of rows) (length (ids_of rows)) has.0 id refl has.1 (sym has.2) in
+    let found = place_there id (ids_of rows) has.0 here in
+    let both : None ≡ Some found.0 = none ∙ found.1 in
+    absurd cc
+
+pub id_at : (rows : List Invocation) (p : ℕ) (row : Invocation) → slice_get rows p ≡ Some row → slice_get (ids_of rows) p ≡ Some row.id
+id_at rows p row e = slice_get-map (λ (r : Invocation). r.id) rows p ∙ ap (option_map (λ (r : Invocation). r.id)) e
+
+pub id_none : (rows : List Invocation) (p : ℕ) → slice_get rows p ≡ None → slice_get (ids_of rows) p ≡ None
+id_none rows p e = slice_get-map (λ (r : Invocation). r.id) rows p ∙ ap (option_map (λ (r : Invocation). r.id)) e
+
+pub id_same : (old new : List Invocation) (p : ℕ) → slice_get new p ≡ slice_get old p → slice_get (ids_of new) p ≡ slice_get (ids_of old) p
+id_same old new p same =
+    slice_get-map (λ (r : Invocation). r.id) new p ∙ (ap (option_map (λ (r : Invocation). r.id)) same
+    ∙ sym (slice_get-map (λ (r : Invocation). r.id) old p))
+
+-- a row stands where an id is placed
+pub row_placed : (rows : List Invocation) (id : List ℕ) (place : ℕ) → place_named rows id ≡ Some place
+    → (row : Invocation) × (slice_get rows place ≡ Some row)
+row_placed rows id place e = elim (stands rows place) [
+  | inl h ↦ h
+  | inr none ↦
+      let no : None ≡ Some id = sym (id_none rows place none) ∙ place_holds id (ids_of rows) place e in absurd cc
+]
+
+-- ---- the places of those that are named
+
+placed_step : (P : ℕ → Type 0) (o : Option ℕ) (rest : List ℕ) → ((place : ℕ) → o ≡ Some place → P place) → All P rest
+    → All P (cons_option o rest)
+placed_step P None rest law all = all
+placed_step P (Some place) rest law all = All-cons P place rest (law place refl) all
+
+all_placed : (P : ℕ → Type 0) (rows : List Invocation) (ids : List (List ℕ))
+    → ((id : List ℕ) (place : ℕ) → Contains ids id → place_named rows id ≡ Some place → P place) → All P (places_named rows ids)
+all_placed P rows [] law = All-nil P
+all_placed P rows (id ∷ ids) law =
+    placed_step P (place_named rows id) (places_named rows ids) (λ place e. law id place (zero, omega arith, refl) e)
+    (all_placed P rows ids (λ x place held e. law x place (in_rest id x ids held) e))
+
+pub places_within : (rows : List Invocation) (ids : List (List ℕ)) → All (λ place. place < length rows) (places_named rows ids)
+places_within rows ids = all_placed (λ place. place < length rows) rows ids (λ id place held e. place-within rows id place e)
+
+pub places_elsewhere : (rows : List Invocation) (including : List ℕ) (place : ℕ) (ids : List (List ℕ))
+    → place_named rows including ≡ Some place → (Contains ids including → ⊥) → All (λ target. target ≢ place) (places_named rows ids)
+places_elsewhere rows including place ids at not = all_placed (λ target. target ≢ place) rows ids
+    (λ id target held e same.
+    let here : slice_get (ids_of rows) place ≡ Some id = subst (λ (p : ℕ). slice_get (ids_of rows) p ≡ Some id) same (place_holds id (ids_of rows) target e) in
+    let is : id ≡ including = same_Some id including (sym here ∙ place_holds including (ids_of rows) place at) in
+    not (subst (Contains ids) is held))
+
+-- what is found in a table that has these rows stands among them
+pub named_within : (table rows : List Invocation) (id : List ℕ) (found : Option ℕ) → table ≡ rows → found ≡ place_named table id
+    → IfSome found (λ place. place < length rows)
+named_within table rows id None same is = tt
+named_within table rows id (Some place) same is =
+    place-within rows id place (sym (ap (λ (xs : List Invocation). place_named xs id) same) ∙ sym is)

@@ -1,0 +1,201 @@
+-- What a safe request does suits the world.
+use Rattle.std.proofs.Common.{◌≡◌, ◌≢◌, ◌<◌, ℕ, ℤ, pos, ◌+ℤ◌, ◌≤ℤ◌, ◌<ℤ◌, List, [], ◌∷◌, length, codes, Option, Some, None, unwrap_or, refl, sym, ◌∙◌, subst, inl, inr, arith}
+use Rattle.std.specs.Prelude.{◌++◌, slice_get, Contains}
+use Rattle.std.specs.List.{All}
+use Rattle.std.specs.Option.{ForSome}
+use Rattle.std.proofs.lemmas.Bool.{cases_Bool, cond-false, cond-true}
+use Rattle.std.proofs.lemmas.Int.{ints}
+use Rattle.std.proofs.lemmas.Option.{none-some}
+use Rattle.names_realms.specs.Names.{invocation_name}
+use Rattle.names_realms.specs.declared.pairs.Pair.{Pair}
+use Rattle.names_realms.specs.declared.states.State.{State}
+use Rattle.names_realms.specs.declared.states.State.TheVariants.{Active, Finalizing, Finalized}
+use Rattle.inclusion_graph.specs.Edges.{fresh, targets_of}
+use Rattle.inclusion_graph.proofs.ListLemmas.{fresh_within}
+use Rattle.invocations.specs.declared.invocation.Invocation.{Invocation}
+use Rattle.invocations.specs.Rows.{HasId, IsInState, states_of}
+use Rattle.message_forms.specs.declared.requests.Request.{Request}
+use Rattle.message_forms.specs.declared.requests.Request.TheVariants as asks
+use Rattle.message_forms.specs.declared.requests.CreateInvocation.{CreateInvocation}
+use Rattle.message_forms.specs.Replies.{state_text}
+use Rattle.invocation_world.specs.World.{World, IsCallMoment, IsPair, IsRow, default_lifetime, latest_deadline, new_row}
+use Rattle.invocation_world.specs.Changes.{is_update}
+use Rattle.invocation_world.proofs.CodeFacts.{fresh_twice}
+use Rattle.invocation_world.proofs.RowFacts.{state_is}
+use Rattle.request_rules.specs.Named.{place_named, places_named}
+use Rattle.request_rules.specs.Demands.{demand_of}
+use Rattle.request_rules.specs.Broken.{IsInReach, of_invocation, out_of_reach, refusal}
+use Rattle.request_rules.proofs.Decided.{reach_or_not}
+use Rattle.request_rules.proofs.PlaceLaws.{place-named}
+use Rattle.request_effects.specs.declared.effect.Effect.TheVariants as does
+use Rattle.request_effects.specs.Effects.{effect_of, end_at, end_of, include_at, include_from, include_of, update_at, update_of}
+use Rattle.request_effects.specs.Fitting.{IsTimely, Suits}
+use Rattle.request_effects.specs.Planned.{IsSafe}
+use Rattle.request_effects.proofs.PlaceFacts.{named_there, places_elsewhere, places_within, row_placed}
+
+-- ---- the rules, one by one
+
+free_at : (rows : List Invocation) (id : List ℕ) (o : Option ℕ) → place_named rows id ≡ o → (place_named rows id ≢ None → ⊥) → o ≡ None
+free_at rows id None e free = refl
+free_at rows id (Some p) e free = absurd (free (λ none. none-some p (sym none ∙ e)))
+
+pub name_is_free : (w : World) (moment : ℤ) (name : List ℕ) (request : Request) (id : List ℕ) → IsSafe w moment name request
+    → (demand_of request).makes ≡ Some id → ¬ HasId w.invocations id
+name_is_free w moment name request id safe makes has =
+    named_there w.invocations id has
+    (sym (free_at w.invocations id (place_named w.invocations id) refl
+    (λ taken. safe.free (of_invocation 19 id) (record { id = id; makes = makes; taken = taken; refusal_is = refl }))))
+
+is_active : (state : State) → (state ≢ Active → ⊥) → state ≡ Active
+is_active Active h = refl
+is_active Finalizing h = absurd (h (λ e. cc))
+is_active Finalized h = absurd (h (λ e. cc))
+
+pub is_still_active : (w : World) (moment : ℤ) (name : List ℕ) (request : Request) (id : List ℕ) (place : ℕ)
+    → IsSafe w moment name request → (demand_of request).active ≡ Some id → place_named w.invocations id ≡ Some place
+    → IsInState Active w.invocations place
+is_still_active w moment name request id place safe own at =
+    let row = row_placed w.invocations id place at in
+    state_is Active w.invocations place row.0 row.1
+    (is_active row.0.state (λ other.
+    safe.active (refusal 12 (invocation_name id ++ (codes " " ++ state_text row.0.state)))
+    (record {
+      id = id;
+      changes = own;
+      row = row.0;
+      stands = place-named w.invocations id place at ∙ row.1;
+      inactive = other;
+      refusal_is = refl;
+    })))
+
+reaches : (w : World) (moment : ℤ) (name : List ℕ) (request : Request) (deadline : ℤ) → IsSafe w moment name request
+    → (demand_of request).deadline ≡ Some deadline → IsInReach moment deadline
+reaches w moment name request deadline safe given =
+    elim (reach_or_not moment deadline) [
+      | inl reach ↦ reach
+      | inr far ↦
+          absurd (safe.reach (out_of_reach deadline moment)
+          (record { deadline = deadline; given = given; far = far; refusal_is = refl }))
+    ]
+
+deadline_ahead : (w : World) (moment : ℤ) (name : List ℕ) (request : Request) → IsCallMoment moment → IsSafe w moment name request
+    → ForSome (demand_of request).deadline (λ given. (moment <ℤ given) × (given ≤ℤ latest_deadline))
+deadline_ahead w moment name request call safe = λ given e.
+    let reach = reaches w moment name request given safe e in
+    (omega (arith, ints, reach.0), omega (arith, ints, reach.1, call.1))
+
+pub not_among_included : (w : World) (moment : ℤ) (name : List ℕ) (request : Request) (including : List ℕ) → IsSafe w moment name request
+    → (demand_of request).changed ≡ Some including → Contains (demand_of request).included including → ⊥
+not_among_included w moment name request including safe changes held =
+    safe.itself (of_invocation 14 including) (record { id = including; changes = changes; itself = held; refusal_is = refl })
+
+-- ---- a new row
+
+new_deadline : (moment : ℤ) (given : Option ℤ) → IsCallMoment moment → ((deadline : ℤ) → given ≡ Some deadline → IsInReach moment deadline)
+    → (pos 0 ≤ℤ unwrap_or given (moment +ℤ default_lifetime)) × (unwrap_or given (moment +ℤ default_lifetime) ≤ℤ latest_deadline)
+    × (moment <ℤ unwrap_or given (moment +ℤ default_lifetime))
+new_deadline moment None call reach = (omega (arith, ints, call.0), omega (arith, ints, call.1), omega (arith, ints))
+new_deadline moment (Some deadline) call reach =
+    let here = reach deadline refl in
+    (omega (arith, ints, call.0, here.0), omega (arith, ints, call.1, here.1), omega (arith, ints, here.0))
+
+new_is_row : (w : World) (moment : ℤ) (name : List ℕ) (q : CreateInvocation) → IsCallMoment moment
+    → IsSafe w moment name (asks.CreateInvocation q)
+    → IsRow moment (new_row moment name q.id q.invocation.realm q.invocation.deadline q.invocation.tags)
+new_is_row w moment name q call safe =
+    let request : Request = asks.CreateInvocation q in
+    let bounds = new_deadline moment q.invocation.deadline call (λ given e. reaches w moment name request given safe e) in
+    record {
+      id = safe.forms.id;
+      realm = safe.forms.invocation.realm;
+      creator = safe.name_is;
+      created = (call.0, omega (arith, ints));
+      deadline = (bounds.0, bounds.1);
+      stage = (bounds.2, refl, refl);
+      tags = safe.forms.invocation.tags;
+    }
+
+-- ---- an update
+
+module _ (w : World) (moment : ℤ) (deadline : Option ℤ) (tags : Option (List Pair))
+    (ahead : ForSome deadline (λ given. (moment <ℤ given) × (given ≤ℤ latest_deadline))) (pairs : ForSome tags (All IsPair)) where
+  row_suits : (p : ℕ) (o : Option Invocation) → slice_get w.invocations p ≡ o → IsInState Active w.invocations p
+      → Suits w moment (update_of deadline tags p o)
+  row_suits p None e active = tt
+  row_suits p (Some row) e active =
+      elim (cases_Bool (is_update deadline tags row)) [
+        | inl yes_ ↦ subst (Suits w moment) (sym (cond-true (is_update deadline tags row) (does.Update p deadline tags) does.Nothing yes_))
+            (record { row = row; stands = e; other = yes_; active = active; ahead = ahead; pairs = pairs })
+        | inr no_ ↦ subst (Suits w moment) (sym (cond-false (is_update deadline tags row) (does.Update p deadline tags) does.Nothing no_)) tt
+      ]
+
+  update_suits : (o : Option ℕ) → ((p : ℕ) → o ≡ Some p → IsInState Active w.invocations p) → Suits w moment (update_at w.invocations deadline tags o)
+  update_suits None active = tt
+  update_suits (Some p) active = row_suits p (slice_get w.invocations p) refl (active p refl)
+
+-- ---- an end
+
+end_suits : (w : World) (moment : ℤ) (p : ℕ) (o : Option State) → slice_get (states_of w.invocations) p ≡ o → Suits w moment (end_of p o)
+end_suits w moment p None e = tt
+end_suits w moment p (Some Active) e = e
+end_suits w moment p (Some Finalizing) e = tt
+end_suits w moment p (Some Finalized) e = tt
+
+end_there : (w : World) (moment : ℤ) (o : Option ℕ) → Suits w moment (end_at w.invocations o)
+end_there w moment None = tt
+end_there w moment (Some p) = end_suits w moment p (slice_get (states_of w.invocations) p) refl
+
+-- ---- inclusions
+
+edges_suit : (w : World) (moment : ℤ) (p : ℕ) (held targets : List ℕ) → IsInState Active w.invocations p
+    → held ≡ targets_of w.inclusions p → fresh held targets ≡ targets → All (λ t. t < length w.invocations) targets
+    → All (λ t. t ≢ p) targets → Suits w moment (include_of p held targets)
+edges_suit w moment p held [] active held_is new there elsewhere = tt
+edges_suit w moment p held (t ∷ ts) active held_is new there elsewhere = record {
+  active = active;
+  held = held_is;
+  new = new;
+  some = λ e. let no : t ∷ ts ≡ [] = e in absurd cc;
+  there = there;
+  elsewhere = elsewhere;
+}
+
+pub fresh_suit : (w : World) (moment : ℤ) (p : ℕ) (targets : List ℕ) → IsInState Active w.invocations p
+    → All (λ t. t < length w.invocations) targets → All (λ t. t ≢ p) targets
+    → Suits w moment (include_from p (targets_of w.inclusions p) targets)
+fresh_suit w moment p targets active there elsewhere =
+    let held = targets_of w.inclusions p in
+    edges_suit w moment p held (fresh held targets) active refl (fresh_twice held targets)
+    (fresh_within (λ t. t < length w.invocations) held targets there) (fresh_within (λ t. t ≢ p) held targets elsewhere)
+
+include_there : (w : World) (moment : ℤ) (targets : List ℕ) (o : Option ℕ)
+    → ((p : ℕ) → o ≡ Some p → IsInState Active w.invocations p × All (λ t. t < length w.invocations) targets × All (λ t. t ≢ p) targets)
+    → Suits w moment (include_at w targets o)
+include_there w moment targets None may = tt
+include_there w moment targets (Some p) may =
+    let is = may p refl in fresh_suit w moment p targets is.0 is.1 is.2
+
+-- ---- all requests
+
+pub suits : (w : World) (moment : ℤ) (name : List ℕ) (request : Request) → IsTimely w moment → IsSafe w moment name request
+    → Suits w moment (effect_of w moment name request)
+suits w moment name (asks.CreateInvocation q) timely safe = record {
+  free = name_is_free w moment name (asks.CreateInvocation q) q.id safe refl;
+  is_row = new_is_row w moment name q timely.call safe;
+  active = refl;
+  made = refl;
+}
+suits w moment name (asks.UpdateInvocation q) timely safe =
+    update_suits w moment q.deadline q.tags (deadline_ahead w moment name (asks.UpdateInvocation q) timely.call safe) safe.forms.tags
+    (place_named w.invocations q.id)
+    (λ p at. is_still_active w moment name (asks.UpdateInvocation q) q.id p safe refl at)
+suits w moment name (asks.FinalizeInvocation q) timely safe = end_there w moment (place_named w.invocations q.id)
+suits w moment name (asks.UpdateIncludedInvocations q) timely safe =
+    let request : Request = asks.UpdateIncludedInvocations q in
+    include_there w moment (places_named w.invocations q.add) (place_named w.invocations q.including)
+    (λ p at. (
+      is_still_active w moment name request q.including p safe refl at,
+      places_within w.invocations q.add,
+      places_elsewhere w.invocations q.including p q.add at (not_among_included w moment name request q.including safe refl),
+    ))
+suits w moment name _ timely safe = tt

@@ -1,0 +1,45 @@
+-- The code's own words: what an effect will leave of the invocation that it is about.
+use Rattle.std.specs.Prelude.{⊤, ◌≡◌, ◌<◌, ◌↔◌, ℕ, ℤ, Bool, true, false, IsTrue, All, length}
+use Rattle.policy_checks.specs.Checks.{is_name}
+use Rattle.invocations.specs.declared.invocation.Invocation.{Invocation}
+use Rattle.invocations.specs.Rows.{ended}
+use Rattle.invocation_world.specs.World.{World, IsPair, ReachesActive}
+use Rattle.invocation_world.specs.Changes.{with_begun}
+use Rattle.request_effects.specs.declared.effect.Effect.{Effect}
+use Rattle.request_effects.specs.declared.effect.Effect.TheVariants as does
+use Rattle.request_effects.specs.declared.shows.Shows.{Shows}
+use Rattle.request_effects.specs.declared.shows.Shows.TheVariants as shows
+
+-- the row ended, too, where it is final
+abbrev pub ended_if : Bool → ℤ → Invocation → Invocation
+ended_if true moment row = ended moment row
+ended_if false moment row = row
+
+-- It is told whether the row whose finalization an effect begins is final at once.
+abbrev pub IsFinalTold : World → ℤ → Effect → Bool → Type 0
+IsFinalTold w moment does.Nothing is_final = ⊤
+IsFinalTold w moment (does.Add row) is_final = ⊤
+IsFinalTold w moment (does.Update place deadline tags) is_final = ⊤
+IsFinalTold w moment (does.End place) is_final =
+    IsTrue is_final ↔ ¬ ReachesActive (with_begun moment place w) place
+IsFinalTold w moment (does.Include plan) is_final = ⊤
+
+-- The row at this place is the one that an effect is about; the effect that does nothing is about
+-- any.
+abbrev pub IsHere : World → Effect → ℕ → Type 0
+IsHere w does.Nothing place = place < length w.invocations
+IsHere w (does.Add row) place = place ≡ length w.invocations
+IsHere w (does.Update at deadline tags) place = place ≡ at
+IsHere w (does.End at) place = place ≡ at
+IsHere w (does.Include plan) place = ⊥
+
+-- What is shown is what an effect is about.
+abbrev pub IsOwn : World → Effect → Shows → Type 0
+IsOwn w effect shows.Empty = ⊤
+IsOwn w effect (shows.Row place) = IsHere w effect place
+IsOwn w effect (shows.Made place) = IsHere w effect place
+
+-- What a row shows can be written: its creator's name and its tags are of their forms.
+pub record IsFormed (row : Invocation) : Type 0 where
+  pub creator : is_name row.creator ≡ true
+  pub tags : All IsPair row.tags

@@ -1,0 +1,7 @@
+pub mod Effects
+pub mod Fitting
+pub mod Full
+pub mod Foreseen
+pub mod Shows
+pub mod Laws
+pub mod Planned

@@ -1,0 +1,164 @@
+//! An invocation as it will be after an effect, seen before anything is done.
+ghost use Rattle.std.specs.Prelude.{◌≡◌, ◌<◌, Some, All, length, slice_get};
+ghost use Rattle.inclusion_graph.specs.Edges.{targets_of};
+ghost use Rattle.invocations.specs.Rows.{begun};
+ghost use Rattle.invocation_world.specs.World.{World};
+ghost use Rattle.invocation_world.specs.Changes.{updated};
+ghost use Rattle.request_effects.specs.Effects.{Does};
+ghost use Rattle.request_effects.specs.Fitting.{IsTimely, Suits};
+ghost use Rattle.request_effects.specs.Foreseen.{IsFinalTold, IsFormed, IsHere, ended_if};
+ghost use Rattle.request_effects.specs.Planned.{IsRoomier};
+ghost use Rattle.request_effects.specs.Shows.{ids_at};
+
+use crate::effect::Effect;
+use invocation_world::InvocationWorld;
+use invocations::Invocation;
+use lists::Listed;
+use names_realms::{Moment, Pair, State};
+use std::marker::Model;
+
+/// An invocation as it will be: what doesn't change is read from the one that stands.
+#[derive(Drop)]
+pub(crate) struct Seen<'r> {
+    pub row: &'r Invocation,
+    pub deadline: Moment,
+    pub started: Option<Moment>,
+    pub finished: Option<Moment>,
+    pub state: State,
+    pub tags: &'r [Pair],
+}
+
+impl<'r> Model for Seen<'r> {
+    ghost use Rattle.invocations.specs.declared.invocation.Invocation.{Invocation};
+
+    ghost Value = { Invocation };
+
+    ghost view = { λ s. record s.row.now {
+      deadline = s.deadline;
+      started = s.started;
+      finished = s.finished;
+      state = s.state;
+      tags = s.tags.now;
+    } };
+}
+
+impl<'r> Seen<'r> {
+    /// An invocation as it stands.
+    fn standing(row: &'r Invocation) -> Seen<'r>
+        ensures { result ≡ row.now }
+    {
+        Seen {
+            row,
+            deadline: row.deadline,
+            started: row.started,
+            finished: row.finished,
+            state: row.state,
+            tags: row.tags.as_slice(),
+        }
+    }
+
+    /// An invocation with this deadline and these tags, each where it is given.
+    fn updated(
+        row: &'r Invocation,
+        deadline: Option<Moment>,
+        tags: &'r Option<Listed<Pair>>,
+    ) -> Seen<'r>
+        ensures { result ≡ updated deadline tags.now row.now }
+    {
+        let mut seen = Seen::standing(row);
+        if let Some(deadline) = deadline {
+            seen.deadline = deadline;
+        }
+        if let Some(tags) = tags {
+            seen.tags = tags.as_slice();
+        }
+        seen
+    }
+
+    /// An invocation whose finalization begins at a moment, and ends then, too, where it is final.
+    fn ended(row: &'r Invocation, moment: Moment, is_final: bool) -> Seen<'r>
+        ensures { result ≡ ended_if is_final moment (begun moment row.now) }
+    {
+        let mut seen = Seen::standing(row);
+        seen.started = Some(moment);
+        seen.state = State::Finalizing;
+        if is_final {
+            seen.finished = Some(moment);
+            seen.state = State::Finalized;
+        }
+        seen
+    }
+}
+
+/// Whether the invocation whose finalization an effect begins will be final at once.
+pub(crate) fn ends_at_once(world: &mut InvocationWorld, moment: Moment, effect: &Effect) -> bool
+    requires { Suits world.old.world moment effect.now }
+    ensures told { IsFinalTold world.old.world moment effect.now result }
+    ensures roomier { IsRoomier world.old world.new }
+{
+    let _ = moment;
+    match effect {
+        Effect::End(place) => world.would_be_final(*place),
+        Effect::Nothing => false,
+        Effect::Add(_) => false,
+        Effect::Update { .. } => false,
+        Effect::Include(_) => false,
+    }
+}
+
+/// What will be done to the world at a moment, and whether the invocation whose finalization it
+/// begins will be final at once.
+#[derive(Clone, Copy)]
+pub(crate) struct Ahead<'r> {
+    pub world: &'r InvocationWorld,
+    pub moment: Moment,
+    pub effect: &'r Effect,
+    pub is_final: bool,
+}
+
+impl<'r> Ahead<'r> {
+    /// The invocation at a place as it will be, where it is the one that is changed, or nothing is.
+    pub(crate) fn row(&self, place: u32) -> Seen<'r>
+        requires timely { IsTimely self.now.world.now.world self.now.moment }
+        requires suits { Suits self.now.world.now.world self.now.moment self.now.effect.now }
+        requires told { IsFinalTold self.now.world.now.world self.now.moment
+            self.now.effect.now self.now.is_final }
+        requires here { IsHere self.now.world.now.world self.now.effect.now place }
+        ensures formed { IsFormed result }
+        ensures stands { (after : World)
+            → Does self.now.moment self.now.effect.now self.now.world.now.world after
+            → slice_get after.invocations place ≡ Some result }
+    {
+        match self.effect {
+            Effect::Nothing => Seen::standing(self.world.row(place)),
+            Effect::Add(row) => Seen::standing(row),
+            Effect::Update { deadline, tags, .. } => {
+                Seen::updated(self.world.row(place), *deadline, tags)
+            }
+            Effect::End(_) => Seen::ended(self.world.row(place), self.moment, self.is_final),
+            Effect::Include(_) => unreachable!(),
+        }
+    }
+
+    /// The places of the invocations that the one at a place will include.
+    pub(crate) fn included(&self, place: u32) -> &'r [u32]
+        requires timely { IsTimely self.now.world.now.world self.now.moment }
+        requires suits { Suits self.now.world.now.world self.now.moment self.now.effect.now }
+        requires here { IsHere self.now.world.now.world self.now.effect.now place }
+        ensures within { All (λ target. target < length self.now.world.now.world.invocations)
+            result.now }
+        ensures targets { (after : World)
+            → Does self.now.moment self.now.effect.now self.now.world.now.world after
+            → (result.now ≡ targets_of after.inclusions place)
+            × (ids_at self.now.world.now.world.invocations result.now
+            ≡ ids_at after.invocations result.now) }
+    {
+        match self.effect {
+            Effect::Nothing => self.world.included(place),
+            Effect::Add(_) => &[],
+            Effect::Update { .. } => self.world.included(place),
+            Effect::End(_) => self.world.included(place),
+            Effect::Include(_) => unreachable!(),
+        }
+    }
+}

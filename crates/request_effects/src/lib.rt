@@ -1,0 +1,20 @@
+//! What a request does to the world, and what it shows of it.
+#![tactic(auto)]
+
+mod ahead;
+mod doing;
+mod effect;
+mod full;
+mod laws;
+mod making;
+mod planning;
+mod showing;
+mod shows;
+
+pub use doing::carry_out;
+pub use effect::{Change, Effect};
+pub use full::FullTable;
+pub use laws::{effects_are_changes, effects_keep_valid};
+pub use planning::{Planned, plan_change};
+pub use showing::show;
+pub use shows::{Shows, shows_of};
