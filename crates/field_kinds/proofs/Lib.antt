@@ -4,3 +4,4 @@ pub mod ObjectLaws
 pub mod OrderLaws
 pub mod FilledLaws
 pub mod VariantLaws
+pub mod DefaultLaws

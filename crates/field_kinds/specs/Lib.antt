@@ -6,3 +6,5 @@ pub mod Variants
 pub mod OutsideProfile
 pub mod Properties
 pub mod Filled
+pub mod Beside
+pub mod Defaults

@@ -1,5 +1,6 @@
 //! Flags: true, or false.
 
+use crate::defaults::Defaulted;
 use json_fields::{FaultKind, Form, ReadFault, Written};
 use serde_json::Value;
 use std::alloc::{AllocError, Global};
@@ -42,5 +43,21 @@ impl Written for Flag {
 
     fn write(&self, _alloc: Global) -> Result<Value, AllocError> {
         Ok(Value::Bool(self.on))
+    }
+}
+
+/// The default of a flag is that it is off.
+impl Defaulted for Flag {
+    ghost use Rattle.std.specs.Prelude.{false};
+
+    ghost unset = { record { on = false } };
+
+    fn default_value(_alloc: Global) -> Result<Flag, AllocError> {
+        Ok(Flag { on: false })
+    }
+
+    #[tactic(auto, using(crate::proofs::DefaultLaws::flag_off))]
+    fn is_default(&self) -> bool {
+        !self.on
     }
 }

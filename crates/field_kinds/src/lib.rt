@@ -5,6 +5,8 @@
 //! it.
 #![tactic(auto)]
 
+mod beside;
+mod defaults;
 mod filled;
 mod flags;
 pub mod laws;
@@ -17,6 +19,8 @@ mod tests;
 mod trees;
 mod variants;
 
+pub use beside::{FormBeside, optional_beside, required_list_beside, same_text};
+pub use defaults::{Defaulted, or_default, write_unless_default};
 pub use filled::optional_filled;
 pub use flags::Flag;
 pub use limited_lists::{LimitedList, ListRule, QueryNames};

@@ -8,6 +8,7 @@ ghost use Rattle.serde_json.specs.View.{view, number_view};
 ghost use Rattle.field_kinds.specs.Numbers.{says, said, said_below, said_behind_minus, said_text, said_number, a_whole, is_decimal, IsSaid};
 ghost use Rattle.field_kinds.specs.Readings.{answer};
 
+use crate::defaults::Defaulted;
 use json_fields::{FaultKind, Form, ReadFault, Why, Written};
 use serde_json::{Number, Value};
 use std::alloc::{AllocError, Global};
@@ -284,5 +285,22 @@ impl<R: NumberRule> Written for Whole<R> {
 
     fn write(&self, alloc: Global) -> Result<Value, AllocError> {
         R::write(alloc, self.get())
+    }
+}
+
+/// The default of a number is 0.
+impl<R: NumberRule> Defaulted for Whole<R> {
+    ghost unset = { 0 };
+
+    fn default_value(_alloc: Global) -> Result<Whole<R>, AllocError> {
+        Ok(Whole {
+            value: 0,
+            rule: PhantomData,
+        })
+    }
+
+    #[tactic(auto, using(crate::proofs::DefaultLaws::number_zero))]
+    fn is_default(&self) -> bool {
+        self.get() == 0
     }
 }

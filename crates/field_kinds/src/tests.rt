@@ -1,14 +1,16 @@
-//! Each kind at bodies from the formats, those of `text_kinds` among them: what is told of a refused
+//! Each kind at bodies from the formats, also of `text_kinds`: what is told of a refused
 //! one, and what is written of one that is read.
 use crate::{
-    ByteSize, Flag, LimitedList, NoMessage, NoText, PageSize, Properties, QueryNames, VariantMap,
-    Whole, laws, optional_filled,
+    ByteSize, Defaulted, Flag, FormBeside, LimitedList, NoMessage, NoText, PageSize, Properties,
+    QueryNames, VariantMap, Whole, laws, optional_beside, optional_filled, or_default,
+    required_list_beside, same_text, write_unless_default,
 };
 use json_fields::{
-    BodyFault, FaultKind, InvocationName, Name, ReadFault, Tag, Written, path_text, read_body,
-    read_json,
+    BodyFault, FaultKind, InvocationName, Name, ReadFault, Tag, Written, object, path_text,
+    read_body, read_json,
 };
 use lists::Listed;
+use serde_json::{Map, Value};
 use std::alloc::Global;
 use std::process::Abort;
 use std::test::Fail;
@@ -477,5 +479,136 @@ fn empty_counts_as_unset(rt: HostRuntime) -> Result<(), Fail> {
     assert!(rt; Whole::<ByteSize>::new(0).is_some());
     laws::only_empty_messages_are_read();
     laws::only_empty_texts_are_read();
+    Ok(())
+}
+
+/// A kind with a default, a body, and what is told of its field: the path and the fault, and else
+/// what is written of it again.
+const DEFAULTS: [(Kind, &str, &str); 12] = [
+    (Kind::Flag, "{}", "{}"),
+    (Kind::Flag, r#"{"f":null}"#, "{}"),
+    (Kind::Flag, r#"{"f":false}"#, "{}"),
+    (Kind::Flag, r#"{"f":true}"#, r#"{"f":true}"#),
+    (Kind::Flag, r#"{"f":0}"#, "f WrongKind"),
+    (Kind::Page, r#"{"f":"0"}"#, "{}"),
+    (Kind::Page, r#"{"f":"7"}"#, r#"{"f":7}"#),
+    (Kind::Message, r#"{"f":""}"#, "{}"),
+    (Kind::Message, r#"{"f":"a"}"#, r#"{"f":"a"}"#),
+    (Kind::Variant, r#"{"f":{"def":{}}}"#, "{}"),
+    (
+        Kind::Variant,
+        r#"{"f":{"def":{"a":"1"}}}"#,
+        r#"{"f":{"def":{"a":"1"}}}"#,
+    ),
+    (Kind::Variant, r#"{"f":[]}"#, "f WrongKind"),
+];
+
+fn written_again<T: Defaulted>(alloc: Global, body: &str) -> Result<String, Fail> {
+    let value = read_json(alloc, body.as_bytes()).map_err(|_| "is no JSON")?;
+    match or_default::<T>(alloc, &value, Name::word("f")) {
+        Ok(x) => {
+            let mut map = Map::new(alloc);
+            write_unless_default(alloc, &mut map, Name::word("f"), &x)?;
+            Ok(Value::Object(map).to_string(alloc)?)
+        }
+        Err(fault) => fault_text(alloc, fault),
+    }
+}
+
+fn told_of_default(alloc: Global, kind: Kind, body: &str) -> Result<String, Fail> {
+    match kind {
+        Kind::Page => written_again::<Whole<PageSize>>(alloc, body),
+        Kind::Flag => written_again::<Flag>(alloc, body),
+        Kind::Message => written_again::<LimitedText<Message>>(alloc, body),
+        _ => written_again::<VariantMap>(alloc, body),
+    }
+}
+
+fn check_default(rt: &impl Abort, alloc: Global, row: &(Kind, &str, &str)) -> Result<(), Fail> {
+    let (kind, body, want) = *row;
+    let is = told_of_default(alloc, kind, body)?;
+    assert!(rt; is.as_str() == want, "{is} is told of {body}");
+    Ok(())
+}
+
+#[test]
+fn a_default_is_left_out_and_read_again(rt: HostRuntime) -> Result<(), Fail> {
+    for row in &DEFAULTS {
+        check_default(&rt, rt.alloc(), row)?;
+    }
+    Ok(())
+}
+
+/// What an element stands beside: the name of the whole.
+#[derive(Debug, Drop)]
+struct Outer {
+    name: String,
+}
+
+/// An element, whose name is empty or that of the whole.
+#[derive(Debug, Drop)]
+struct Inner;
+
+impl FormBeside<Outer> for Inner {
+    ghost use Rattle.std.specs.Prelude.{⊤, ◌∷◌, [], codes, string_bytes};
+    ghost use Rattle.json_fields.specs.Names.{word};
+    ghost use Rattle.json_fields.specs.Fields.{fault_of, optional};
+    ghost use Rattle.json_fields.specs.Kinds.{an_object};
+    ghost use Rattle.field_kinds.specs.Beside.{a_same_text};
+
+    ghost fault = { λ outer d. fault_of
+        (an_object ∷ optional (word (codes "name")) (a_same_text (string_bytes outer.name)) ∷ []) d };
+
+    ghost means = { λ _ _ _. ⊤ };
+
+    fn read_beside(alloc: Global, context: &Outer, value: &Value) -> Result<Inner, ReadFault> {
+        object(alloc, value)?;
+        match same_text(alloc, context.name.as_str(), value, Name::word("name")) {
+            Ok(()) => Ok(Inner),
+            Err(fault) => Err(fault),
+        }
+    }
+}
+
+/// A body, and what is told of the elements that it must have, and of the one that it may have,
+/// beside the name `a`.
+const BESIDE: [(&str, &str); 7] = [
+    (r#"{"must":[{"name":"a"},{"name":""},{}]}"#, "read"),
+    (r#"{"must":[]}"#, "must Missing"),
+    (r#"{"must":[{},{"name":"b"}]}"#, "must[1].name Differs"),
+    (r#"{"must":[{},{"name":5}]}"#, "must[1].name WrongKind"),
+    (r#"{"must":[5]}"#, "must[0] WrongKind"),
+    (r#"{"must":[{}],"one":{"name":"b"}}"#, "one.name Differs"),
+    (r#"{"must":{},"one":{"name":"b"}}"#, "must WrongKind"),
+];
+
+fn read_both(alloc: Global, outer: &Outer, value: &Value) -> Result<(), ReadFault> {
+    required_list_beside::<Outer, Inner>(alloc, outer, value, Name::word("must"))?;
+    optional_beside::<Outer, Inner>(alloc, outer, value, Name::word("one"))?;
+    Ok(())
+}
+
+fn told_beside(alloc: Global, body: &str) -> Result<String, Fail> {
+    let value = read_json(alloc, body.as_bytes()).map_err(|_| "is no JSON")?;
+    let outer = Outer {
+        name: String::from_str(alloc, "a")?,
+    };
+    match read_both(alloc, &outer, &value) {
+        Ok(()) => Ok(String::from_str(alloc, "read")?),
+        Err(fault) => fault_text(alloc, fault),
+    }
+}
+
+fn check_beside(rt: &impl Abort, alloc: Global, row: &(&str, &str)) -> Result<(), Fail> {
+    let is = told_beside(alloc, row.0)?;
+    assert!(rt; is.as_str() == row.1, "{is} is told of {}", row.0);
+    Ok(())
+}
+
+#[test]
+fn elements_are_judged_beside_the_whole(rt: HostRuntime) -> Result<(), Fail> {
+    for row in &BESIDE {
+        check_beside(&rt, rt.alloc(), row)?;
+    }
     Ok(())
 }

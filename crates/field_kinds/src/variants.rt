@@ -11,6 +11,7 @@ ghost use Rattle.json_fields.specs.Texts.{refused};
 ghost use Rattle.json_fields.specs.Fields.{optional, set_at};
 ghost use Rattle.field_kinds.specs.Variants.{def_name, all_texts, pairs_of, pairs_at, pairs_fault, members_fault, told, a_def, IsPairOfGrammar, AreOfGrammar, def_members, variant_data};
 
+use crate::defaults::Defaulted;
 use json_fields::{FaultKind, Form, Name, ReadFault, Why, Written, object, optional};
 use names_realms::{NameFault, Pair, PairFault, Variant};
 use serde_json::{Map, Value};
@@ -208,12 +209,6 @@ impl VariantMap {
     }
 }
 
-fn def_name() -> Name
-    ensures { result ≡ def_name }
-{
-    Name::word("def")
-}
-
 /// The pairs at `def`, none where it is unset.
 #[tactic(auto, using(crate::proofs::VariantLaws::grammar_nil))]
 fn pairs_at(alloc: Global, value: &Value) -> Result<Vec<Pair>, ReadFault>
@@ -222,7 +217,7 @@ fn pairs_at(alloc: Global, value: &Value) -> Result<Vec<Pair>, ReadFault>
     ensures grammar { IfOk result (λ ps. AreOfGrammar ps.items) }
     ensures err { IfErr result (λ e. Says e (optional def_name a_def (view value.now))) }
 {
-    match optional::<Pairs>(alloc, value, def_name()) {
+    match optional::<Pairs>(alloc, value, Name::word("def")) {
         Ok(Some(found)) => Ok(found.into_vec()),
         Ok(None) => Ok(Vec::new(alloc)),
         Err(fault) => Err(fault),
@@ -340,5 +335,25 @@ impl Written for VariantMap {
     #[tactic(auto, using(crate::proofs::VariantLaws::variant_written))]
     fn write(&self, alloc: Global) -> Result<Value, AllocError> {
         variant_value(alloc, self.as_slice())
+    }
+}
+
+/// The default of a variant is the empty one.
+impl Defaulted for VariantMap {
+    ghost use Rattle.std.specs.Prelude.{[]};
+
+    ghost unset = { [] };
+
+    #[tactic(auto, using(crate::proofs::VariantLaws::grammar_nil, crate::proofs::DefaultLaws::of_none))]
+    fn default_value(alloc: Global) -> Result<VariantMap, AllocError> {
+        match variant_of(alloc, Vec::new(alloc)) {
+            Ok(variant) => Ok(VariantMap { variant }),
+            Err(_) => Err(AllocError),
+        }
+    }
+
+    #[tactic(auto, using(crate::proofs::DefaultLaws::list_bare))]
+    fn is_default(&self) -> bool {
+        self.as_slice().is_empty()
     }
 }

@@ -6,3 +6,4 @@ pub mod MeaningLaws
 pub mod PlainLaws
 pub mod NameTextLaws
 pub mod SpellLaws
+pub mod FormLaws

@@ -115,7 +115,7 @@ no_memory s (no_text e f) = absurd cc
 no_memory s (bad some place first f) = absurd cc
 no_memory s (outside micros said out f) = absurd cc
 
-unrefused : (s : List ℕ) (o : Option NameFault) → moment_fault s ≡ o → refused o ≡ None → o ≡ None
+pub unrefused : (s : List ℕ) (o : Option NameFault) → moment_fault s ≡ o → refused o ≡ None → o ≡ None
 unrefused s None e h = refl
 unrefused s (Some name.Empty) e h = absurd cc
 unrefused s (Some (name.TooLong n)) e h = absurd cc
@@ -178,7 +178,7 @@ pub list_there : {A : Type 0} (n : NameForm) (fault : Data → Option FieldFault
 unfolding optional
 list_there n fault means law d h = list_of_maybe n fault means law (set_at n d) h
 
-or_empty_none : (n : NameForm) (fault : Data → Option FieldFault) (d : Data) → or_empty n fault d ≡ None → fault (text_at n d) ≡ None
+pub or_empty_none : (n : NameForm) (fault : Data → Option FieldFault) (d : Data) → or_empty n fault d ≡ None → fault (text_at n d) ≡ None
 unfolding or_empty
 or_empty_none n fault d h = moved_none (Member n) (fault (text_at n d)) h
 

@@ -17,22 +17,22 @@ use Rattle.serde_json.specs.Data.{Data}
 use Rattle.json_fields.specs.Texts.{a_text, refused, IsText}
 use Rattle.json_fields.proofs.MeaningLaws.{text_one, text_there}
 
-limited_refused : (len : ℕ) (t : Bool) (bad : Option ℕ) → refused (if t then Some (TooLong len) else option_map BadByte bad) ≡ None
+pub limited_refused : (len : ℕ) (t : Bool) (bad : Option ℕ) → refused (if t then Some (TooLong len) else option_map BadByte bad) ≡ None
     → (if t then Some (TooLong len) else option_map BadByte bad) ≡ None
 limited_refused len true bad h = absurd cc
 limited_refused len false None h = refl
 limited_refused len false (Some place) h = absurd cc
 
-unless_refused : (t : Bool) (o : Option NameFault) → refused (if t then Some Empty else o) ≡ None → (t ≡ false) × (refused o ≡ None)
+pub unless_refused : (t : Bool) (o : Option NameFault) → refused (if t then Some Empty else o) ≡ None → (t ≡ false) × (refused o ≡ None)
 unless_refused true o h = absurd cc
 unless_refused false o h = (refl, h)
 
-part_refused : (form : PartForm) (text : List ℕ) → refused (part_fault form text) ≡ None → part_fault form text ≡ None
+pub part_refused : (form : PartForm) (text : List ℕ) → refused (part_fault form text) ≡ None → part_fault form text ≡ None
 part_refused form text h =
     let rest = unless_refused (length text == 0) (unempty_fault form text) h in
     rw rest.0 (limited_refused (length text) (nat_lt (most_bytes form) (length text)) (bad_place form text) rest.1)
 
-shifted_refused : (n : ℕ) (o : Option NameFault) → refused (option_map (shifted n) o) ≡ None → refused o ≡ None
+pub shifted_refused : (n : ℕ) (o : Option NameFault) → refused (option_map (shifted n) o) ≡ None → refused o ≡ None
 shifted_refused n None h = refl
 shifted_refused n (Some Empty) h = absurd cc
 shifted_refused n (Some (TooLong len)) h = absurd cc

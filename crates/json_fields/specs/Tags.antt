@@ -5,7 +5,7 @@ use Rattle.name_parts.specs.Parts.{part_fault}
 use Rattle.name_parts.specs.declared.faults.NameFault.{NameFault}
 use Rattle.name_parts.specs.declared.parts.PartForm.TheVariants.{PairKey}
 use Rattle.names_realms.specs.declared.pairs.Pair.{Pair}
-use Rattle.names_realms.specs.Pairs.{pair_value_fault}
+use Rattle.names_realms.specs.Pairs.{IsPairKey, IsPairValue, pair_value_fault}
 use Rattle.json_fields.specs.Names.{NameForm, word}
 use Rattle.json_fields.specs.Fields.{or_empty, fault_of, text_at}
 use Rattle.json_fields.specs.Kinds.{an_object}
@@ -32,6 +32,10 @@ a_tag d = fault_of tag_fields d
 pub record IsTag (d : Data) (tag : Pair) : Type 0 where
   pub key : IsText IsSame (text_at key_name d) tag.key
   pub value : IsText IsSame (text_at value_name d) tag.value
+
+-- a key and a value, each in the grammar of pairs
+abbrev pub IsPairOfGrammar : Pair → Type 0
+IsPairOfGrammar pair = IsPairKey pair.key × IsPairValue pair.value
 
 -- a text beside other members, left out where it is empty
 abbrev pub put_filled : NameForm → List ℕ → Members → Members

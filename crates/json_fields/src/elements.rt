@@ -56,7 +56,7 @@ fn read_all<T: Form>(alloc: Global, list: &[Value]) -> Result<Listed<T>, ReadFau
         × Pairs T.means (map view list.now) xs) }
     ensures err { IfErr result (λ e. Says e (fault_from 0 T.fault (map view list.now))) }
 {
-    let mut found = Vec::with_capacity(alloc, list.len())?;
+    let mut found = Vec::new(alloc);
     for i in 0..list.len() {
         match T::read(alloc, &list[i]) {
             Ok(one) => add(&mut found, one)?,

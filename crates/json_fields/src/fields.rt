@@ -1,5 +1,4 @@
-//! Reading the fields of an object: those that must be set, those that may be unset, and those of
-//! which an unset one is empty.
+//! Reading the fields of an object: which must be set, may be unset, or are empty where unset.
 ghost use Rattle.std.specs.Prelude.{◌≡◌, Bool, Option, None, IfOk, IfErr, option_map};
 ghost use Rattle.serde_json.specs.Data.{Data};
 ghost use Rattle.serde_json.specs.View.{view};
@@ -71,8 +70,9 @@ fn filled<'v, T: Form>(value: &'v Value) -> Option<&'v Value>
     }
 }
 
+/// The value of a field that is set, and isn't null.
 #[tactic(auto, unfolding(crate::specs::Fields::set_at))]
-fn set_at<'v>(value: &'v Value, name: &Name) -> Option<&'v Value>
+pub fn set_at<'v>(value: &'v Value, name: &Name) -> Option<&'v Value>
     ensures { option_map (λ v. view v.now) result ≡ set_at name.now (view value.now) }
 {
     match member(value, name) {
@@ -81,8 +81,9 @@ fn set_at<'v>(value: &'v Value, name: &Name) -> Option<&'v Value>
     }
 }
 
+/// The value of a field that is set, and neither null nor empty by the kind.
 #[tactic(auto, unfolding(crate::specs::Fields::filled_at))]
-fn filled_at<'v, T: Form>(value: &'v Value, name: &Name) -> Option<&'v Value>
+pub fn filled_at<'v, T: Form>(value: &'v Value, name: &Name) -> Option<&'v Value>
     ensures { option_map (λ v. view v.now) result ≡ filled_at name.now T.empty (view value.now) }
 {
     match member(value, name) {

@@ -1,5 +1,4 @@
-//! The frame by which JSON bodies are read and written: a kind of values, a field of a kind, a list
-//! of fields.
+//! The frame by which JSON bodies are read and written: kinds of values, fields, lists of fields.
 //!
 //! A body's fault is the first fault in the list of its fields, and where there is none its value
 //! is what the fields say.
@@ -22,7 +21,7 @@ mod writing;
 
 pub use body::{BodyFault, read_body, read_json};
 pub use faults::{FaultKind, FieldFault, ReadFault, path_text};
-pub use fields::{Form, optional, optional_list, or_empty_text, required};
+pub use fields::{Form, filled_at, optional, optional_list, or_empty_text, required, set_at};
 pub use kinds::{UnbuiltList, UnbuiltText, object};
 pub use moves::{ids_from, pairs_from};
 pub use names::{Name, Step};

@@ -7,3 +7,4 @@ pub mod UpdateLaws
 pub mod FaultLaws
 pub mod TextLaws
 pub mod Opened
+pub mod FormLaws

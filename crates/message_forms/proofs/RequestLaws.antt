@@ -86,7 +86,8 @@ one_of d q r e h k = absurd cc
 one_meant : (m : Method) (d : Data) (q r : Request) → Means m d q → Means m d r → q ≡ r
 one_meant m d q r h k = one_of d q r (h.0 ∙ sym k.0) h.1 k.1
 
-one_json : (body : List ℕ) (d e : Data) → IsJson body d → IsJson body e → d ≡ e
+-- a body is one value
+pub one_json : (body : List ℕ) (d e : Data) → IsJson body d → IsJson body e → d ≡ e
 one_json body d e is also = let both : Some d ≡ Some e = sym is.1 ∙ also.1 in cc
 
 pub one_request_asked : OneRequestAsked

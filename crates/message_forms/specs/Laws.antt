@@ -1,8 +1,8 @@
 -- Laws of requests and their faults: each service, method and body asks for one request or has one
 -- fault.
 use Rattle.std.specs.Prelude.{◌≡◌, ◌⊎◌, ◌≤◌, ◌≢◌, ℕ, true, List, All, Some, None}
-use Rattle.names_realms.specs.Pairs.{IsPairKey, IsPairValue}
-use Rattle.names_realms.specs.declared.pairs.Pair.{Pair}
+use Rattle.json_fields.specs.Tags.{IsPairOfGrammar}
+use Rattle.message_forms.specs.Forms.{IsOfForm}
 use Rattle.message_forms.specs.Replies.{IsShowable}
 use Rattle.message_forms.specs.Shown.{InvocationShown}
 use Rattle.message_forms.specs.Users.{is_user_name}
@@ -52,6 +52,11 @@ FaultIsRefused =
     (service method body target : List ℕ) (f : FormFault) → HasFault service method body f
     → IsRefusedByForm target f
 
+-- What is asked for is of its form.
+abbrev pub AskedIsOfForm : Type 0
+AskedIsOfForm =
+    (service method body : List ℕ) (q : Request) → Asks service method body q → IsOfForm q
+
 -- No body asks for an update that changes nothing.
 abbrev pub UpdateChangesSomething : Type 0
 UpdateChangesSomething =
@@ -60,9 +65,6 @@ UpdateChangesSomething =
 
 -- What a row shows can be shown: its creator has the form of a user's name, and its tags are pairs
 -- of their grammar.
-abbrev pub IsPairOfGrammar : Pair → Type 0
-IsPairOfGrammar pair = IsPairKey pair.key × IsPairValue pair.value
-
 abbrev pub RowIsShowable : Type 0
 RowIsShowable =
     (s : InvocationShown) → is_user_name s.creator ≡ true → All IsPairOfGrammar s.tags

@@ -8,4 +8,5 @@ pub mod Users
 pub mod Shown
 pub mod Replies
 pub mod Writing
+pub mod Forms
 pub mod Laws

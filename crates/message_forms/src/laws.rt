@@ -1,6 +1,6 @@
 //! Laws of the definitions that the contracts cite. These functions do nothing: what each of them
 //! ensures is the law.
-ghost use Rattle.message_forms.specs.Laws.{OneRequestAsked, OneFault, NeverBoth, AsksOrHasFault, FaultIsRefused, UpdateChangesSomething, RowIsShowable};
+ghost use Rattle.message_forms.specs.Laws.{OneRequestAsked, OneFault, NeverBoth, AsksOrHasFault, FaultIsRefused, AskedIsOfForm, UpdateChangesSomething, RowIsShowable};
 
 /// One body asks for one request.
 pub fn one_request_asked()
@@ -25,6 +25,12 @@ pub fn asks_or_has_fault()
 /// Each fault is refused by one of the rules 1 and 3 to 6.
 pub fn fault_is_refused()
     ensures { FaultIsRefused }
+{}
+
+/// What a body asks for is of its form: each id, realm and tag is of its grammar, and a deadline is
+/// in the years 1 to 9999.
+pub fn asked_is_of_form()
+    ensures { AskedIsOfForm }
 {}
 
 /// No body asks for an update that changes nothing.

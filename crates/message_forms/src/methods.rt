@@ -97,32 +97,26 @@ impl Method {
         ensures err { IfErr result (λ e. Says e (request_fault self (view value.now))) }
     {
         match self {
-            Method::CreateInvocation => match CreateInvocation::read(alloc, value) {
-                Ok(request) => Ok(Request::CreateInvocation(request)),
-                Err(fault) => Err(fault),
-            },
-            Method::UpdateInvocation => match UpdateInvocation::read(alloc, value) {
-                Ok(request) => Ok(Request::UpdateInvocation(request)),
-                Err(fault) => Err(fault),
-            },
-            Method::FinalizeInvocation => match Named::read(alloc, value) {
-                Ok(named) => Ok(Request::FinalizeInvocation(FinalizeInvocation {
-                    id: named.into_id(),
-                })),
-                Err(fault) => Err(fault),
-            },
-            Method::UpdateIncludedInvocations => {
-                match UpdateIncludedInvocations::read(alloc, value) {
-                    Ok(request) => Ok(Request::UpdateIncludedInvocations(request)),
-                    Err(fault) => Err(fault),
-                }
+            Method::CreateInvocation => {
+                let request = CreateInvocation::read(alloc, value)?;
+                Ok(Request::CreateInvocation(request))
             }
-            Method::GetInvocation => match Named::read(alloc, value) {
-                Ok(named) => Ok(Request::GetInvocation(GetInvocation {
-                    id: named.into_id(),
-                })),
-                Err(fault) => Err(fault),
-            },
+            Method::UpdateInvocation => {
+                let request = UpdateInvocation::read(alloc, value)?;
+                Ok(Request::UpdateInvocation(request))
+            }
+            Method::FinalizeInvocation => {
+                let id = Named::read(alloc, value)?.into_id();
+                Ok(Request::FinalizeInvocation(FinalizeInvocation { id }))
+            }
+            Method::UpdateIncludedInvocations => {
+                let request = UpdateIncludedInvocations::read(alloc, value)?;
+                Ok(Request::UpdateIncludedInvocations(request))
+            }
+            Method::GetInvocation => {
+                let id = Named::read(alloc, value)?.into_id();
+                Ok(Request::GetInvocation(GetInvocation { id }))
+            }
         }
     }
 }

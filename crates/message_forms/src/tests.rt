@@ -319,6 +319,7 @@ fn replies_have_their_texts(rt: HostRuntime) -> Result<(), Fail> {
     laws::never_both();
     laws::asks_or_has_fault();
     laws::fault_is_refused();
+    laws::asked_is_of_form();
     laws::update_changes_something();
     laws::row_is_showable();
     Ok(())

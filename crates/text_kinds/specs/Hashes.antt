@@ -1,6 +1,6 @@
 -- Hashes: `sha256:` and 64 lower-case hexadecimal digits.
-use Rattle.std.specs.Prelude.{ℕ, ◌+◌, ◌==◌, ◌&&◌, ◌||◌, Bool, not, nat_lt, if◌then◌else◌, List, length, take, drop, codes, Option, Some, None, option_map}
-use Rattle.std.specs.List.{position}
+use Rattle.std.specs.Prelude.{◌≡◌, ℕ, ◌+◌, ◌==◌, ◌&&◌, ◌||◌, ◌++◌, Bool, true, not, nat_lt, if◌then◌else◌, List, length, take, drop, codes, Option, Some, None, option_map}
+use Rattle.std.specs.List.{list_all, position}
 use Rattle.std.specs.Option.{option_or}
 use Rattle.std.specs.Char.{is_ascii_digit}
 use Rattle.name_parts.specs.Parts.{literal_bad_place}
@@ -10,6 +10,13 @@ use Rattle.json_fields.specs.declared.whys.Why.TheVariants.{Empty, TooLong, BadB
 -- 0 to 9, and a to f
 abbrev pub is_lower_hex : ℕ → Bool
 is_lower_hex b = is_ascii_digit b || (nat_lt 96 b && nat_lt b 103)
+
+-- A text is a hash.
+pub record IsHash (text : List ℕ) : Type 0 where
+  pub digits : List ℕ
+  pub whole : text ≡ codes "sha256:" ++ digits
+  pub hexadecimal : list_all is_lower_hex digits ≡ true
+  pub count : length digits ≡ 64
 
 -- where a text that begins right ends too soon
 abbrev pub end_place : List ℕ → Option ℕ
@@ -25,7 +32,8 @@ wrong_place text =
     option_or (literal_bad_place (codes "sha256:") (take 7 text))
     (option_or (digit_place text) (end_place text))
 
--- one part of 71 bytes: that it is empty, then that it is too long, then its first wrong place
+-- What is wrong with a text that is no hash. That there is something exactly where it is none is
+-- proved in `specs/Laws.antt`. It is empty, else too long, else wrong at its first wrong place.
 abbrev pub hash_why : List ℕ → Option Why
 hash_why text =
     if length text == 0 then Some Empty

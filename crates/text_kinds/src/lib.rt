@@ -7,6 +7,7 @@
 
 mod contents;
 mod hashes;
+pub mod laws;
 mod statuses;
 mod texts;
 
