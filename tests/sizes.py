@@ -31,12 +31,11 @@ LISTED = {
         "json_fields": 1557,
         "junit_parts": 1589,
         "message_forms": 1519,
-        "tap_reader": 1823,
+        "tap_reader": 1593,
     },
     "functions": {
         "json_fields": 103,
         "junit_parts": 105,
-        "tap_reader": 103,
     },
     "wrong bodies": {
         "disks": 10,
@@ -53,7 +52,6 @@ LISTED = {
         "names_realms": 7,
         "outside": 9,
         "result_journal": 10,
-        "tap_reader": 10,
     },
     "wide lines": {
         "call_forms": 4,
