@@ -29,13 +29,11 @@ LISTED = {
     "lines": {
         "http_wire": 1525,
         "json_fields": 1557,
-        "junit_parts": 1589,
         "message_forms": 1519,
         "tap_reader": 1593,
     },
     "functions": {
         "json_fields": 103,
-        "junit_parts": 105,
     },
     "wrong bodies": {
         "disks": 10,
@@ -45,7 +43,6 @@ LISTED = {
         "invocation_world": 10,
         "invocations": 10,
         "json_fields": 10,
-        "junit_parts": 8,
         "message_forms": 10,
         "moments_spans": 7,
         "name_parts": 7,
@@ -63,9 +60,6 @@ LISTED = {
         "http_wire": 3,
         "http_workers": 9,
         "journal_trial": 4,
-        "junit_parts": 4,
-        "junit_reader": 5,
-        "junit_tree": 7,
         "names_realms": 14,
         "outside": 38,
         "permissions": 3,
