@@ -46,7 +46,27 @@ CDATA = b"<testsuite><testcase name='a'><error><![CDATA["
 CLOSED = b"]]></error></testcase></testsuite>"
 COMMENT = b"TAP version 14\nok\n1..1\n# "
 FACE = "\U0001f600".encode()  # four bytes
+# A point of this name stands above eight that have none, and a point of the other name behind it: 512 MiB of names.
+ABOVE, BEHIND = 59_652_000, 536_870_912 - 9 * 59_652_000 - 80
+MANY = b"TAP version 14\n    1..%d\nok\n1..%d\n"
+
+
+def named(more):
+    """A report whose cases' names have 512 MiB together, and so many bytes more."""
+    names = b"n" * ABOVE, b"n" * (BEHIND + more)
+    return b"TAP version 14\n    1..8\nok - %b\nok - %b\n1..2\n" % names
+
+
+def without_memory(folder):
+    words = [harness.built(CRATE, "none", "none"), "tap", "count"]
+    done = subprocess.run(words, input=named(1), capture_output=True, timeout=SECONDS)
+    harness.same((done.stdout, done.returncode), (b"", 1))
+
+
 LONG = {
+    "a million planned points are read": long("tap", lambda: MANY % (400_000, 600_000), b"1000000 cases\n"),
+    "names of 512 MiB are read": long("tap", lambda: named(0), b"10 cases\n"),
+    "names of a byte more are want of memory": without_memory,
     "a JUnit report of 64 MiB is read": long("junit", lambda: sized(CDATA, CLOSED, LIMIT), b"1 cases\n"),
     "a TAP report of 64 MiB is read": long("tap", lambda: sized(COMMENT, b"\n", LIMIT), b"1 cases\n"),
     "a JUnit report of a byte more is too long": long("junit", lambda: sized(CDATA, CLOSED, LIMIT + 1)),
