@@ -1,16 +1,19 @@
 #!/usr/bin/env python3
-"""Measures the readers of reports: megabytes a second for reports of 1, 8 and 64 MiB of several kinds.
+"""Measures the readers of reports: megabytes a second for reports of 1, 8 and 64 MiB of several kinds, and what small
+reports with many long names take.
 
     bench/reports.py [KIND..]
 
 Prints for each kind the megabytes a second at each size, and the time at 64 MiB as a ratio to the time at 8 MiB, which
-is 8 where the time is linear. The program is the built crate `report_trial`, which prints the number of cases, or the
+is 8 where the time is linear; for a small report the processor time and the peak of its memory. The program is the built crate `report_trial`, which prints the number of cases, or the
 report's fault.
 """
 
+import os
 import pathlib
 import subprocess
 import sys
+import tempfile
 import time
 
 sys.path.insert(0, str(pathlib.Path(__file__).resolve().parent.parent / "tests"))
@@ -51,10 +54,34 @@ KINDS = {
     "junit many levels": ("junit", lambda size: filled("<testsuites>", "<testsuite>" * 30 + "</testsuite>" * 30, "</testsuites>", size)),
 }
 
+# Each name has that of the point below which a plan of 999,999 stands.
+SMALL = {
+    "tap names: 52 bytes": ("tap", b"TAP version 14\n    1..999999\nok 1 - abcdefghij\n1..1\n"),
+    "tap names: 512 MiB": ("tap", b"TAP version 14\n    1..999999\nok 1 - " + b"n" * 520 + b"\n1..1\n"),
+    "tap names: 3 KB": ("tap", b"TAP version 14\n    1..999999\nok 1 - " + b"n" * 3000 + b"\n1..1\n"),
+}
+
+
+def spent(words, report):
+    """The processor seconds and the peak megabytes of a run over a report, and what it told."""
+    with tempfile.TemporaryFile() as given, tempfile.TemporaryFile() as told:
+        given.write(report)
+        given.seek(0)
+        child = subprocess.Popen(words, stdin=given, stdout=told, stderr=subprocess.DEVNULL)
+        _, status, usage = os.wait4(child.pid, 0)
+        child.returncode = os.waitstatus_to_exitcode(status)
+        told.seek(0)
+        text = told.read().decode().strip() or f"status {child.returncode}"
+        return usage.ru_utime + usage.ru_stime, usage.ru_maxrss / 1000, text
+
 
 def main(words):
     # rt looks for itself whether the program is current.
     program = harness.built("report_trial", "none", "none", is_current=lambda _: False)
+    for name, (form, report) in SMALL.items():
+        if not words or name in words:
+            seconds, megabytes, told = spent([program, form, "count"], report)
+            print(f"{name}: {seconds:.2f} s, {megabytes:.0f} MB ({told})", flush=True)
     for name, (form, make) in KINDS.items():
         if words and name not in words:
             continue

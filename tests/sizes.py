@@ -29,14 +29,11 @@ LISTED = {
     "lines": {
         "http_wire": 1525,
         "json_fields": 1557,
-        "junit_parts": 1589,
         "message_forms": 1519,
-        "tap_reader": 1823,
+        "tap_reader": 1593,
     },
     "functions": {
         "json_fields": 103,
-        "junit_parts": 105,
-        "tap_reader": 103,
     },
     "wrong bodies": {
         "disks": 10,
@@ -44,9 +41,7 @@ LISTED = {
         "inclusion_graph": 10,
         "invocation_world": 10,
         "invocations": 10,
-        "junit_parts": 8,
         "result_journal": 10,
-        "tap_reader": 10,
     },
     "wide lines": {
         "call_forms": 4,
@@ -58,9 +53,6 @@ LISTED = {
         "http_wire": 3,
         "http_workers": 9,
         "journal_trial": 4,
-        "junit_parts": 4,
-        "junit_reader": 5,
-        "junit_tree": 7,
         "names_realms": 14,
         "outside": 38,
         "permissions": 3,

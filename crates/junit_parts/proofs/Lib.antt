@@ -1,6 +1,11 @@
 mod ByteLemmas
-mod FaultLemmas
-pub mod MessageLemmas
+mod ConstructLemmas
+mod ElementLemmas
+mod GrammarLemmas
+mod MarkLemmas
+mod MeaningLemmas
+mod RunLemmas
+mod SpeltLemmas
 mod TagLemmas
 mod TimeLemmas
 pub mod TreeLemmas

@@ -12,3 +12,5 @@ pub mod Cases
 pub mod Flaws
 pub mod Faults
 pub mod Reports
+pub mod Grammar
+pub mod Laws

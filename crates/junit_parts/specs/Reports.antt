@@ -94,9 +94,12 @@ pub record HasCases (bytes : List ℕ) (cases : List Case) : Type 0 where
   pub text : length bytes ≤ text_place bytes
   pub document : IsDocument (document_of bytes) cases
 
--- Its fault: a flaw before the place where the text ends, or that the text ends there.
+-- Its fault: past 64 MiB that the text ends, whatever else is wrong; else a flaw before the place
+-- where the text ends, or that the text ends there.
 pub data HasFault (bytes : List ℕ) (answer : JunitFault) : Type 0 where
-  flawed : (flaw : Flaw) → HasFlaw (document_of bytes) flaw
+  too_long : 67_108_864 < length bytes
+      → answer ≡ fault.NotText (text_place bytes) → HasFault bytes answer
+  flawed : length bytes ≤ 67_108_864 → (flaw : Flaw) → HasFlaw (document_of bytes) flaw
       → (length bytes ≤ text_place bytes) ⊎ (length bytes - flaw.left < text_place bytes)
       → answer ≡ told (length bytes) flaw → HasFault bytes answer
   no_text : text_place bytes < length bytes

@@ -8,7 +8,7 @@ ghost use Rattle.junit_parts.specs.Runs.{has};
 use crate::unread::Unread;
 
 /// Whether the byte is white space (XML 1.0, 2.3).
-pub(crate) fn is_white(byte: u8) -> bool
+pub fn is_white(byte: u8) -> bool
     ensures { result ≡ is_white byte }
 {
     byte == b' ' || byte == b'\t' || byte == b'\n' || byte == b'\r'

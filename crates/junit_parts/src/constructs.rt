@@ -34,7 +34,8 @@ pub enum Construct<'a> {
 
 /// Reads the end of a tag.
 fn ended<'a>(tag: Tag<'a>, bytes: &'a [u8]) -> Result<(Construct<'a>, &'a [u8]), Unread>
-    ensures read { Gives (λ r. (token_of r.0, r.1.now)) result (ended (tag_text tag.entry) bytes.now) }
+    ensures read { Gives (λ r. (token_of r.0, r.1.now)) result
+        (ended (tag_text tag.entry) bytes.now) }
     ensures within { IfOk result (λ r. length r.1.now ≤ length bytes.now) }
 {
     match bytes {

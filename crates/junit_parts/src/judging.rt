@@ -124,7 +124,8 @@ fn depth_cause(depth: usize) -> Option<Cause>
 
 /// What is wrong with a tag at its own place.
 fn tag_cause(alloc: Global, spot: Spot, tag: &Tag<'_>) -> Result<Option<Cause>, AllocError>
-    ensures { IfOk result (λ o. o ≡ tag_cause spot.outer spot.has_root spot.depth (tag_text tag.now)) }
+    ensures { IfOk result (λ o. o
+        ≡ tag_cause spot.outer spot.has_root spot.depth (tag_text tag.now)) }
 {
     let root = root_cause(spot.outer, spot.has_root, tag.name);
     let case = cause_by_role(alloc, role_in(spot.outer, tag.name), tag)?;
@@ -166,7 +167,8 @@ pub fn tag_flaw(
     left: usize,
     tag: &Tag<'_>,
 ) -> Result<Option<Flaw>, AllocError>
-    ensures { IfOk result (λ o. o ≡ tag_flaw spot.outer spot.has_root spot.depth left (tag_text tag.now)) }
+    ensures { IfOk result (λ o. o
+        ≡ tag_flaw spot.outer spot.has_root spot.depth left (tag_text tag.now)) }
 {
     match tag_cause(alloc, spot, tag)? {
         Some(cause) => Ok(Some(Flaw { left, cause })),

@@ -121,7 +121,7 @@ fn duration(alloc: Global, text: &[u8]) -> Result<u64, Unread>
 
 /// What a time says.
 #[tactic(auto, unfolding(crate::specs::Times::time_from))]
-pub(crate) fn time(alloc: Global, text: &[u8]) -> Result<Option<Span>, Unread>
+pub fn time(alloc: Global, text: &[u8]) -> Result<Option<Span>, Unread>
     ensures { Gives (λ s. s) result (time_from text.now) }
 {
     match text {

@@ -29,7 +29,7 @@ pub fn reference_at(left: usize, bytes: &[u8]) -> Result<(char, &[u8]), Flaw>
 }
 
 /// Appends a character.
-pub fn push_char(text: &mut Vec<u8>, c: char) -> Result<(), AllocError>
+fn push_char(text: &mut Vec<u8>, c: char) -> Result<(), AllocError>
     ensures { OnOk result (text.new.items ≡ text.old.items ++ encode_utf8 c) }
 {
     let mut buffer = [0u8; 4];
@@ -79,7 +79,8 @@ pub(crate) fn flaw_in(value: &[u8]) -> Option<Flaw>
 
 /// The value of the attribute of this name.
 pub fn value_named<'a>(attributes: &[Attribute<'a>], name: &[u8]) -> Option<&'a [u8]>
-    ensures { option_map (λ v. v.now) result ≡ value_named name.now (map attribute_text attributes.now) }
+    ensures { option_map (λ v. v.now) result
+        ≡ value_named name.now (map attribute_text attributes.now) }
 {
     for attribute in attributes {
         if attribute.name == name {
@@ -90,7 +91,7 @@ pub fn value_named<'a>(attributes: &[Attribute<'a>], name: &[u8]) -> Option<&'a 
 }
 
 /// The text of the attribute of this name, nothing where there is none.
-pub(crate) fn named_text(alloc: Global, tag: &Tag<'_>, name: &[u8]) -> Result<Vec<u8>, Stop>
+pub fn named_text(alloc: Global, tag: &Tag<'_>, name: &[u8]) -> Result<Vec<u8>, Stop>
     ensures { Tells (λ v. v.items) result (named_text name.now (tag_text tag.now)) }
 {
     match value_named(tag.attributes.as_slice(), name) {

@@ -9,7 +9,7 @@ use Rattle.junit_parts.specs.Cases.{told_by, told_first}
 use Rattle.junit_reader.specs.Fronts.{IsKept, front}
 use Rattle.junit_parts.specs.Messages.{boundary, cut, is_inner, solid_len, trimmed}
 use Rattle.junit_reader.specs.declared.own_text.OwnText.{OwnText}
-use Rattle.junit_parts.proofs.MessageLemmas.{solid_some}
+use Rattle.junit_reader.proofs.MessageLemmas.{solid_some}
 use Rattle.junit_parts.proofs.ValueLemmas.{Left}
 use Rattle.junit_parts.specs.declared.faults.Flaw.{Flaw}
 

@@ -1,5 +1,7 @@
 mod DocumentLemmas
+mod FaultLemmas
 mod FrontLemmas
+mod MessageLemmas
 mod RunLaws
 mod ShrinkLaws
 mod StandingLemmas

@@ -8,12 +8,13 @@ use Rattle.names_realms.specs.declared.states.Case.{Case}
 use Rattle.junit_parts.specs.Cases.{cases_in}
 use Rattle.junit_parts.specs.Constructs.{Token, Stands, Opens, Whole, Closes, token_from}
 use Rattle.junit_parts.specs.Flaws.{IsSound, IsSoundAt, flaw_at, token_flaw}
-use Rattle.junit_parts.specs.Reports.{HasFlaw, IsDocument, document_of, text_place, told}
+use Rattle.junit_parts.specs.Reports.{HasCases, HasFault, HasFlaw, IsDocument, document_of, text_place, told}
 use Rattle.junit_parts.specs.Reports.HasFlaw.{wrong, broken, open_end, no_root}
-use Rattle.junit_parts.specs.Reports.HasFault.{flawed, no_text, text_ends}
+use Rattle.junit_parts.specs.Reports.HasFault.{flawed, no_text, text_ends, too_long}
 use Rattle.junit_parts.specs.Tree.{Content, Nothing, Then, Element, Unfinished, Outside, Within, IsAt, Prints, PrintsFront, has_element, content_of, grown, put}
 use Rattle.junit_parts.specs.declared.faults.Cause.TheVariants.{NotWellFormed, NoRoot}
 use Rattle.junit_parts.specs.declared.faults.Flaw.{Flaw}
+use Rattle.junit_parts.specs.declared.faults.JunitFault.{JunitFault}
 use Rattle.junit_parts.specs.declared.faults.JunitFault.TheVariants.{NotText}
 use Rattle.junit_parts.specs.declared.roles.Role.TheVariants.{Top}
 use Rattle.junit_reader.specs.Laws.{CasesOrAFault, CasesOrFault, OneFault, OneListOfCases}
@@ -167,7 +168,8 @@ pub one_list_of_cases : OneListOfCases
 one_list_of_cases bytes cases other one two = same_cases (document_of bytes) cases other one.document two.document
 
 pub cases_or_fault : CasesOrFault
-cases_or_fault bytes cases fault has (flawed flaw found before is) = not_both (document_of bytes) cases flaw has.document found
+cases_or_fault bytes cases fault has (too_long more is) = let fits = has.text in omega arith
+cases_or_fault bytes cases fault has (flawed short flaw found before is) = not_both (document_of bytes) cases flaw has.document found
 cases_or_fault bytes cases fault has (no_text ends others found is) = let fits = has.text in omega arith
 cases_or_fault bytes cases fault has (text_ends ends flaw found before is) = not_both (document_of bytes) cases flaw has.document found
 
@@ -184,13 +186,20 @@ apart bytes flaw other one two before ends behind =
     before_and_behind (length bytes) (text_place bytes) (length bytes - flaw.left) ends (subst P same behind) before
 
 pub one_fault : OneFault
-one_fault bytes fault other (flawed flaw found before is) (flawed flaw' found' before' is') = is ∙ ap (told (length bytes)) (same_flaw (document_of bytes) flaw flaw' found found') ∙ sym is'
-one_fault bytes fault other (flawed flaw found before is) (no_text ends cases found' is') = absurd (not_both (document_of bytes) cases flaw found' found)
-one_fault bytes fault other (flawed flaw found before is) (text_ends ends flaw' found' behind is') = absurd (apart bytes flaw flaw' found found' before ends behind)
-one_fault bytes fault other (no_text ends cases found is) (flawed flaw found' before is') = absurd (not_both (document_of bytes) cases flaw found found')
+one_fault bytes fault other (too_long more is) (too_long more' is') = is ∙ sym is'
+one_fault bytes fault other (too_long more is) (flawed short flaw found before is') = absurd (omega (arith, more, short))
+one_fault bytes fault other (too_long more is) (no_text ends cases found is') = is ∙ sym is'
+one_fault bytes fault other (too_long more is) (text_ends ends flaw found behind is') = is ∙ sym is'
+one_fault bytes fault other (flawed short flaw found before is) (too_long more is') = absurd (omega (arith, more, short))
+one_fault bytes fault other (flawed short flaw found before is) (flawed short' flaw' found' before' is') = is ∙ ap (told (length bytes)) (same_flaw (document_of bytes) flaw flaw' found found') ∙ sym is'
+one_fault bytes fault other (flawed short flaw found before is) (no_text ends cases found' is') = absurd (not_both (document_of bytes) cases flaw found' found)
+one_fault bytes fault other (flawed short flaw found before is) (text_ends ends flaw' found' behind is') = absurd (apart bytes flaw flaw' found found' before ends behind)
+one_fault bytes fault other (no_text ends cases found is) (too_long more is') = is ∙ sym is'
+one_fault bytes fault other (no_text ends cases found is) (flawed short flaw found' before is') = absurd (not_both (document_of bytes) cases flaw found found')
 one_fault bytes fault other (no_text ends cases found is) (no_text ends' cases' found' is') = is ∙ sym is'
 one_fault bytes fault other (no_text ends cases found is) (text_ends ends' flaw found' behind is') = is ∙ sym is'
-one_fault bytes fault other (text_ends ends flaw found behind is) (flawed flaw' found' before is') = absurd (apart bytes flaw' flaw found' found before ends behind)
+one_fault bytes fault other (text_ends ends flaw found behind is) (too_long more is') = is ∙ sym is'
+one_fault bytes fault other (text_ends ends flaw found behind is) (flawed short flaw' found' before is') = absurd (apart bytes flaw' flaw found' found before ends behind)
 one_fault bytes fault other (text_ends ends flaw found behind is) (no_text ends' cases found' is') = is ∙ sym is'
 one_fault bytes fault other (text_ends ends flaw found behind is) (text_ends ends' flaw' found' behind' is') = is ∙ sym is'
 
@@ -231,8 +240,11 @@ answered (suc n) document (b ∷ bs) u few printed sound =
 or_below : (a b : ℕ) → (a ≤ b) ⊎ (b < a)
 or_below a b = by_bool (nat_le a b) (λ e. inl (grind (arith, nat_tests, e))) (λ e. inr (grind (arith, nat_tests, e)))
 
-pub cases_or_a_fault : CasesOrAFault
-cases_or_a_fault bytes =
+abbrev AnsweredReport : List ℕ → Type 0
+AnsweredReport bytes = ((cases : List Case) × HasCases bytes cases) ⊎ ((fault : JunitFault) × HasFault bytes fault)
+
+short_report : (bytes : List ℕ) → length bytes ≤ 67_108_864 → AnsweredReport bytes
+short_report bytes short =
     ⊎_elim
     (λ (one : (cases : List Case) × IsDocument (document_of bytes) cases).
     ⊎_elim
@@ -241,11 +253,18 @@ cases_or_a_fault bytes =
     (or_below (length bytes) (text_place bytes)))
     (λ (two : (flaw : Flaw) × HasFlaw (document_of bytes) flaw).
     ⊎_elim
-    (λ (fits : length bytes ≤ text_place bytes). inr (told (length bytes) two.0, flawed two.0 two.1 (inl fits) refl))
+    (λ (fits : length bytes ≤ text_place bytes). inr (told (length bytes) two.0, flawed short two.0 two.1 (inl fits) refl))
     (λ (ends : text_place bytes < length bytes).
     ⊎_elim
     (λ (behind : text_place bytes ≤ length bytes - two.0.left). inr (NotText (text_place bytes), text_ends ends two.0 two.1 behind refl))
-    (λ (before : length bytes - two.0.left < text_place bytes). inr (told (length bytes) two.0, flawed two.0 two.1 (inr before) refl))
+    (λ (before : length bytes - two.0.left < text_place bytes). inr (told (length bytes) two.0, flawed short two.0 two.1 (inr before) refl))
     (or_below (text_place bytes) (length bytes - two.0.left)))
     (or_below (length bytes) (text_place bytes)))
     (answered (length (document_of bytes)) (document_of bytes) (document_of bytes) (Outside Nothing) (omega arith) refl tt)
+
+pub cases_or_a_fault : CasesOrAFault
+cases_or_a_fault bytes =
+    ⊎_elim
+    (λ (short : length bytes ≤ 67_108_864). short_report bytes short)
+    (λ (more : 67_108_864 < length bytes). inr (NotText (text_place bytes), too_long more refl))
+    (or_below (length bytes) 67_108_864)

@@ -4,7 +4,8 @@ ghost use Rattle.junit_parts.specs.Bytes.{behind_white};
 ghost use Rattle.junit_reader.specs.Fronts.{IsKept, front};
 
 use crate::fronts::{KEPT, push_front};
-use junit_parts::{behind_white, solid_len};
+use crate::messages::solid_len;
+use junit_parts::behind_white;
 use std::alloc::{AllocError, Global};
 
 /// Own text without the white space in front: at most `KEPT` bytes of it.

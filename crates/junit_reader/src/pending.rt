@@ -6,9 +6,10 @@ ghost use Rattle.junit_parts.specs.Tags.{tag_text};
 ghost use Rattle.junit_reader.specs.Fronts.{IsKept, front};
 ghost use Rattle.junit_reader.specs.Standing.{IsFresh, IsNoted, IsSameCase};
 
+use crate::cases::{Ending, case_duration, case_name, ended_case, told_first};
 use crate::fronts::message_front;
 use crate::own_text::OwnText;
-use junit_parts::{Ending, Tag, case_duration, case_name, ended_case, told_first};
+use junit_parts::Tag;
 use names_realms::{Bytes, Case, Span};
 use std::alloc::{AllocError, Global};
 
@@ -102,7 +103,8 @@ impl Pending {
 
     /// The case, as it ended.
     pub(crate) fn into_case(self, alloc: Global) -> Case
-        ensures { result ≡ ended_case self.name.items self.duration self.error self.failure self.is_skipped }
+        ensures { result
+            ≡ ended_case self.name.items self.duration self.error self.failure self.is_skipped }
     {
         let name = Bytes::new(self.name);
         let duration = self.duration;

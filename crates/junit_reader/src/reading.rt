@@ -102,7 +102,8 @@ impl<'a> Reading<'a> {
     /// The innermost open element.
     fn innermost(&self) -> Option<Open<'a>>
         ensures none { IfNone result (self.now.opened.items ≡ []) }
-        ensures some { IfSome result (λ o. (before : List Open) × (self.now.opened.items ≡ before ++ o ∷ [])) }
+        ensures some { IfSome result (λ o. (before : List Open)
+            × (self.now.opened.items ≡ before ++ o ∷ [])) }
     {
         self.opened.last().copied()
     }

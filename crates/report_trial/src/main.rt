@@ -4,11 +4,12 @@
 //! The words are `tap` or `junit`, and `list` or `count`: the input is one report. `list` prints a
 //! line for each case, with its status, whether that was expected, its duration or `-`, and its
 //! name; and the lines of its message behind it, each behind two blanks. `count` prints how many
-//! there are. By the words `tap` and `both` the input is reports between lines `----`; each is read
-//! by both readers of the form, and listed, with a line `----` behind it.
+//! there are. By the words `table` and `list` the input is reports between lines `----`, of the
+//! form that the last line `==== tap` or `==== junit` says; each is listed, with a line `----`
+//! behind it.
 #![tactic(auto)]
 
-use junit_reader::JunitFault;
+use junit_reader::{JunitFault, Unsupported};
 use names_realms::{Case, Status};
 use outside::StdIn;
 use std::alloc::{AllocError, Global};
@@ -18,15 +19,31 @@ use std::process::ExitCode;
 use tap_reader::TapFault;
 use whole_reads::read_front;
 
-/// One byte more than a report may have.
-const MOST_BYTES: usize = 67_108_865;
+/// How much of a report is read: the most bytes that it may have, and three more. They tell that it
+/// has more, and hold the rest of a character that begins before the limit.
+const FRONT: usize = 67_108_867;
 
-/// What a report gave: its cases, or the number and the name of its fault, with the line or the
-/// place that it tells.
-type Read = Result<Vec<Case>, (u8, &'static str, Option<usize>)>;
+/// What a report gave: its cases, or its fault.
+type Read = Result<Vec<Case>, Fault>;
 
-/// The line or the place that a fault tells.
-fn place_of(fault: TapFault) -> Option<usize> {
+/// The number and the name of a fault, the line or the place that it tells, and what isn't read.
+#[derive(Clone, Copy, Debug)]
+struct Fault {
+    number: u8,
+    name: &'static str,
+    place: Option<usize>,
+    what: &'static str,
+}
+
+/// A form of reports.
+#[derive(Clone, Copy, Debug, PartialEq, Eq)]
+enum Form {
+    Tap,
+    Junit,
+}
+
+/// The line or the place that a fault of TAP tells.
+fn tap_place(fault: TapFault) -> Option<usize> {
     match fault {
         TapFault::TwoPlans { line }
         | TapFault::PlanExceeded { line }
@@ -38,23 +55,61 @@ fn place_of(fault: TapFault) -> Option<usize> {
     }
 }
 
-fn tap_read(read: Result<Vec<Case>, TapFault>) -> Result<Read, AllocError> {
-    match read {
-        Ok(cases) => Ok(Ok(cases)),
-        Err(TapFault::Memory) => Err(AllocError),
-        Err(fault) => Ok(Err((fault.number(), fault.name(), place_of(fault)))),
+/// The place that a fault of JUnit tells.
+fn junit_place(fault: JunitFault) -> Option<usize> {
+    match fault {
+        JunitFault::NotText { at }
+        | JunitFault::NotWellFormed { at }
+        | JunitFault::Unsupported { at, .. }
+        | JunitFault::MissingName { at }
+        | JunitFault::BadTime { at }
+        | JunitFault::TooDeep { at } => Some(at),
+        JunitFault::NoRoot | JunitFault::Memory => None,
+    }
+}
+
+/// What of XML isn't read, behind a blank.
+fn unsupported_text(fault: JunitFault) -> &'static str {
+    match fault {
+        JunitFault::Unsupported { what, .. } => match what {
+            Unsupported::Doctype => " Doctype",
+            Unsupported::Instruction => " Instruction",
+            Unsupported::Entity => " Entity",
+        },
+        _ => "",
     }
 }
 
 fn read_tap(alloc: Global, report: &[u8]) -> Result<Read, AllocError> {
-    tap_read(tap_reader::read_report(alloc, report))
+    match tap_reader::read_report(alloc, report) {
+        Ok(cases) => Ok(Ok(cases)),
+        Err(TapFault::Memory) => Err(AllocError),
+        Err(fault) => Ok(Err(Fault {
+            number: fault.number(),
+            name: fault.name(),
+            place: tap_place(fault),
+            what: "",
+        })),
+    }
 }
 
 fn read_junit(alloc: Global, report: &[u8]) -> Result<Read, AllocError> {
     match junit_reader::read_report(alloc, report) {
         Ok(cases) => Ok(Ok(cases)),
         Err(JunitFault::Memory) => Err(AllocError),
-        Err(fault) => Ok(Err((fault.number(), fault.name(), None))),
+        Err(fault) => Ok(Err(Fault {
+            number: fault.number(),
+            name: fault.name(),
+            place: junit_place(fault),
+            what: unsupported_text(fault),
+        })),
+    }
+}
+
+fn read(alloc: Global, form: Form, report: &[u8]) -> Result<Read, AllocError> {
+    match form {
+        Form::Tap => read_tap(alloc, report),
+        Form::Junit => read_junit(alloc, report),
     }
 }
 
@@ -112,46 +167,62 @@ fn report_text(alloc: Global, read: &Read, is_list: bool) -> Result<Vec<u8>, All
             let count = cases.len();
             Ok(format!(in alloc; "{count} cases\n")?.into_bytes())
         }
-        Err((number, name, None)) => {
-            Ok(format!(in alloc; "fault {number} {name}\n")?.into_bytes())
-        }
-        Err((number, name, Some(place))) => {
-            Ok(format!(in alloc; "fault {number} {name} {place}\n")?.into_bytes())
-        }
+        Err(fault) => Ok(fault_text(alloc, *fault)?.into_bytes()),
     }
 }
 
-/// Puts what a TAP report gives behind what is there; and behind a line what the plain reader
-/// gives, where that is something else.
-fn put_both(alloc: Global, report: &[u8], out: &mut Vec<u8>) -> Result<(), AllocError> {
-    let read = report_text(alloc, &read_tap(alloc, report)?, true)?;
-    let plainly = tap_read(tap_reader::plain_report(alloc, report))?;
-    let plain = report_text(alloc, &plainly, true)?;
-    out.extend_from_slice(&read)?;
-    if plain.as_slice() != read.as_slice() {
-        out.extend_from_slice(b"The plain reader gives:\n")?;
-        out.extend_from_slice(&plain)?;
+fn fault_text(alloc: Global, fault: Fault) -> Result<String, AllocError> {
+    let number = fault.number;
+    let name = fault.name;
+    let what = fault.what;
+    match fault.place {
+        Some(place) => format!(in alloc; "fault {number} {name} {place}{what}\n"),
+        None => format!(in alloc; "fault {number} {name}{what}\n"),
     }
+}
+
+/// Puts what a report of a table gives behind what is there. The LF behind it is no part of it.
+fn put_row(
+    alloc: Global,
+    form: Form,
+    report: &mut Vec<u8>,
+    out: &mut Vec<u8>,
+) -> Result<(), AllocError> {
+    let _ = report.pop();
+    let read = read(alloc, form, report)?;
+    out.extend_from_slice(&report_text(alloc, &read, true)?)?;
+    report.clear();
     out.extend_from_slice(b"----\n")
 }
 
-/// What is printed of the TAP reports between the lines `----` of an input. The LF before such a
-/// line is no part of a report.
-fn both_texts(alloc: Global, input: &[u8]) -> Result<Vec<u8>, AllocError> {
+/// The form that a line of a table says, if it is such a line.
+fn said_form(line: &[u8]) -> Option<Form> {
+    if line == b"==== tap".as_slice() {
+        return Some(Form::Tap);
+    }
+    if line == b"==== junit".as_slice() {
+        Some(Form::Junit)
+    } else {
+        None
+    }
+}
+
+/// What is printed of a table.
+fn table_text(alloc: Global, input: &[u8]) -> Result<Vec<u8>, AllocError> {
     let mut out = Vec::new(alloc);
+    let mut form = Form::Tap;
     let mut report: Vec<u8> = Vec::new(alloc);
     for line in input.split(|byte| *byte == b'\n') {
-        if line == b"----".as_slice() {
-            let _ = report.pop();
-            put_both(alloc, &report, &mut out)?;
-            report.clear();
+        if let Some(said) = said_form(line) {
+            form = said;
+        } else if line == b"----".as_slice() {
+            put_row(alloc, form, &mut report, &mut out)?;
         } else {
             report.extend_from_slice(line)?;
             report.push(b'\n')?;
         }
     }
-    let _ = report.pop();
-    put_both(alloc, &report, &mut out)?;
+    put_row(alloc, form, &mut report, &mut out)?;
     Ok(out)
 }
 
@@ -162,12 +233,13 @@ fn answer(
     form: &str,
     what: &str,
 ) -> Result<Option<Vec<u8>>, AllocError> {
-    let read = match (form, what) {
-        ("tap", "both") => return Ok(Some(both_texts(alloc, input)?)),
-        ("tap", _) => read_tap(alloc, input)?,
-        ("junit", _) => read_junit(alloc, input)?,
+    let form = match form {
+        "table" => return Ok(Some(table_text(alloc, input)?)),
+        "tap" => Form::Tap,
+        "junit" => Form::Junit,
         _ => return Ok(None),
     };
+    let read = read(alloc, form, input)?;
     Ok(Some(report_text(alloc, &read, what == "list")?))
 }
 
@@ -177,7 +249,7 @@ fn main(rt: HostRuntime) -> io::Result<ExitCode> {
     let (Some(form), Some(what)) = (words.get(1), words.get(2)) else {
         return Ok(ExitCode::from(1));
     };
-    let Ok(report) = read_front(alloc, &mut StdIn::new(rt.stdin()), MOST_BYTES) else {
+    let Ok(report) = read_front(alloc, &mut StdIn::new(rt.stdin()), FRONT) else {
         return Ok(ExitCode::from(2));
     };
     let Some(text) = answer(alloc, report.as_slice(), form.as_str(), what.as_str())? else {

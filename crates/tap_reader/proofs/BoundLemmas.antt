@@ -15,6 +15,10 @@ use Rattle.tap_reader.specs.Completing.{State, closed, closed_above, filled, las
 use Rattle.tap_reader.specs.Streams.{in_tree, missing_numbers, numbered, numbered_said}
 use Rattle.tap_reader.specs.Bounds.{AllBelow, IsBelow}
 
+pub below_front : (b : ℕ) (xs ys : List Line) → AllBelow b (xs ++ ys) → AllBelow b xs
+below_front b [] ys h = tt
+below_front b (x ∷ xs) ys h = (h.0, below_front b xs ys h.1)
+
 AllBelow-append : (b : ℕ) (xs ys : List Line) → AllBelow b xs → AllBelow b ys → AllBelow b (xs ++ ys)
 AllBelow-append b [] ys p q = q
 AllBelow-append b (x ∷ xs) ys p q = (p.0, AllBelow-append b xs ys p.1 q)

@@ -1,12 +1,13 @@
 -- Lines have one tree, and a report has one outcome.
-use Rattle.std.proofs.Common.{◌≡◌, ◌≢◌, ℕ, zero, suc, ◌-◌, ◌<◌, List, [], ◌∷◌, ◌++◌, refl, sym, ap, ◌∙◌, arith}
-use Rattle.std.specs.Prelude.{Option, Some, None, Result, Err}
+use Rattle.std.proofs.Common.{◌≡◌, ◌≢◌, ℕ, zero, suc, ◌-◌, ◌<◌, ◌≤◌, List, [], ◌∷◌, ◌++◌, refl, sym, ap, ◌∙◌, arith}
+use Rattle.std.specs.Prelude.{Option, Some, None, Result, Ok, Err}
 use Rattle.names_realms.specs.declared.states.Case.{Case}
 use Rattle.tap_reader.specs.declared.faults.TapFault.{TapFault}
-use Rattle.tap_reader.specs.declared.faults.TapFault.TheVariants.{NoVersion, NotText}
+use Rattle.tap_reader.specs.declared.faults.TapFault.TheVariants.{NoVersion, TwoPlans, NoPlan, PlanExceeded, OpenDiagnostic, TooDeep, NotText, PlanTooLarge, Memory}
 use Rattle.tap_reader.specs.Counted.{Line}
 use Rattle.tap_reader.specs.Streams.{Stream, Ends, Unfinished, Goes, IsAt, lines_of, report_fault}
-use Rattle.tap_reader.specs.Reports.{ReadsLines, ReadsText, counted_in, judged, text_fault}
+use Rattle.tap_reader.specs.Cases.{names_len}
+use Rattle.tap_reader.specs.Reports.{HasLongNames, Reads, ReadsLines, ReadsText, counted_in, judged, text_fault}
 use Rattle.tap_reader.specs.Laws.{OneOutcome, OneTree, SomeOutcome}
 use Rattle.tap_reader.proofs.StreamLemmas.{Deeper, Deeper-append}
 use Rattle.tap_reader.proofs.OutcomeLemmas.{is_tree, tree_in}
@@ -117,3 +118,27 @@ some_of_text None bytes = some_of_lines (counted_in bytes)
 
 pub some_outcome_proof : SomeOutcome
 some_outcome_proof bytes = some_of_text (text_fault bytes) bytes
+
+-- a report of cases has no fault
+no_fault : (bytes : List ℕ) (f : TapFault) → HasLongNames bytes → ¬ Reads bytes (Err f)
+no_fault bytes f h q =
+    let same : Ok h.0 ≡ Err f = one_outcome_proof bytes (Ok h.0) (Err f) h.1 q in absurd (cc)
+
+-- so what is answered of one with long names is want of memory
+pub long_is_memory : (bytes : List ℕ) (f : TapFault) → (f ≢ Memory → Reads bytes (Err f)) → HasLongNames bytes → f ≡ Memory
+long_is_memory bytes NoVersion p h = absurd (no_fault bytes NoVersion h (p (λ e. cc)))
+long_is_memory bytes (TwoPlans n) p h = absurd (no_fault bytes (TwoPlans n) h (p (λ e. cc)))
+long_is_memory bytes NoPlan p h = absurd (no_fault bytes NoPlan h (p (λ e. cc)))
+long_is_memory bytes (PlanExceeded n) p h = absurd (no_fault bytes (PlanExceeded n) h (p (λ e. cc)))
+long_is_memory bytes (OpenDiagnostic n) p h = absurd (no_fault bytes (OpenDiagnostic n) h (p (λ e. cc)))
+long_is_memory bytes (TooDeep n) p h = absurd (no_fault bytes (TooDeep n) h (p (λ e. cc)))
+long_is_memory bytes (NotText at) p h = absurd (no_fault bytes (NotText at) h (p (λ e. cc)))
+long_is_memory bytes (PlanTooLarge n) p h = absurd (no_fault bytes (PlanTooLarge n) h (p (λ e. cc)))
+long_is_memory bytes Memory p h = refl
+
+-- and never its cases
+pub long-no_cases : (bytes : List ℕ) (cases : List Case) → Reads bytes (Ok cases) → names_len cases ≤ 536870912 → ¬ HasLongNames bytes
+long-no_cases bytes cases q few h =
+    let both : Ok h.0 ≡ Ok cases = one_outcome_proof bytes (Ok h.0) (Ok cases) h.1 q in
+    let same : h.0 ≡ cases = cc in
+    omega (arith, ap names_len same, h.2, few)

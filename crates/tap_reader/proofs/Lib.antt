@@ -4,10 +4,15 @@ pub mod StreamLemmas
 pub mod RunLemmas
 pub mod MessageLemmas
 pub mod NamingLemmas
+pub mod LengthLemmas
 pub mod TreeLemmas
 pub mod CaseLemmas
 pub mod OutcomeLemmas
 pub mod LawLemmas
 pub mod BoundLemmas
-pub mod FitLemmas
-pub mod PlainLemmas
+pub mod TextLemmas
+pub mod WordLemmas
+pub mod DirectiveLemmas
+pub mod PointLemmas
+pub mod GrammarLemmas
+pub mod VersionLemmas

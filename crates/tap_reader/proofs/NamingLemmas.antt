@@ -12,7 +12,7 @@ use Rattle.tap_reader.specs.Cases.{case_said, missing_case, name_for_subtest, po
 use Rattle.tap_reader.specs.Naming.{named, parents, resized}
 use Rattle.tap_reader.specs.NamingViews.{names_of}
 
-map-replicate : {X Y : Type 0} (f : X → Y) (n : ℕ) (x : X) → map f (replicate n x) ≡ replicate n (f x)
+pub map-replicate : {X Y : Type 0} (f : X → Y) (n : ℕ) (x : X) → map f (replicate n x) ≡ replicate n (f x)
 map-replicate f zero x = refl
 map-replicate f (suc n) x = ap (λ l. f x ∷ l) (map-replicate f n x)
 
@@ -20,7 +20,7 @@ resized-none : (n : ℕ) → replicate n (codes "unfinished") ≡ resized n []
 resized-none zero = refl
 resized-none (suc n) = ap (λ l. codes "unfinished" ∷ l) (resized-none n)
 
-resized-is : (n : ℕ) (names : List (List ℕ)) → take n names ++ replicate (n - length names) (codes "unfinished") ≡ resized n names
+pub resized-is : (n : ℕ) (names : List (List ℕ)) → take n names ++ replicate (n - length names) (codes "unfinished") ≡ resized n names
 resized-is zero names = ap (λ k. replicate k (codes "unfinished")) (let e : zero - length names ≡ zero = omega arith in e)
 resized-is (suc n) [] =
     ap (λ k. replicate k (codes "unfinished")) (let e : suc n - zero ≡ suc n = omega arith in e) ∙ resized-none (suc n)

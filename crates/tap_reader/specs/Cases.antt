@@ -1,6 +1,6 @@
 -- The cases of a report: its points and the missing ones, each under the names of its parents.
 use Rattle.std.specs.Prelude.{ℕ, ◌+◌, ◌*◌, ◌==◌, ◌&&◌, ◌||◌, if◌then◌else◌, nat_lt, Bool, true, false, List, [], ◌∷◌, ◌++◌, length, take, drop, map, codes, Option, Some, None, unwrap_or, is_some}
-use Rattle.std.specs.List.{flat_map, join_with_byte}
+use Rattle.std.specs.List.{flat_map, join_with_byte, sum_by}
 use Rattle.std.specs.Fmt.{decimal}
 use Rattle.std.specs.Str.Lossy.{utf8_valid_len}
 use Rattle.names_realms.specs.declared.states.Case.{Case}
@@ -110,3 +110,7 @@ listed path last (Goes sub l rest) =
 -- the cases of a report
 abbrev pub report_cases : Stream → List Case
 report_cases t = listed [] 0 t ++ missing_cases [] (own_from 0 t)
+
+-- how many bytes the names of cases have together
+abbrev pub names_len : List Case → ℕ
+names_len cases = sum_by (λ c. length c.name) cases

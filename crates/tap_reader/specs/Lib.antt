@@ -4,6 +4,8 @@ pub mod Counted
 pub mod Streams
 pub mod Cases
 pub mod Reports
+pub mod LineGrammar
+pub mod Grammar
 pub mod Laws
 pub mod Faults
 pub mod LineWords
@@ -16,5 +18,5 @@ pub mod MarkWords
 pub mod MessageWords
 pub mod Naming
 pub mod NamingViews
+pub mod NameLengths
 pub mod Growing
-pub mod PlainViews

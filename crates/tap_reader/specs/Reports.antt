@@ -1,5 +1,5 @@
 -- What a report gives: its cases, or its first fault.
-use Rattle.std.specs.Prelude.{◌≡◌, ℕ, ◌+◌, ◌==◌, ◌&&◌, ◌||◌, if◌then◌else◌, nat_le, nat_eq, min, Bool, List, [], ◌∷◌, length, drop, codes, Option, Some, None, option_map, Result, Ok, Err}
+use Rattle.std.specs.Prelude.{◌≡◌, ℕ, ◌+◌, ◌<◌, ◌==◌, ◌&&◌, ◌||◌, if◌then◌else◌, nat_le, nat_eq, min, Bool, List, [], ◌∷◌, length, drop, codes, Option, Some, None, option_map, Result, Ok, Err}
 use Rattle.std.specs.List.{list_all, starts_with}
 use Rattle.std.specs.Str.Lossy.{utf8_valid_len}
 use Rattle.names_realms.specs.declared.states.Case.{Case}
@@ -8,7 +8,7 @@ use Rattle.tap_reader.specs.declared.faults.TapFault.TheVariants.{NoVersion, Not
 use Rattle.tap_reader.specs.Lines.{lines}
 use Rattle.tap_reader.specs.Counted.{Line, counted}
 use Rattle.tap_reader.specs.Streams.{Stream, IsTree, report_fault}
-use Rattle.tap_reader.specs.Cases.{report_cases}
+use Rattle.tap_reader.specs.Cases.{names_len, report_cases}
 
 -- The first place that is no text: where no UTF-8 goes on, or behind 64 MiB.
 abbrev pub text_fault : List ℕ → Option ℕ
@@ -58,3 +58,7 @@ ReadsText None bytes outcome = ReadsLines (counted_in bytes) outcome
 -- a report gives these cases, or this fault
 abbrev pub Reads : List ℕ → Result (List Case) TapFault → Type 0
 Reads bytes outcome = ReadsText (text_fault bytes) bytes outcome
+
+-- A report gives cases whose names have more than 512 MiB together.
+abbrev pub HasLongNames : List ℕ → Type 0
+HasLongNames bytes = (cases : List Case) × Reads bytes (Ok cases) × (536870912 < names_len cases)

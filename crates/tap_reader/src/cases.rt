@@ -1,16 +1,29 @@
 //! The cases of a report's lines, each under the names of its parents.
-ghost use Rattle.std.specs.Prelude.{◌≡◌, ◌++◌, ◌∷◌, [], map, codes, IfOk, OnOk, option_to_list, is_some, ◌||◌};
+ghost use Rattle.std.specs.Prelude.{◌≡◌, ◌≤◌, ◌++◌, ◌∷◌, [], length, map, codes, IfOk, OnOk, option_to_list, is_some, ◌||◌};
 ghost use Rattle.std.specs.List.{flat_map};
 ghost use Rattle.tap_reader.specs.Entries.{line_of, said_of, test_of};
 ghost use Rattle.tap_reader.specs.Cases.{case_said, name_for_subtest, name_in, number_name, missing_case, point_case, point_name, status_of, unescaped};
+ghost use Rattle.tap_reader.specs.NameLengths.{after_run};
 ghost use Rattle.tap_reader.specs.Naming.{named, resized};
 ghost use Rattle.tap_reader.specs.NamingViews.{names_of};
 
 use crate::entries::{Directive, Entry, Says, TestPoint};
 use crate::messages::read_message;
-use name_parts::append;
+use name_parts::{append, len_before};
 use names_realms::{Bytes, Case, Status};
 use std::alloc::{AllocError, Global};
+
+/// Appends what stands before the first backslash, and gives the rest.
+fn append_run<'a>(out: &mut Vec<u8>, text: &'a [u8]) -> Result<&'a [u8], AllocError>
+    ensures kept { OnOk result
+        (out.new.items ++ unescaped (after_run text.now) ≡ out.old.items ++ unescaped text.now) }
+    ensures rest { IfOk result (λ rest. rest.now ≡ after_run text.now) }
+    ensures shorter { IfOk result (λ rest. length rest.now ≤ length text.now) }
+{
+    let run = len_before(text, b'\\');
+    append(out, &text[..run])?;
+    Ok(&text[run..])
+}
 
 /// Appends a description as it is meant: `\#` stands for `#`, and `\\` for `\`.
 fn append_unescaped(out: &mut Vec<u8>, text: &[u8]) -> Result<(), AllocError>
@@ -18,6 +31,7 @@ fn append_unescaped(out: &mut Vec<u8>, text: &[u8]) -> Result<(), AllocError>
 {
     let mut rest = text;
     loop {
+        rest = append_run(out, rest)?;
         match rest {
             [b'\\', second, behind @ ..] if *second == b'#' || *second == b'\\' => {
                 out.push(*second)?;
@@ -33,7 +47,7 @@ fn append_unescaped(out: &mut Vec<u8>, text: &[u8]) -> Result<(), AllocError>
 }
 
 /// Appends the name of a point by its number.
-fn append_number(alloc: Global, out: &mut Vec<u8>, number: u64) -> Result<(), AllocError>
+pub(crate) fn append_number(alloc: Global, out: &mut Vec<u8>, number: u64) -> Result<(), AllocError>
     ensures { OnOk result (out.new.items ≡ out.old.items ++ number_name number) }
 {
     let digits = number.to_string(alloc)?;
@@ -43,7 +57,11 @@ fn append_number(alloc: Global, out: &mut Vec<u8>, number: u64) -> Result<(), Al
 
 /// Appends the name of a point.
 #[tactic(auto, unfolding(crate::specs::Cases::point_name))]
-fn append_point(alloc: Global, out: &mut Vec<u8>, point: &TestPoint) -> Result<(), AllocError>
+pub(crate) fn append_point(
+    alloc: Global,
+    out: &mut Vec<u8>,
+    point: &TestPoint,
+) -> Result<(), AllocError>
     ensures { OnOk result (out.new.items ≡ out.old.items ++ point_name (test_of point.now)) }
 {
     if point.description.is_empty() {
@@ -54,7 +72,7 @@ fn append_point(alloc: Global, out: &mut Vec<u8>, point: &TestPoint) -> Result<(
 }
 
 /// Appends the name that a line gives to the subtest before it.
-fn append_parent(alloc: Global, out: &mut Vec<u8>, says: &Says) -> Result<(), AllocError>
+pub(crate) fn append_parent(alloc: Global, out: &mut Vec<u8>, says: &Says) -> Result<(), AllocError>
     ensures { OnOk result (out.new.items ≡ out.old.items ++ name_for_subtest (said_of says.now)) }
 {
     match says {
@@ -125,7 +143,7 @@ fn case_of_point(
 }
 
 /// The case of a number that no point has.
-pub(crate) fn case_of_missing(alloc: Global, path: &[Says], number: u64) -> Result<Case, AllocError>
+fn case_of_missing(alloc: Global, path: &[Says], number: u64) -> Result<Case, AllocError>
     ensures { IfOk result (λ c. c ≡ missing_case (names_of path.now) number) }
 {
     let mut name = read_path(alloc, path)?;
@@ -152,7 +170,7 @@ fn case_of(alloc: Global, path: &[Says], entry: &Entry) -> Result<Option<Case>, 
 }
 
 /// Appends the case of a line, if it has one.
-pub(crate) fn append_case(
+fn append_case(
     alloc: Global,
     cases: &mut Vec<Case>,
     path: &[Says],

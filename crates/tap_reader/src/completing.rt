@@ -76,7 +76,7 @@ pub(crate) fn plan_at(entries: &[Entry], level: usize) -> Option<u64>
 }
 
 /// The fault of a line in a stream of this plan, in which a plan stood before it or not.
-pub(crate) fn fault_in_stream(plan: Option<u64>, planned: bool, entry: &Entry) -> Option<TapFault>
+fn fault_in_stream(plan: Option<u64>, planned: bool, entry: &Entry) -> Option<TapFault>
     ensures { result
         ≡ stream_fault plan planned (line_of entry.now).number (line_of entry.now).said }
 {
@@ -144,7 +144,7 @@ fn last_number_of(entries: &[Entry], level: usize) -> u64
 }
 
 /// Whether a line stands in the tree: a plan or a point, not too deep.
-pub(crate) fn is_in_tree(entry: &Entry) -> bool
+fn is_in_tree(entry: &Entry) -> bool
     ensures { result ≡ in_tree (line_of entry.now) }
 {
     entry.level <= 16 && matches!(entry.says, Says::Planned(_) | Says::Tested(_))

@@ -2,7 +2,7 @@
 ghost use Rattle.std.specs.Prelude.{◌≡◌, codes};
 ghost use Rattle.tap_reader.specs.Faults.{fault_name, fault_number};
 
-use std::alloc::{AllocError, AllocFailed};
+use std::alloc::AllocError;
 
 /// Why a report gives no cases. Lines are counted from 1, bytes from 0.
 #[derive(Clone, Copy, Debug, PartialEq, Eq)]
@@ -70,17 +70,6 @@ impl From<AllocError> for TapFault {
     ghost from_gives = { λ _ e. e ≡ Memory };
 
     fn from(_e: AllocError) -> TapFault {
-        TapFault::Memory
-    }
-}
-
-impl<T: Drop> From<AllocFailed<T>> for TapFault {
-    ghost use Rattle.std.specs.Prelude.{◌≡◌};
-    ghost use Rattle.tap_reader.specs.declared.faults.TapFault.TheVariants.{Memory};
-
-    ghost from_gives = { λ _ e. e ≡ Memory };
-
-    fn from(_e: AllocFailed<T>) -> TapFault {
         TapFault::Memory
     }
 }

@@ -11,16 +11,13 @@ mod entries;
 mod faults;
 mod forms;
 pub mod laws;
+mod lengths;
 mod lines;
 mod marks;
 mod messages;
-mod plain;
 mod reading;
 mod reports;
-#[cfg(test)]
-mod tests;
 
 pub use faults::TapFault;
 pub use names_realms::{Bytes, Case, Status};
-pub use plain::plain_report;
 pub use reports::read_report;

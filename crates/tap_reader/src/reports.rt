@@ -1,5 +1,5 @@
 //! A report, read from its first byte to its last.
-ghost use Rattle.std.specs.Prelude.{◌≡◌, ◌≢◌, ◌||◌, is_some, ◌+◌, ◌==◌, ◌<◌, ◌≤◌, ◌^◌, map, length, Some, None, Ok, Err, IfOk, IfErr, MatchOption, IfSome, IfNone, OnOk, IsTrue, option_map};
+ghost use Rattle.std.specs.Prelude.{◌≡◌, ◌≢◌, ◌||◌, is_some, ◌+◌, ◌==◌, ◌<◌, ◌≤◌, ◌^◌, map, length, Some, None, Ok, Err, IfOk, IfErr, IsErrAnd, MatchOption, IfSome, IfNone, OnOk, IsTrue, option_map};
 ghost use Rattle.std.specs.List.{list_all, list_any};
 ghost use Rattle.tap_reader.specs.Lines.{lines};
 ghost use Rattle.tap_reader.specs.Counted.{counted};
@@ -7,13 +7,15 @@ ghost use Rattle.tap_reader.specs.Bounds.{AllBelow};
 ghost use Rattle.tap_reader.specs.Entries.{line_of};
 ghost use Rattle.tap_reader.specs.Streams.{first_alone, is_bail, line_fault, plan_of};
 ghost use Rattle.tap_reader.specs.Completing.{at_level};
+ghost use Rattle.tap_reader.specs.Cases.{names_len};
 ghost use Rattle.tap_reader.specs.Naming.{named};
-ghost use Rattle.tap_reader.specs.Reports.{Reads, ReadsLines, after_version, begins_version, counted_in, is_blank, is_version, text_fault};
+ghost use Rattle.tap_reader.specs.Reports.{HasLongNames, Reads, ReadsLines, after_version, begins_version, counted_in, is_blank, is_version, text_fault};
 
 use crate::TapFault;
 use crate::cases::name_cases;
 use crate::completing::{complete, earlier_of, plan_at};
 use crate::entries::{Entry, Says};
+use crate::lengths::do_names_fit;
 use crate::lines::split_line;
 use crate::reading::read_lines;
 use name_parts::utf8_len;
@@ -95,7 +97,7 @@ fn skip_version(text: &[u8]) -> Option<(usize, &[u8])>
 }
 
 /// The text behind the version line of a report, and the number of its first line.
-pub(crate) fn open_report(bytes: &[u8]) -> Result<(usize, &[u8]), TapFault>
+fn open_report(bytes: &[u8]) -> Result<(usize, &[u8]), TapFault>
     ensures text { IfOk result (λ p. text_fault bytes.now ≡ None) }
     ensures lines { IfOk result (λ p. counted_in bytes.now
         ≡ Some (counted p.0 0 (lines p.1.now))) }
@@ -128,7 +130,7 @@ fn fault_alone(sum: u64, entry: &Entry) -> Option<TapFault>
 }
 
 /// The fault of the first line that has one by itself.
-pub(crate) fn find_alone(entries: &[Entry]) -> Option<TapFault>
+fn find_alone(entries: &[Entry]) -> Option<TapFault>
     ensures { result ≡ first_alone 0 (map line_of entries.now) }
 {
     let mut sum: u64 = 0;
@@ -145,7 +147,7 @@ pub(crate) fn find_alone(entries: &[Entry]) -> Option<TapFault>
 }
 
 /// Whether the run was given up.
-pub(crate) fn has_bail(entries: &[Entry]) -> bool
+fn has_bail(entries: &[Entry]) -> bool
     ensures { result ≡ list_any (λ l. is_bail l.said) (map line_of entries.now) }
 {
     for entry in entries {
@@ -197,11 +199,16 @@ fn read_written<'a>(alloc: Global, bytes: &'a [u8]) -> Result<Vec<Entry<'a>>, Ta
 
 /// Reads a report in TAP 14: its cases in the order of its points, those of a subtest before its
 /// point's, each under the names of its parents; or its first fault. `Memory` where there is no
-/// memory for the cases.
+/// memory for the cases, and where their names have more than 512 MiB together, before any is made.
 pub fn read_report(alloc: Global, bytes: &[u8]) -> Result<Vec<Case>, TapFault>
     ensures ok { IfOk result (λ cases. Reads bytes.now (Ok cases.items)) }
+    ensures names { IfOk result (λ cases. names_len cases.items ≤ 536870912) }
+    ensures long { HasLongNames bytes.now → IsErrAnd result (λ f. f ≡ TapFault.Memory) }
     ensures err { IfErr result (λ f. f ≢ TapFault.Memory → Reads bytes.now (Err f)) }
 {
     let written = read_written(alloc, bytes)?;
+    if !do_names_fit(alloc, &written)? {
+        return Err(TapFault::Memory);
+    }
     Ok(name_cases(alloc, &written)?)
 }

@@ -3,8 +3,7 @@ use Rattle.tap_reader.specs.Lines.{lines}
 use Rattle.tap_reader.specs.Counted.{Line, counted}
 use Rattle.tap_reader.specs.Entries.{line_of}
 use Rattle.tap_reader.specs.Bounds.{AllBelow}
-use Rattle.tap_reader.proofs.BoundLemmas.{counted-below}
-use Rattle.tap_reader.proofs.FitLemmas.{below_front}
+use Rattle.tap_reader.proofs.BoundLemmas.{below_front, counted-below}
 use Rattle.tap_reader.proofs.reading.read_lines.Goals as goal
 
 pub returns-clause-below : goal.returns-clause-below

@@ -1,4 +1,0 @@
-pub mod Seen
-pub mod Places
-pub mod Reading
-pub mod Endings

@@ -1,4 +1,0 @@
-use Rattle.tap_reader.proofs.plain.+put_line.Given as goal
-
-abbrev pub decreases-put_line : goal.decreases-put_line
-decreases-put_line l = l.below
