@@ -52,7 +52,6 @@ LISTED = {
         "name_parts": 7,
         "names_realms": 7,
         "outside": 9,
-        "result_journal": 10,
         "tap_reader": 10,
     },
     "wide lines": {

@@ -15,6 +15,10 @@ WritesThrough at piece (Some t) (Ok done) new =
 WritesThrough at piece (Some t) (Err e) new =
     MayHaveBegun t 0 (write_begun t.now.first at (length piece)) new
 
+-- Part 1 stands as it did.
+abbrev pub OtherStays : Option Told → Option Told → Type 0
+OtherStays old new = (t u : Told) → old ≡ Some t → new ≡ Some u → u.now.second ≡ t.now.second
+
 -- A list is these bytes, some byte, those bytes, and more.
 pub record BeginsBut (list front back : List ℕ) : Type 0 where
   pub there : ℕ

@@ -2,7 +2,7 @@
 ghost use Rattle.std.specs.Prelude.{◌≡◌, ◌⊎◌, ℕ, ◌+◌, ◌^◌, ◌<◌, ◌≤◌, ◌↔◌, List, [], ◌∷◌, ◌++◌, length, true, false, IfOk, IfErr, OnOk, OnErr, MatchBool};
 ghost use Rattle.result_journal.specs.Grammar.{framed};
 ghost use Rattle.result_journal.specs.Full.{IsFullFor};
-ghost use Rattle.result_journal.specs.Steps.{IsStaged};
+ghost use Rattle.result_journal.specs.Steps.{IsStaged, OtherStays};
 ghost use Rattle.fault_counts.specs.Causes.{HasCause};
 ghost use Rattle.disks.specs.Moments.{Told, AtEachMoment};
 ghost use Rattle.result_journal.specs.Journals.{ReadsAs, BeforeOrAfter, Leaves, StandsFor, StandsForSome, SameButDisk, TakesMoments, disk_of, end_of, is_settled, is_prepared, prepared, IsPrepared};
@@ -135,6 +135,7 @@ impl<D: Disk> Journal<D> {
             StandsFor D.told self.new commands) }
         ensures err_same { OnErr result (SameButDisk self.old self.new) }
         ensures still { StandsForSome D.told self.new }
+        ensures other { OtherStays (D.told (disk_of self.old)) (D.told (disk_of self.new)) }
 
         ensures cause { HasCause (D.faults (disk_of self.old))
             (D.faults (disk_of self.new)) result }
@@ -160,6 +161,7 @@ impl<D: Disk> Journal<D> {
         ensures calls { OnOk result (TakesMoments 2 (D.told (disk_of self.old))
             (D.told (disk_of self.new))) }
         ensures same { self.new ≡ record self.old { disk = self.new.disk } }
+        ensures other { OtherStays (D.told (disk_of self.old)) (D.told (disk_of self.new)) }
         ensures cause { HasCause (D.faults (disk_of self.old))
             (D.faults (disk_of self.new)) result }
     {
@@ -189,6 +191,7 @@ impl<D: Disk> Journal<D> {
             IsStaged D.told self.old commands → StandsFor D.told self.new commands) }
         ensures err_same { OnErr result (self.new ≡
             record self.old { disk = self.new.disk; is_settled = false }) }
+        ensures other { OtherStays (D.told (disk_of self.old)) (D.told (disk_of self.new)) }
         ensures cause { HasCause (D.faults (disk_of self.old))
             (D.faults (disk_of self.new)) result }
     {
@@ -222,6 +225,7 @@ impl<D: Disk> Journal<D> {
             ≡ false)) }
         ensures same { SameButDisk self.old self.new }
         ensures unmoved { is_settled self.old ≡ true → self.new ≡ self.old }
+        ensures other { OtherStays (D.told (disk_of self.old)) (D.told (disk_of self.new)) }
         ensures cause { HasCause (D.faults (disk_of self.old))
             (D.faults (disk_of self.new)) result }
     {
