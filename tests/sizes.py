@@ -39,7 +39,6 @@ LISTED = {
         "tap_reader": 103,
     },
     "wrong bodies": {
-        "disks": 10,
         "finaliser": 10,
         "http_wire": 10,
         "inclusion_graph": 10,
@@ -57,7 +56,7 @@ LISTED = {
     "wide lines": {
         "call_forms": 4,
         "core_trial": 5,
-        "disks": 34,
+        "disks": 33,
         "fault_counts": 3,
         "field_kinds": 2,
         "finaliser": 2,
