@@ -8,6 +8,7 @@ use Rattle.result_journal.proofs.BeginLaws.{after_sync, sync_moments, later_same
 use Rattle.disks.specs.Parts.{all_synced}
 use Rattle.disks.specs.Moments.{after}
 use Rattle.result_journal.proofs.JournalLaws.{on_each_err}
+use Rattle.result_journal.proofs.OtherLaws.{other_same, other_syncs, other_both}
 use Rattle.result_journal.proofs.opening.begin_part.Goals as goal
 
 pub returns-in_err-sync-clause-any_moment : goal.returns-in_err-sync-clause-any_moment
@@ -163,3 +164,62 @@ returns-in_ok-write_empty_journal-clause-synced g c =
     (c.write_empty_journal.ensures.moments (λ t is. short t (sym same ∙ is)))
     (λ image few_bytes t is.
     short_reads _ old mid c.in_ok-size.size c.in_ok-sync.ensures.syncs few c.in_ok-size.ensures.length image few_bytes t is)
+
+pub returns-in_err-sync-clause-other : goal.returns-in_err-sync-clause-other
+returns-in_err-sync-clause-other g c =
+    other_syncs (g.D.Disk.told c.args.disk.now) (g.D.Disk.told c.sync.new.self) c.sync.result c.sync.ensures.syncs
+
+pub returns-in_err-size-clause-other : goal.returns-in_err-size-clause-other
+returns-in_err-size-clause-other g c =
+    let mid = g.D.Disk.told c.sync.new.self in
+    other_both (g.D.Disk.told c.args.disk.now) mid (g.D.Disk.told c.len.new.self)
+    (other_syncs (g.D.Disk.told c.args.disk.now) mid c.sync.result c.sync.ensures.syncs)
+    (other_same mid (g.D.Disk.told c.len.new.self) (c.len.ensures.told))
+
+pub returns-in_err-check_head-clause-other : goal.returns-in_err-check_head-clause-other
+returns-in_err-check_head-clause-other g c =
+    let mid = g.D.Disk.told c.sync.new.self in
+    other_both (g.D.Disk.told c.args.disk.now) mid (g.D.Disk.told c.check_head.new.disk)
+    (other_syncs (g.D.Disk.told c.args.disk.now) mid c.sync.result c.sync.ensures.syncs)
+    (other_same mid (g.D.Disk.told c.check_head.new.disk) (c.check_head.ensures.told ∙ c.len.ensures.told))
+
+pub returns-then-size-gt-EMPTY_SIZE-clause-other : goal.returns-then-size-gt-EMPTY_SIZE-clause-other
+returns-then-size-gt-EMPTY_SIZE-clause-other g c =
+    let mid = g.D.Disk.told c.sync.new.self in
+    other_both (g.D.Disk.told c.args.disk.now) mid (g.D.Disk.told c.check_head.new.disk)
+    (other_syncs (g.D.Disk.told c.args.disk.now) mid c.sync.result c.sync.ensures.syncs)
+    (other_same mid (g.D.Disk.told c.check_head.new.disk) (c.check_head.ensures.told ∙ c.len.ensures.told))
+
+pub returns-in_err-is_empty_journal-clause-other : goal.returns-in_err-is_empty_journal-clause-other
+returns-in_err-is_empty_journal-clause-other g c =
+    let mid = g.D.Disk.told c.sync.new.self in
+    other_both (g.D.Disk.told c.args.disk.now) mid (g.D.Disk.told c.is_empty_journal.new.disk)
+    (other_syncs (g.D.Disk.told c.args.disk.now) mid c.sync.result c.sync.ensures.syncs)
+    (other_same mid (g.D.Disk.told c.is_empty_journal.new.disk) (c.is_empty_journal.ensures.told ∙ c.len.ensures.told))
+
+pub returns-else-not-branch-clause-other : goal.returns-else-not-branch-clause-other
+returns-else-not-branch-clause-other g c =
+    let mid = g.D.Disk.told c.sync.new.self in
+    other_both (g.D.Disk.told c.args.disk.now) mid (g.D.Disk.told c.is_empty_journal.new.disk)
+    (other_syncs (g.D.Disk.told c.args.disk.now) mid c.sync.result c.sync.ensures.syncs)
+    (other_same mid (g.D.Disk.told c.is_empty_journal.new.disk) (c.is_empty_journal.ensures.told ∙ c.len.ensures.told))
+
+pub returns-in_err-write_empty_journal-clause-other : goal.returns-in_err-write_empty_journal-clause-other
+returns-in_err-write_empty_journal-clause-other g c =
+    let old = g.D.Disk.told c.args.disk.now in
+    let mid = g.D.Disk.told c.sync.new.self in
+    let begun = g.D.Disk.told c.is_empty_journal.new.disk in
+    other_both old begun (g.D.Disk.told c.write_empty_journal.new.disk)
+    (other_both old mid begun (other_syncs old mid c.sync.result c.sync.ensures.syncs)
+    (other_same mid begun (c.is_empty_journal.ensures.told ∙ c.len.ensures.told)))
+    c.write_empty_journal.ensures.other
+
+pub returns-in_ok-write_empty_journal-clause-other : goal.returns-in_ok-write_empty_journal-clause-other
+returns-in_ok-write_empty_journal-clause-other g c =
+    let old = g.D.Disk.told c.args.disk.now in
+    let mid = g.D.Disk.told c.sync.new.self in
+    let begun = g.D.Disk.told c.is_empty_journal.new.disk in
+    other_both old begun (g.D.Disk.told c.write_empty_journal.new.disk)
+    (other_both old mid begun (other_syncs old mid c.sync.result c.sync.ensures.syncs)
+    (other_same mid begun (c.is_empty_journal.ensures.told ∙ c.len.ensures.told)))
+    c.write_empty_journal.ensures.other

@@ -1,6 +1,7 @@
-use Rattle.std.proofs.Common.{◌≡◌, rules, false}
+use Rattle.std.proofs.Common.{◌≡◌, refl, rules, false}
 use Rattle.result_journal.proofs.StandLaws.{at_rest_reads}
 use Rattle.result_journal.proofs.JournalLaws.{rest_of, gate_of, open_long, settle_moments, gate_failed, settle_done, still_moments, settle_stands, unsettled_stands}
+use Rattle.result_journal.proofs.OtherLaws.{other_same}
 use Rattle.result_journal.proofs.journal.Journal.settle.Goals as goal
 
 pub write_through-requires : goal.write_through-requires
@@ -78,3 +79,7 @@ returns-in_ok-write_through-clause-still g c =
           (gate_of g.D.Disk.told c.args.self.now c.requires.0 c.requires.1 as_image (search rules)) _
           (g.D.Disk.told c.write_through.new.disk) c.in_ok-write_through.ensures.writes),
     )
+
+pub returns-else-not-self-clause-other : goal.returns-else-not-self-clause-other
+returns-else-not-self-clause-other g c =
+    other_same (g.D.Disk.told c.args.self.now.disk) (g.D.Disk.told c.args.self.now.disk) refl
