@@ -9,6 +9,7 @@ use Rattle.result_journal.specs.Journals.{before_gate, StandsBut, StandsFor}
 use Rattle.disks.specs.Parts.{Part}
 use Rattle.result_journal.specs.Openings.{IsWholeAt, IsBrokenAt, HasGiven, FindsLength, BrokenFault, IfFits, ShownWhereTold}
 use Rattle.disks.specs.Moments.{Told}
+use Rattle.result_journal.specs.declared.journal.Standing.TheVariants.{Settled}
 use Rattle.result_journal.specs.declared.opening.Opening.{Opening}
 use Rattle.result_journal.specs.declared.opening.OpenFault.{OpenFault}
 use Rattle.result_journal.specs.declared.opening.OpenFault.TheVariants.{NotAJournal, Damaged, NewerVersion, DiskFailed, Memory}
@@ -286,7 +287,7 @@ pub ready_stands : {D : Type 0} (told : D → Option Told) (opening : Opening D)
       end = opening.place;
       staged = opening.staged;
       is_prepared = false;
-      is_settled = true;
+      standing = Settled;
     }) given
 ready_stands told opening given h ended = record {
   when_prepared = λ none. absurd (cc);

@@ -9,7 +9,7 @@ ghost use Rattle.result_journal.specs.Steps.{OtherStays};
 ghost use Rattle.result_journal.specs.Openings.{HasGiven, HasGivenSome, IsBehind, OpensAs, FaultCause, opened_disk, next_gate, is_ended, LeftBeforeOrAlike, AlikeOnceSynced, LongPartStays, ShownWhereTold, CountsOpening, FindsLength, IfFits, BrokenFault, IsNoFaultOfBytes};
 
 use crate::begin::{EMPTY_SIZE, check_head, is_empty_journal, write_empty_journal};
-use crate::journal::Journal;
+use crate::journal::{Journal, Standing};
 use crate::read_whole::read_whole;
 use disks::Disk;
 use fault_counts::Failed;
@@ -130,7 +130,7 @@ impl<D: Disk> Opening<D> {
             end: place,
             staged,
             is_prepared: false,
-            is_settled: true,
+            standing: Standing::Settled,
         }
     }
 
