@@ -2,6 +2,7 @@
 """Kills a program that appends numbered records to a journal, and reopens the journal each time.
 
 What was acknowledged on the program's output has to be found, in order, and nothing else but at most one record more.
+And it is started with closed standard streams, of which none may become the journal.
 """
 
 import pathlib
@@ -60,8 +61,23 @@ def kills(folder):
     return f"{KILLS} kills, {before} records"
 
 
+def closed_streams(folder):
+    """Raises `Wrong` where anything but records comes into a journal whose program has standard streams closed."""
+    program, folder = build(), pathlib.Path(folder)
+    for number, closed in enumerate(("0<&-", "1>&-", "2>&-", "0<&- 1>&- 2>&-")):
+        path = folder / f"journal{number}"
+        for appended in (10, 20):
+            run = ["sh", "-c", f'"$0" append "$1" 10 10 {closed}', program, path]
+            status = subprocess.run(run, stdout=subprocess.DEVNULL, timeout=SECONDS).returncode
+            if status or found(program, path) != appended:
+                raise Wrong(f"{closed}: status {status} after {appended} records")
+
+
+CHECKS = {"what a kill leaves": kills, "standard streams that are closed": closed_streams}
+
+
 def main():
-    return harness.end(*harness.tell("journal crashes", {"what a kill leaves": kills}))
+    return harness.end(*harness.tell("journal crashes", CHECKS))
 
 
 if __name__ == "__main__":

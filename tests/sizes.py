@@ -36,17 +36,15 @@ LISTED = {
         "json_fields": 103,
     },
     "wrong bodies": {
-        "disks": 10,
         "finaliser": 10,
         "inclusion_graph": 10,
         "invocation_world": 10,
         "invocations": 10,
-        "result_journal": 10,
     },
     "wide lines": {
         "call_forms": 4,
         "core_trial": 5,
-        "disks": 34,
+        "disks": 33,
         "fault_counts": 3,
         "field_kinds": 2,
         "finaliser": 2,

@@ -6,32 +6,35 @@ ghost use Rattle.fault_counts.specs.Causes.{HasCause, counted};
 use crate::{Disk, Failed};
 use fault_counts::Count;
 use std::alloc::{AllocError, Global};
-use std::fs::{File, OpenOptions};
+use std::fs::{OpenFile, OpenOptions};
 use std::io;
 use std::os::unix::fs::FileExt;
 use std::rt::Files;
 
 /// Two files as a disk: part 0 at a path, and part 1 at that path with `.1` behind it.
 ///
-/// The file of a part is opened at the first call on that part, and made empty where it is missing. It tells nothing of
-/// what it holds.
+/// The file of a part is opened at the first call on that part, and made empty where it is missing.
+/// It tells nothing of what it holds.
 #[derive(Drop)]
-pub struct FileDisk<R: Files<File = File> + Drop> {
+pub struct FileDisk<R: Files + Drop> {
     rt: R,
-    first: PartFile,
-    second: PartFile,
+    first: PartFile<R::File>,
+    second: PartFile<R::File>,
     faults: Count,
 }
 
 /// The file of a part.
 #[derive(Drop)]
-struct PartFile {
+struct PartFile<F> {
     path: String,
-    file: Option<File>,
-    is_made: bool,
+    file: Option<F>,
+    is_folder_synced: bool,
 }
 
-impl<R: Files<File = File> + Drop> FileDisk<R> {
+impl<R: Files + Drop> FileDisk<R>
+where
+    R::File: FileExt,
+{
     pub fn new(rt: R, alloc: Global, path: &str) -> Result<FileDisk<R>, AllocError>
         ensures { IfOk result (λ d. d.faults ≡ 0) }
     {
@@ -70,7 +73,7 @@ impl<R: Files<File = File> + Drop> FileDisk<R> {
         answer.is_ok()
     }
 
-    fn file(&self, part: u8) -> Option<&File> {
+    fn file(&self, part: u8) -> Option<&R::File> {
         match part {
             0 => self.first.file.as_ref(),
             _ => self.second.file.as_ref(),
@@ -78,21 +81,26 @@ impl<R: Files<File = File> + Drop> FileDisk<R> {
     }
 }
 
-impl PartFile {
-    fn new(path: String) -> PartFile {
+impl<F: OpenFile + Drop> PartFile<F> {
+    fn new(path: String) -> PartFile<F> {
         PartFile {
             path,
             file: None,
-            is_made: false,
+            is_folder_synced: false,
         }
     }
 
     /// Opens the file, unless it is open.
-    fn open(&mut self, rt: &impl Files<File = File>) -> bool {
+    fn open<R: Files<File = F>>(&mut self, rt: &R) -> bool {
         if self.file.is_some() {
             return true;
         }
-        match self.open_or_make(rt) {
+        let opened = OpenOptions::new()
+            .read(true)
+            .write(true)
+            .create(true)
+            .open(rt, self.path.as_str());
+        match opened {
             Ok(file) => {
                 self.file = Some(file);
                 true
@@ -101,35 +109,22 @@ impl PartFile {
         }
     }
 
-    fn open_or_make(&mut self, rt: &impl Files<File = File>) -> io::Result<File> {
-        let path = self.path.as_str();
-        if let Ok(file) = OpenOptions::new().read(true).write(true).open(rt, path) {
-            return Ok(file);
-        }
-        let made = OpenOptions::new()
-            .read(true)
-            .write(true)
-            .create(true)
-            .open(rt, path)?;
-        self.is_made = true;
-        Ok(made)
-    }
-
-    /// Brings the file to the device, and its folder's entry for it where the file was made.
-    fn sync(&mut self, rt: &impl Files<File = File>) -> io::Result<()> {
+    /// Brings the file to the device; and at the first sync the folder's entry for it, too, since
+    /// the process that made the file may have died before it did so.
+    fn sync<R: Files<File = F>>(&mut self, rt: &R) -> io::Result<()> {
         match &self.file {
             Some(file) => file.sync_all()?,
             None => return Ok(()),
         }
-        if self.is_made {
+        if !self.is_folder_synced {
             sync_folder(rt, self.path.as_str())?;
-            self.is_made = false;
+            self.is_folder_synced = true;
         }
         Ok(())
     }
 }
 
-fn sync_folder(rt: &impl Files<File = File>, path: &str) -> io::Result<()> {
+fn sync_folder<R: Files>(rt: &R, path: &str) -> io::Result<()> {
     let folder = folder_of(path);
     let folder = OpenOptions::new().read(true).open(rt, folder)?;
     folder.sync_all()
@@ -144,7 +139,10 @@ fn folder_of(path: &str) -> &str {
     }
 }
 
-impl<R: Files<File = File> + Drop> Disk for FileDisk<R> {
+impl<R: Files + Drop> Disk for FileDisk<R>
+where
+    R::File: FileExt,
+{
     ghost use Rattle.std.specs.Prelude.{None};
 
     ghost faults = { λ d. d.faults };

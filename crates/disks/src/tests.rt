@@ -2,8 +2,13 @@
 ghost use Rattle.std.specs.Prelude.{◌≡◌, ◌≤◌, length};
 
 use crate::*;
-use std::alloc::{AllocError, Global};
+use std::alloc::{AllocError, Allocator, Global};
+use std::cell::Cell;
+use std::fs::{Metadata, OpenFile, OpenOptions};
+use std::io::{self, Error, ErrorKind, Read, Seek, SeekFrom, Write};
+use std::os::unix::fs::FileExt;
 use std::process::Abort;
+use std::rt::Files;
 use std::test::Fail;
 
 fn disk_of(
@@ -61,6 +66,15 @@ const OF_A_WRITE: [(u64, &[u8]); 9] = [
 
 const OF_A_CUT: [(u64, &[u8]); 3] = [(0, b""), (1, b"abcdef"), (4, b"abcdef")];
 
+const OF_A_FAILED_WRITE: [(u64, &[u8]); 4] = [
+    (0, b"abcdef"),
+    (1, b"abcdef"),
+    (4, b"abcdef\xA5\xA5"),
+    (5, &[0xA5; 8]),
+];
+
+const OF_A_FAILED_CUT: [(u64, &[u8]); 3] = [(0, b"abcdef"), (1, b"abcdef"), (6, b"")];
+
 #[test]
 fn images_are_those_of_their_choices(rt: HostRuntime) -> Result<(), Fail> {
     let alloc = rt.alloc();
@@ -71,7 +85,13 @@ fn images_are_those_of_their_choices(rt: HostRuntime) -> Result<(), Fail> {
     check_images(&rt, alloc, &disk, &[(1, b"ABCDEFGH"), (5, b"ABCDEFGH")])?;
     let mut disk = disk_of(alloc, b"abcdef", &[], None)?;
     assert!(rt; disk.cut(0, 0).is_ok());
-    check_images(&rt, alloc, &disk, &OF_A_CUT)
+    check_images(&rt, alloc, &disk, &OF_A_CUT)?;
+    let mut disk = disk_of(alloc, b"abcdef", &[1], None)?;
+    assert!(rt; disk.write_at(0, 0, b"ABCDEFGH").is_err());
+    check_images(&rt, alloc, &disk, &OF_A_FAILED_WRITE)?;
+    let mut disk = disk_of(alloc, b"abcdef", &[1], None)?;
+    assert!(rt; disk.cut(0, 0).is_err());
+    check_images(&rt, alloc, &disk, &OF_A_FAILED_CUT)
 }
 
 #[test]
@@ -103,5 +123,215 @@ fn files_are_parts(rt: HostRuntime) -> Result<(), Fail> {
     let mut nowhere = FileDisk::new(&rt, alloc, "no/such/folder")?;
     assert!(rt; nowhere.len(0).is_err());
     assert_eq!(rt; nowhere.faults(), 1);
+    Ok(())
+}
+
+/// What a script does to a call on a file.
+#[derive(Clone, Copy, Debug)]
+enum Act {
+    /// At most so many bytes are written.
+    Short(usize),
+    Interrupted,
+    Fails,
+}
+
+/// A file and its folder. Their writes and syncs go by a script, and those behind it work.
+#[derive(Drop)]
+struct Script<'a> {
+    acts: &'a [Act],
+    calls: Cell<usize>,
+    bytes: Cell<[u8; 8]>,
+    syncs: Cell<u64>,
+    folder_syncs: Cell<u64>,
+}
+
+impl<'a> Script<'a> {
+    fn new(acts: &'a [Act]) -> Script<'a> {
+        Script {
+            acts,
+            calls: Cell::new(0),
+            bytes: Cell::new([0; 8]),
+            syncs: Cell::new(0),
+            folder_syncs: Cell::new(0),
+        }
+    }
+
+    /// How many bytes the coming call may write.
+    fn most(&self) -> io::Result<usize> {
+        let number = self.calls.get();
+        self.calls.set(number.saturating_add(1));
+        match self.acts.get(number) {
+            Some(Act::Short(most)) => Ok(*most),
+            Some(Act::Interrupted) => Err(Error::from(ErrorKind::Interrupted)),
+            Some(Act::Fails) => Err(Error::from(ErrorKind::Other)),
+            None => Ok(8),
+        }
+    }
+}
+
+#[derive(Clone, Copy)]
+struct ScriptedFiles<'a> {
+    script: &'a Script<'a>,
+}
+
+#[derive(Drop)]
+struct ScriptedFile<'a> {
+    script: &'a Script<'a>,
+    is_folder: bool,
+}
+
+fn unsupported<T>() -> io::Result<T> {
+    Err(Error::from(ErrorKind::Unsupported))
+}
+
+impl<'a> Read for ScriptedFile<'a> {
+    fn read(&mut self, _buf: &mut [u8]) -> io::Result<usize> {
+        Ok(0)
+    }
+}
+
+impl<'a> Write for ScriptedFile<'a> {
+    fn write(&mut self, _buf: &[u8]) -> io::Result<usize> {
+        Ok(0)
+    }
+
+    fn flush(&mut self) -> io::Result<()> {
+        unsupported()
+    }
+}
+
+impl<'a> Seek for ScriptedFile<'a> {
+    fn seek(&mut self, _to: SeekFrom) -> io::Result<u64> {
+        unsupported()
+    }
+}
+
+impl<'a> OpenFile for ScriptedFile<'a> {
+    fn metadata(&self) -> io::Result<Metadata> {
+        unsupported()
+    }
+
+    fn set_len(&self, _size: u64) -> io::Result<()> {
+        unsupported()
+    }
+
+    fn sync_all(&self) -> io::Result<()> {
+        self.script.most()?;
+        let count = if self.is_folder {
+            &self.script.folder_syncs
+        } else {
+            &self.script.syncs
+        };
+        count.set(count.get().saturating_add(1));
+        Ok(())
+    }
+
+    fn sync_data(&self) -> io::Result<()> {
+        unsupported()
+    }
+}
+
+impl<'a> FileExt for ScriptedFile<'a> {
+    fn read_at(&self, _buf: &mut [u8], _offset: u64) -> io::Result<usize> {
+        Ok(0)
+    }
+
+    fn write_at(&self, buf: &[u8], offset: u64) -> io::Result<usize> {
+        let count = self.script.most()?.min(buf.len());
+        let mut bytes = self.script.bytes.get();
+        for (place, byte) in bytes.iter_mut().enumerate() {
+            let from = (place as u64).checked_sub(offset);
+            if let Some(from) = from.filter(|from| *from < count as u64) {
+                *byte = buf[from as usize];
+            }
+        }
+        self.script.bytes.set(bytes);
+        Ok(count)
+    }
+}
+
+impl<'a> Files for ScriptedFiles<'a> {
+    type File = ScriptedFile<'a>;
+
+    type Dir = ScriptedFile<'a>;
+
+    fn open_file(&self, how: &OpenOptions, _path: &str) -> io::Result<ScriptedFile<'a>> {
+        Ok(ScriptedFile {
+            script: self.script,
+            is_folder: !how.asks_write(),
+        })
+    }
+
+    fn open_dir(&self, _path: &str) -> io::Result<ScriptedFile<'a>> {
+        unsupported()
+    }
+
+    fn metadata(&self, _path: &str) -> io::Result<Metadata> {
+        unsupported()
+    }
+
+    fn symlink_metadata(&self, _path: &str) -> io::Result<Metadata> {
+        unsupported()
+    }
+
+    fn copy(&self, _from: &str, _to: &str) -> io::Result<u64> {
+        unsupported()
+    }
+
+    fn rename(&self, _from: &str, _to: &str) -> io::Result<()> {
+        unsupported()
+    }
+
+    fn remove_file(&self, _path: &str) -> io::Result<()> {
+        unsupported()
+    }
+
+    fn create_dir(&self, _path: &str) -> io::Result<()> {
+        unsupported()
+    }
+
+    fn remove_dir(&self, _path: &str) -> io::Result<()> {
+        unsupported()
+    }
+
+    fn remove_dir_all<B: Allocator>(&self, _alloc: B, _path: &str) -> io::Result<()> {
+        unsupported()
+    }
+}
+
+/// A script; which of a write, a sync and another sync work by it; how often the file was synced,
+/// and its folder.
+type Row = (&'static [Act], [bool; 3], [u64; 2]);
+
+const ROWS: [Row; 6] = [
+    (&[], [true, true, true], [2, 1]),
+    (
+        &[Act::Short(2), Act::Interrupted, Act::Short(1)],
+        [true, true, true],
+        [2, 1],
+    ),
+    (&[Act::Short(2), Act::Fails], [false, true, true], [2, 1]),
+    (&[Act::Short(0)], [false, true, true], [2, 1]),
+    (&[Act::Short(6), Act::Fails], [true, false, true], [1, 1]),
+    (
+        &[Act::Short(6), Act::Short(0), Act::Fails],
+        [true, false, true],
+        [2, 1],
+    ),
+];
+
+#[test]
+fn files_are_written_whole_and_synced(rt: HostRuntime) -> Result<(), Fail> {
+    for (acts, works, syncs) in ROWS {
+        let script = Script::new(acts);
+        let files = ScriptedFiles { script: &script };
+        let mut disk = FileDisk::new(files, rt.alloc(), "part")?;
+        let written = disk.write_at(0, 0, b"abcdef").is_ok();
+        let answers = [written, disk.sync(0).is_ok(), disk.sync(0).is_ok()];
+        assert_eq!(rt; answers, works);
+        assert!(rt; !written || script.bytes.get() == *b"abcdef\0\0");
+        assert_eq!(rt; [script.syncs.get(), script.folder_syncs.get()], syncs);
+        assert_eq!(rt; disk.faults() == 0, works == [true, true, true]);
+    }
     Ok(())
 }

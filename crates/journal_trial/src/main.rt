@@ -8,6 +8,7 @@
 mod trial;
 
 use disks::FileDisk;
+use standard_files::{DevNull, hold_standard};
 use std::process::ExitCode;
 use std::{env, io};
 use trial::{append_records, read_records};
@@ -18,6 +19,9 @@ fn number(word: Option<&String>) -> u64 {
 }
 
 fn main(rt: HostRuntime) -> io::Result<ExitCode> {
+    let Ok(_held) = hold_standard(&mut DevNull::new(&rt)) else {
+        return Ok(ExitCode::from(4));
+    };
     let alloc = rt.alloc();
     let words: Vec<String> = env::args(&rt)?.collect(alloc)?;
     let (Some(command), Some(path)) = (words.get(1), words.get(2)) else {

@@ -1,13 +1,13 @@
 -- How a journal is begun anew.
-use Rattle.std.proofs.Common.{◌≡◌, inl, inr, ⊎_elim, ℕ, ◌<◌, ◌≤◌, Option, None, Some, Result, Ok, Err, MatchResult, List, [], ◌∷◌, ◌++◌, length, get_or, take, refl, sym, ◌∙◌, ap, subst, arith, true}
+use Rattle.std.proofs.Common.{◌≡◌, inl, inr, ⊎_elim, ℕ, suc, ◌<◌, ◌≤◌, Option, None, Some, Result, Ok, Err, MatchResult, List, [], ◌∷◌, ◌++◌, length, get_or, take, refl, sym, ◌∙◌, ap, subst, arith, true}
 use Rattle.std.proofs.lemmas.List.{ext_get_or, get_or-take}
-use Rattle.disks.specs.Parts.{Part, Image, IsPartImage, MayLeave, all_synced, written_over, write_begun, cut_begun}
-use Rattle.disks.specs.Moments.{Told, after, AtEachMoment}
+use Rattle.disks.specs.Parts.{Part, Parts, Image, IsPartImage, MayLeave, all_synced, written_over, write_begun, cut_begun}
+use Rattle.disks.specs.Moments.{Told, moment, after, LeftBy, AtEachMoment}
 use Rattle.disks.specs.Calls.{MayHaveBegun, Writes, Cuts, Syncs, ReadsAsImage}
-use Rattle.disks.proofs.MomentLaws.{at_first, at_next, at_both}
+use Rattle.disks.proofs.MomentLaws.{only_now, at_first, at_next, at_both}
 use Rattle.result_journal.specs.Whole.{FillsRoom}
 use Rattle.result_journal.specs.Grammar.{head, IsOfHead, Bodies, LongReads, Reads}
-use Rattle.result_journal.specs.Openings.{LeftBeforeOrAlike, ReadsAlike, Shows, ShownWhereTold}
+use Rattle.result_journal.specs.Openings.{LeftBeforeOrAlike, ReadsAlike, AlikeOnceSynced, Shows, ShownWhereTold}
 use Rattle.result_journal.specs.Begins.{IsShort, IsShortImage, IsHead, HeadFault, IsEmptyJournal, BeginsAs}
 use Rattle.result_journal.specs.declared.opening.OpenFault.{OpenFault}
 use Rattle.result_journal.specs.declared.opening.OpenFault.TheVariants.{NotAJournal, Damaged, NewerVersion, DiskFailed, Memory}
@@ -163,16 +163,62 @@ synced_short E old mid size syncs small long u is =
     let greatest : u.now.first.greatest ≡ length b.0.now.first.bytes = ap (λ (p : Part). p.greatest) b.2 in
     omega (arith, long u is, ap (λ (l : List ℕ). length l) bytes, greatest, small)
 
-pub short_alike : (E : Type 0) (old mid : Option Told) (size : ℕ) → Syncs {E = E} 0 old (Ok tt) mid → size ≤ 9 →
+pub short_reads : (E : Type 0) (old mid : Option Told) (size : ℕ) → Syncs {E = E} 0 old (Ok tt) mid → size ≤ 9 →
     ((u : Told) → mid ≡ Some u → size ≡ length u.now.first.bytes) → (image : Image) → IsShortImage image →
-    LeftBeforeOrAlike old image
-short_alike E old mid size syncs small long image short = λ t is. inr (λ reading reads.
+    (t : Told) → old ≡ Some t → ReadsAlike t.now.first.bytes image.first
+short_reads E old mid size syncs small long image short t is = λ reading reads.
     let few : length t.now.first.bytes ≤ 9 =
     omega (arith, long (after t 0 (all_synced t.now.first.bytes)) (after_sync E old mid syncs t is), small) in
     ⊎_elim
     (λ (none : (length t.now.first.bytes ≤ 9) × (reading ≡ Bodies [])). inl (short, none.1))
     (λ (some : (9 < length t.now.first.bytes) × LongReads t.now.first.bytes reading). absurd (omega (arith, few, some.0)))
-    reads)
+    reads
+
+pub short_alike : (E : Type 0) (old mid : Option Told) (size : ℕ) → Syncs {E = E} 0 old (Ok tt) mid → size ≤ 9 →
+    ((u : Told) → mid ≡ Some u → size ≡ length u.now.first.bytes) → (image : Image) → IsShortImage image →
+    LeftBeforeOrAlike old image
+short_alike E old mid size syncs small long image short =
+    λ t is. inr (short_reads E old mid size syncs small long image short t is)
+
+-- Nothing was left since a moment that is still to come.
+none_yet : (n : ℕ) (past : List Parts) (image : Image) → length past ≤ n → LeftBy n past image → ⊥
+none_yet n [] image late left = left
+none_yet n (parts ∷ past) image late left = ⊎_elim
+    (λ (now : (n ≤ length past) × MayLeave parts image). absurd (omega (arith, now.0)))
+    (λ (before : LeftBy n past image). none_yet n past image (omega arith) before)
+    left
+
+-- Where the first sync failed, there is no later moment;
+pub failed_sync_alike : {E : Type 0} (old new : Option Told) (e : E) → Syncs 0 old (Err e) new → AlikeOnceSynced old new
+failed_sync_alike None new e syncs t u is_t is_u image left = absurd (cc)
+failed_sync_alike (Some s) new e syncs t u is_t is_u image left =
+    let same : u ≡ t = some_told u t (sym is_u ∙ syncs ∙ is_t) in
+    absurd (none_yet (suc (moment t)) (t.now ∷ t.past) image (omega arith)
+    (subst (λ (v : Told). LeftBy (suc (moment t)) (v.now ∷ v.past) image) same left))
+
+-- where it worked and nothing changes the disk, its image is the part;
+pub synced_alike : (E : Type 0) (old mid new : Option Told) → Syncs {E = E} 0 old (Ok tt) mid → new ≡ mid →
+    AlikeOnceSynced old new
+synced_alike E old mid new syncs same t u is_t is_u image left =
+    let next = after t 0 (all_synced t.now.first.bytes) in
+    let here : u ≡ next = some_told u next (sym is_u ∙ same ∙ after_sync E old mid syncs t is_t) in
+    let may = only_now next image
+    (subst (λ (v : Told). LeftBy (suc (moment t)) (v.now ∷ v.past) image) here left) in
+    λ reading reads.
+    subst (λ (l : List ℕ). Reads l reading) (sym (synced_image t.now.first.bytes image.first may.first)) reads
+
+-- and the moments of later calls read so, where each of their images does.
+pub later_alike : (E : Type 0) (old mid between new : Option Told) (P : Image → Type 0) →
+    Syncs {E = E} 0 old (Ok tt) mid → between ≡ mid → AtEachMoment between new P →
+    ((image : Image) → P image → (t : Told) → old ≡ Some t → ReadsAlike t.now.first.bytes image.first) →
+    AlikeOnceSynced old new
+later_alike E old mid between new P syncs same each reads t u is_t is_u image left =
+    let next = after t 0 (all_synced t.now.first.bytes) in
+    let begun : between ≡ Some next = same ∙ after_sync E old mid syncs t is_t in
+    let from_next : AtEachMoment (Some next) new P = subst (λ (o : Option Told). AtEachMoment o new P) begun each in
+    let to_now : AtEachMoment (Some next) (Some u) P =
+    subst (λ (o : Option Told). AtEachMoment (Some next) o P) is_u from_next in
+    reads image (to_now.1 image left) t is_t
 
 -- The bytes after the first sync are those before it.
 pub head_shown : (E : Type 0) (old mid : Option Told) (fault : OpenFault) → Syncs {E = E} 0 old (Ok tt) mid →

@@ -6,8 +6,10 @@ use Rattle.disks.specs.Calls.{ReadsAsImage}
 use Rattle.disks.proofs.MomentLaws.{at_first}
 use Rattle.result_journal.specs.Grammar.{framed, Bodies, Reads}
 use Rattle.result_journal.specs.Steps.{WritesThrough, BeginsBut, IsStaged}
-use Rattle.result_journal.specs.Journals.{ReadsAs, BeforeOrAfter, Leaves, TakesMoments, AtRest, AtGate, IsPrepared, StandsFor, prepared, before_gate}
+use Rattle.result_journal.specs.Journals.{ReadsAs, BeforeOrAfter, Leaves, TakesMoments, AtRest, AtGate, StandsAt, IsPrepared, StandsFor, prepared, is_settled, is_settled_at, before_gate}
 use Rattle.result_journal.specs.declared.journal.Journal.{Journal}
+use Rattle.result_journal.specs.declared.journal.Standing.{Standing}
+use Rattle.result_journal.specs.declared.journal.Standing.TheVariants.{Settled, GateMayBeOpen}
 use Rattle.result_journal.proofs.StandLaws.{stands_leave, at_rest_reads, at_gate_reads, length-piece, rest_long, rest_write, rest_synced, rest_staged, staged_at_gate, gate_write, gate_long, gate_begins, opened, closed_again}
 use Rattle.result_journal.proofs.StepLaws.{EachStep, at_each_step, part_when_done, part_when_failed}
 
@@ -35,40 +37,69 @@ gate_each part commands command end gate at synced = record {
   synced = synced;
 }
 
+-- What stands, by whether anything is to settle.
+module _ (standing : Standing) (part : Part) (commands : List (List ℕ)) (command : List ℕ) (end : ℕ) where
+  at_rest_where : is_settled_at standing ≡ true → StandsAt standing part commands command end → AtRest part commands end
+  at_rest_where settled at = by_case standing settled at
+    where
+      by_case : (s : Standing) → is_settled_at s ≡ true → StandsAt s part commands command end → AtRest part commands end
+      by_case Settled settled at = at
+      by_case GateMayBeOpen settled at = absurd (cc)
+
+  at_gate_where : is_settled_at standing ≡ false → StandsAt standing part commands command end →
+      AtGate part commands command end
+  at_gate_where unsettled at = by_case standing unsettled at
+    where
+      by_case : (s : Standing) → is_settled_at s ≡ false → StandsAt s part commands command end →
+          AtGate part commands command end
+      by_case Settled unsettled at = absurd (cc)
+      by_case GateMayBeOpen unsettled at = at
+
+  stands_settled : is_settled_at standing ≡ true → AtRest part commands end → StandsAt standing part commands command end
+  stands_settled settled at = by_case standing settled
+    where
+      by_case : (s : Standing) → is_settled_at s ≡ true → StandsAt s part commands command end
+      by_case Settled settled = at
+      by_case GateMayBeOpen settled = absurd (cc)
+
+  stands_unsettled : is_settled_at standing ≡ false → AtGate part commands command end →
+      StandsAt standing part commands command end
+  stands_unsettled unsettled at = by_case standing unsettled
+    where
+      by_case : (s : Standing) → is_settled_at s ≡ false → StandsAt s part commands command end
+      by_case Settled unsettled = absurd (cc)
+      by_case GateMayBeOpen unsettled = at
+
 module _ {D : Type 0} (told : D → Option Told) (journal : Journal D) (commands : List (List ℕ))
     (stands : StandsFor told journal commands) (as_image : ReadsAsImage (told journal.disk)) where
-  pub rest_of : journal.is_settled ≡ true → (t : Told) → told journal.disk ≡ Some t →
+  pub rest_of : is_settled journal ≡ true → (t : Told) → told journal.disk ≡ Some t →
       AtRest t.now.first commands journal.end
   rest_of settled t is =
-      subst (λ (b : Bool). MatchBool b (AtRest t.now.first commands journal.end)
-      (AtGate t.now.first commands (prepared journal) journal.end)) settled (stands.on_disk t is)
+      at_rest_where journal.standing t.now.first commands (prepared journal) journal.end settled (stands.on_disk t is)
 
-  pub gate_of : journal.is_settled ≡ false → (t : Told) → told journal.disk ≡ Some t →
+  pub gate_of : is_settled journal ≡ false → (t : Told) → told journal.disk ≡ Some t →
       AtGate t.now.first commands (prepared journal) journal.end
   gate_of unsettled t is =
-      subst (λ (b : Bool). MatchBool b (AtRest t.now.first commands journal.end)
-      (AtGate t.now.first commands (prepared journal) journal.end)) unsettled (stands.on_disk t is)
+      at_gate_where journal.standing t.now.first commands (prepared journal) journal.end unsettled (stands.on_disk t is)
 
-  at_rest_now : journal.is_settled ≡ true → (part : Part) → AtRest part commands journal.end →
-      MatchBool journal.is_settled (AtRest part commands journal.end)
-      (AtGate part commands (prepared journal) journal.end)
+  at_rest_now : is_settled journal ≡ true → (part : Part) → AtRest part commands journal.end →
+      StandsAt journal.standing part commands (prepared journal) journal.end
   at_rest_now settled part rest =
-      subst (λ (b : Bool). MatchBool b (AtRest part commands journal.end)
-      (AtGate part commands (prepared journal) journal.end)) (sym settled) rest
+      stands_settled journal.standing part commands (prepared journal) journal.end settled rest
 
-  pub stage_long : journal.is_settled ≡ true → (t : Told) → told journal.disk ≡ Some t →
+  pub stage_long : is_settled journal ≡ true → (t : Told) → told journal.disk ≡ Some t →
       journal.end + 1 ≤ length t.now.first.bytes
   stage_long settled t is = rest_long t.now.first commands journal.end (rest_of settled t is) (as_image t is).first
 
   pub stage_moments : {E : Type 0} (piece : List ℕ) (new : Option Told) (result : Result Unit E) →
-      journal.is_settled ≡ true → WritesThrough (journal.end + 1) piece (told journal.disk) result new →
+      is_settled journal ≡ true → WritesThrough (journal.end + 1) piece (told journal.disk) result new →
       AtEachMoment (told journal.disk) new (ReadsAs commands)
   stage_moments piece new result settled writes =
       at_each_step (journal.end + 1) piece (told journal.disk) new result (λ c. Reads c (Bodies commands)) writes
       (λ t is. stage_each t.now.first commands journal.end piece (rest_of settled t is) (as_image t is).first)
 
   stage_part : {E : Type 0} (piece : List ℕ) (new : Option Told) (result : Result Unit E) →
-      journal.is_settled ≡ true → WritesThrough (journal.end + 1) piece (told journal.disk) result new →
+      is_settled journal ≡ true → WritesThrough (journal.end + 1) piece (told journal.disk) result new →
       (u : Told) → new ≡ Some u → AtRest u.now.first commands journal.end
   stage_part {E} piece new (Ok done) settled writes u is =
       let d = part_when_done E (journal.end + 1) piece (told journal.disk) new writes u is in
@@ -85,7 +116,7 @@ module _ {D : Type 0} (told : D → Option Told) (journal : Journal D) (commands
       d.2
 
   pub stage_stands : {E : Type 0} (piece : List ℕ) (disk : D) (result : Result Unit E) →
-      journal.is_settled ≡ true → WritesThrough (journal.end + 1) piece (told journal.disk) result (told disk) →
+      is_settled journal ≡ true → WritesThrough (journal.end + 1) piece (told journal.disk) result (told disk) →
       StandsFor told (record journal { disk = disk }) commands
   stage_stands piece disk result settled writes = record {
     when_prepared = λ is. let p = stands.when_prepared is in record { is_body = p.is_body; form = p.form; room = p.room };
@@ -93,7 +124,7 @@ module _ {D : Type 0} (told : D → Option Told) (journal : Journal D) (commands
     on_disk = λ u is. at_rest_now settled u.now.first (stage_part piece (told disk) result settled writes u is);
   }
 
-  pub stage_staged : (E : Type 0) (piece : List ℕ) (disk : D) → journal.is_settled ≡ true →
+  pub stage_staged : (E : Type 0) (piece : List ℕ) (disk : D) → is_settled journal ≡ true →
       journal.is_prepared ≡ true → piece ≡ journal.staged.items →
       WritesThrough {E = E} (journal.end + 1) piece (told journal.disk) (Ok tt) (told disk) →
       IsStaged told (record journal { disk = disk }) commands
@@ -174,7 +205,7 @@ module _ {D : Type 0} (told : D → Option Told) (journal : Journal D) (commands
 
 pub stage_staged_on : {D E : Type 0} (told : D → Option Told) (journal : Journal D) →
     ReadsAsImage (told journal.disk) → (piece : List ℕ) (disk : D) (result : Result Unit E) →
-    journal.is_settled ≡ true → journal.is_prepared ≡ true → piece ≡ journal.staged.items →
+    is_settled journal ≡ true → journal.is_prepared ≡ true → piece ≡ journal.staged.items →
     WritesThrough (journal.end + 1) piece (told journal.disk) result (told disk) →
     OnOk result ((commands : List (List ℕ)) → StandsFor told journal commands →
     IsStaged told (record journal { disk = disk }) commands)
@@ -191,7 +222,7 @@ pub open_stands : {D : Type 0} (told : D → Option Told) (journal : Journal D) 
     (stands : StandsFor told journal commands) → ReadsAsImage (told journal.disk) →
     IsStaged told journal commands → (E : Type 0) (disk : D) (size : ℕ) → size ≡ length journal.staged.items →
     journal.is_prepared ≡ true → WritesThrough {E = E} journal.end (1 ∷ []) (told journal.disk) (Ok tt) (told disk) →
-    StandsFor told (record journal { disk = disk; end = journal.end + size; is_prepared = false; is_settled = true })
+    StandsFor told (record journal { disk = disk; end = journal.end + size; is_prepared = false; standing = Settled })
     (commands ++ prepared journal ∷ [])
 open_stands told journal commands stands as_image staged E disk size is is_prepared writes = record {
   when_prepared = λ none. absurd (cc);
@@ -208,20 +239,20 @@ on_each_err (Ok x) p = tt
 on_each_err (Err e) p = p
 
 pub unsettled_stands : {D : Type 0} (told : D → Option Told) (journal : Journal D) (commands : List (List ℕ)) →
-    StandsFor told journal commands → (disk : D) → journal.is_settled ≡ false →
+    StandsFor told journal commands → (disk : D) → is_settled journal ≡ false →
     ((u : Told) → told disk ≡ Some u → AtGate u.now.first commands (prepared journal) journal.end) →
     StandsFor told (record journal { disk = disk }) commands
 unsettled_stands told journal commands stands disk unsettled at = record {
   when_prepared = λ is. let p = stands.when_prepared is in record { is_body = p.is_body; form = p.form; room = p.room };
   when_unsettled = stands.when_unsettled;
-  on_disk = λ u is. subst (λ (b : Bool). MatchBool b (AtRest u.now.first commands journal.end)
-      (AtGate u.now.first commands (prepared journal) journal.end)) (sym unsettled) (at u is);
+  on_disk = λ u is.
+      stands_unsettled journal.standing u.now.first commands (prepared journal) journal.end unsettled (at u is);
 }
 
 pub settle_stands : {D : Type 0} (told : D → Option Told) (journal : Journal D) (commands : List (List ℕ)) →
     StandsFor told journal commands → (disk : D) →
     ((u : Told) → told disk ≡ Some u → AtRest u.now.first commands journal.end) →
-    StandsFor told (record journal { disk = disk; is_settled = true }) commands
+    StandsFor told (record journal { disk = disk; standing = Settled }) commands
 settle_stands told journal commands stands disk at = record {
   when_prepared = λ is. let p = stands.when_prepared is in record { is_body = p.is_body; form = p.form; room = p.room };
   when_unsettled = λ unsettled. absurd (cc);
@@ -239,14 +270,13 @@ pub still_moments : {D : Type 0} (told : D → Option Told) (journal : Journal D
     AtEachMoment (told journal.disk) (told journal.disk) (BeforeOrAfter commands (prepared journal))
 still_moments told journal commands stands =
     still (told journal.disk) (BeforeOrAfter commands (prepared journal)) (λ t is image may.
-    by_gate journal.is_settled t image may (stands.on_disk t is))
+    by_gate journal.standing t image may (stands.on_disk t is))
   where
-    by_gate : (settled : Bool) (t : Told) (image : Image) → MayLeave t.now image →
-        MatchBool settled (AtRest t.now.first commands journal.end)
-        (AtGate t.now.first commands (prepared journal) journal.end) →
+    by_gate : (standing : Standing) (t : Told) (image : Image) → MayLeave t.now image →
+        StandsAt standing t.now.first commands (prepared journal) journal.end →
         BeforeOrAfter commands (prepared journal) image
-    by_gate true t image may rest = inl (at_rest_reads t.now.first commands journal.end image.first rest may.first)
-    by_gate false t image may at =
+    by_gate Settled t image may rest = inl (at_rest_reads t.now.first commands journal.end image.first rest may.first)
+    by_gate GateMayBeOpen t image may at =
         at_gate_reads t.now.first commands (prepared journal) journal.end image.first at may.first
 
 pub same_command : {D : Type 0} (old new : Journal D) → new ≡ record old { disk = new.disk } →
@@ -254,7 +284,7 @@ pub same_command : {D : Type 0} (old new : Journal D) → new ≡ record old { d
 same_command old new same = ap (λ (j : Journal _). prepared j) same
 
 pub settled_leaves : {D : Type 0} (told : D → Option Told) (journal : Journal D) (commands : List (List ℕ)) →
-    journal.is_settled ≡ true → StandsFor told journal commands → Leaves (told journal.disk) (ReadsAs commands)
+    is_settled journal ≡ true → StandsFor told journal commands → Leaves (told journal.disk) (ReadsAs commands)
 settled_leaves told journal commands settled stands =
     subst (λ (b : Bool). MatchBool b (Leaves (told journal.disk) (ReadsAs commands))
     (Leaves (told journal.disk) (BeforeOrAfter commands (prepared journal)))) settled

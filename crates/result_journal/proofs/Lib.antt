@@ -7,3 +7,4 @@ pub mod JournalLaws
 pub mod WholeLaws
 pub mod OpenLaws
 pub mod BeginLaws
+pub mod OtherLaws

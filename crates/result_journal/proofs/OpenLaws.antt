@@ -9,6 +9,7 @@ use Rattle.result_journal.specs.Journals.{before_gate, StandsBut, StandsFor}
 use Rattle.disks.specs.Parts.{Part}
 use Rattle.result_journal.specs.Openings.{IsWholeAt, IsBrokenAt, HasGiven, FindsLength, BrokenFault, IfFits, ShownWhereTold}
 use Rattle.disks.specs.Moments.{Told}
+use Rattle.result_journal.specs.declared.journal.Standing.TheVariants.{Settled}
 use Rattle.result_journal.specs.declared.opening.Opening.{Opening}
 use Rattle.result_journal.specs.declared.opening.OpenFault.{OpenFault}
 use Rattle.result_journal.specs.declared.opening.OpenFault.TheVariants.{NotAJournal, Damaged, NewerVersion, DiskFailed, Memory}
@@ -140,6 +141,7 @@ pub same_opening : {D : Type 0} (told : D → Option Told) (old new : Opening D)
     HasGiven told new given
 same_opening told old new given same same_told h =
     subst (λ (o : Opening _). HasGiven told o given) (sym same) (record {
+      behind_head = h.behind_head;
       inside = h.inside;
       on_disk = λ t is. h.on_disk t (sym same_told ∙ is);
       when_ended = λ ended t is. h.when_ended ended t (sym same_told ∙ is);
@@ -156,6 +158,7 @@ ended_opening told old new given same same_told h found none finds =
     λ t is. subst (λ (f : Option ℕ). FindsLength t.now.first.bytes old.place f) none
     (finds t is (h.on_disk t is).whole) in
     subst (λ (o : Opening _). HasGiven told (record o { is_ended = true }) given) (sym same) (record {
+      behind_head = h.behind_head;
       inside = h.inside;
       on_disk = λ t is. h.on_disk t (sym same_told ∙ is);
       when_ended = λ _ t is. at t (sym same_told ∙ is);
@@ -196,6 +199,7 @@ pub given_opening : {D : Type 0} (told : D → Option Told) (old new : Opening D
 given_opening told old new given count body same same_told h inside going finds read =
     subst (λ (o : Opening _). HasGiven told (record o { place = o.place + 5 + count }) (given ++ body ∷ [])) (sym same)
     (record {
+      behind_head = omega (arith, h.behind_head);
       inside = inside;
       on_disk = λ t is.
           let b = h.on_disk t (sym same_told ∙ is) in
@@ -215,8 +219,36 @@ given_opening told old new given count body same same_told h inside going finds 
 pub going_opening : {D : Type 0} (told : D → Option Told) (old : Opening D) (given : List (List ℕ)) →
     HasGiven told old given → HasGiven told (record old { is_ended = false }) given
 going_opening told old given h = record {
+  behind_head = h.behind_head;
   inside = h.inside;
   on_disk = h.on_disk;
+  when_ended = λ ended. absurd (cc);
+}
+
+-- What begins with the head and records begins with the head.
+front_taken : (bytes : List ℕ) (given : List (List ℕ)) (place : ℕ) → take place bytes ≡ before_gate given →
+    take 8 bytes ≡ before_gate []
+front_taken bytes given place before =
+    let form : bytes ≡ before_gate given ++ drop place bytes =
+    sym (take-append-drop place bytes) ∙ ap (λ (l : List ℕ). l ++ drop place bytes) before in
+    ap (λ (l : List ℕ). take 8 l) form
+
+-- Back at the first gate nothing was given.
+pub restarted : {D : Type 0} (told : D → Option Told) (old : Opening D) (given : List (List ℕ)) →
+    HasGiven told old given → HasGiven told (record old { place = 8; is_ended = false }) []
+restarted told old given h = record {
+  behind_head = omega arith;
+  inside = omega (arith, h.behind_head, h.inside);
+  on_disk = λ t is.
+      let b = h.on_disk t is in
+      record {
+        synced = b.synced;
+        whole = b.whole;
+        are_bodies = tt;
+        before = front_taken t.now.first.bytes given old.place b.before;
+        after_records = refl;
+        short = b.short;
+      };
   when_ended = λ ended. absurd (cc);
 }
 
@@ -255,7 +287,7 @@ pub ready_stands : {D : Type 0} (told : D → Option Told) (opening : Opening D)
       end = opening.place;
       staged = opening.staged;
       is_prepared = false;
-      is_settled = true;
+      standing = Settled;
     }) given
 ready_stands told opening given h ended = record {
   when_prepared = λ none. absurd (cc);

@@ -9,7 +9,9 @@ use Rattle.result_journal.specs.Grammar.{head, IsBody, framed, records, AreBodie
 use Rattle.result_journal.specs.Steps.{BeginsBut}
 use Rattle.disks.specs.Moments.{Told}
 use Rattle.result_journal.specs.declared.journal.Journal.{Journal}
-use Rattle.result_journal.specs.Journals.{ReadsAs, BeforeOrAfter, Leaves, StandsBut, before_gate, AtRest, AtGate, StandsFor, prepared}
+use Rattle.result_journal.specs.declared.journal.Standing.{Standing}
+use Rattle.result_journal.specs.declared.journal.Standing.TheVariants.{Settled, GateMayBeOpen}
+use Rattle.result_journal.specs.Journals.{ReadsAs, BeforeOrAfter, Leaves, StandsBut, before_gate, AtRest, AtGate, StandsAt, StandsFor, prepared, is_settled, is_settled_at}
 use Rattle.result_journal.proofs.FrameLaws.{length-framed}
 use Rattle.result_journal.proofs.FrontLaws.{Begins, begins, begins_but, get_front, get_but, written_behind, written_byte}
 
@@ -126,18 +128,17 @@ at_gate_reads part commands command end image at is =
 
 -- What a journal that stands for commands leaves.
 pub stands_leave : {D : Type 0} (told : D → Option Told) (journal : Journal D) (commands : List (List ℕ)) →
-    StandsFor told journal commands → MatchBool journal.is_settled
+    StandsFor told journal commands → MatchBool (is_settled journal)
     (Leaves (told journal.disk) (ReadsAs commands))
     (Leaves (told journal.disk) (BeforeOrAfter commands (prepared journal)))
-stands_leave told journal commands stands = by_gate journal.is_settled stands.on_disk
+stands_leave told journal commands stands = by_gate journal.standing stands.on_disk
   where
-    by_gate : (settled : Bool) → ((t : Told) → told journal.disk ≡ Some t →
-        MatchBool settled (AtRest t.now.first commands journal.end)
-        (AtGate t.now.first commands (prepared journal) journal.end)) →
-        MatchBool settled (Leaves (told journal.disk) (ReadsAs commands))
+    by_gate : (standing : Standing) → ((t : Told) → told journal.disk ≡ Some t →
+        StandsAt standing t.now.first commands (prepared journal) journal.end) →
+        MatchBool (is_settled_at standing) (Leaves (told journal.disk) (ReadsAs commands))
         (Leaves (told journal.disk) (BeforeOrAfter commands (prepared journal)))
-    by_gate true at = λ t is image may. at_rest_reads t.now.first commands journal.end image.first (at t is) may.first
-    by_gate false at = λ t is image may.
+    by_gate Settled at = λ t is image may. at_rest_reads t.now.first commands journal.end image.first (at t is) may.first
+    by_gate GateMayBeOpen at = λ t is image may.
         at_gate_reads t.now.first commands (prepared journal) journal.end image.first (at t is) may.first
 
 -- The length of what stands in front.

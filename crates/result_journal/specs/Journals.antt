@@ -1,9 +1,11 @@
 -- How a journal stands on its disk.
-use Rattle.std.specs.Prelude.{◌≡◌, ◌≢◌, ◌⊎◌, ℕ, ◌+◌, ◌-◌, ◌^◌, ◌<◌, ◌≤◌, Bool, true, false, List, [], ◌∷◌, ◌++◌, length, take, drop, slice_index, Option, Some, MatchBool}
+use Rattle.std.specs.Prelude.{◌≡◌, ◌≢◌, ◌⊎◌, ℕ, ◌+◌, ◌-◌, ◌^◌, ◌<◌, ◌≤◌, Bool, true, false, List, [], ◌∷◌, ◌++◌, length, take, drop, slice_index, Option, Some}
 use Rattle.disks.specs.Parts.{Part, Image, MayLeave, is_among}
 use Rattle.disks.specs.Moments.{Told, moment}
 use Rattle.result_journal.specs.Grammar.{head, records, framed, IsBody, AreBodies, Bodies, Reads}
 use Rattle.result_journal.specs.declared.journal.Journal.{Journal}
+use Rattle.result_journal.specs.declared.journal.Standing.{Standing}
+use Rattle.result_journal.specs.declared.journal.Standing.TheVariants.{Settled, GateMayBeOpen}
 
 -- The part 0 of an image reads as these commands.
 abbrev pub ReadsAs : List (List ℕ) → Image → Type 0
@@ -43,6 +45,11 @@ pub record AtGate (part : Part) (commands : List (List ℕ)) (command : List ℕ
   pub place : end ≡ length (before_gate commands)
   pub stands : StandsBut part end (before_gate commands ++ 0 ∷ (framed command ++ 0 ∷ []))
 
+-- How a part stands under a journal that is at rest, or whose gate may be open.
+abbrev pub StandsAt : Standing → Part → List (List ℕ) → List ℕ → ℕ → Type 0
+StandsAt Settled part commands command end = AtRest part commands end
+StandsAt GateMayBeOpen part commands command end = AtGate part commands command end
+
 abbrev pub disk_of : {D : Type 0} → Journal D → D
 disk_of journal = journal.disk
 
@@ -50,8 +57,13 @@ disk_of journal = journal.disk
 abbrev pub end_of : {D : Type 0} → Journal D → ℕ
 end_of journal = journal.end
 
+-- Nothing is to settle.
+abbrev pub is_settled_at : Standing → Bool
+is_settled_at Settled = true
+is_settled_at GateMayBeOpen = false
+
 abbrev pub is_settled : {D : Type 0} → Journal D → Bool
-is_settled journal = journal.is_settled
+is_settled journal = is_settled_at journal.standing
 
 abbrev pub is_prepared : {D : Type 0} → Journal D → Bool
 is_prepared journal = journal.is_prepared
@@ -70,10 +82,9 @@ pub record IsPrepared {D : Type 0} (journal : Journal D) : Type 0 where
 -- commands before the one whose append failed, and that one's gate may be open.
 pub record StandsFor {D : Type 0} (told : D → Option Told) (journal : Journal D) (commands : List (List ℕ)) : Type 0 where
   pub when_prepared : journal.is_prepared ≡ true → IsPrepared journal
-  pub when_unsettled : journal.is_settled ≡ false → journal.is_prepared ≡ true
+  pub when_unsettled : is_settled journal ≡ false → journal.is_prepared ≡ true
   pub on_disk : (t : Told) → told journal.disk ≡ Some t →
-      MatchBool journal.is_settled (AtRest t.now.first commands journal.end)
-      (AtGate t.now.first commands (prepared journal) journal.end)
+      StandsAt journal.standing t.now.first commands (prepared journal) journal.end
 
 abbrev pub StandsForSome : {D : Type 0} → (D → Option Told) → Journal D → Type 0
 StandsForSome told journal = (commands : List (List ℕ)) × StandsFor told journal commands

@@ -1,10 +1,10 @@
 -- How an opening stands on its disk, and what it finds there.
-use Rattle.std.specs.Prelude.{◌≡◌, ◌≢◌, ◌⊎◌, ℕ, ◌+◌, ◌^◌, ◌<◌, ◌≤◌, Bool, true, List, length, take, drop, slice_index, Option, None, Some, Result, Ok, Err}
+use Rattle.std.specs.Prelude.{◌≡◌, ◌≢◌, ◌⊎◌, ℕ, suc, ◌+◌, ◌^◌, ◌<◌, ◌≤◌, Bool, true, List, length, take, drop, slice_index, Option, None, Some, Result, Ok, Err}
 use Rattle.std.specs.List.{slice_index_or}
 use Rattle.std.specs.Int.{w32, to_le_bytes}
 use Rattle.fault_counts.specs.Causes.{Rose}
 use Rattle.disks.specs.Parts.{Part, Image, MayLeave, all_synced}
-use Rattle.disks.specs.Moments.{Told}
+use Rattle.disks.specs.Moments.{Told, moment, LeftSince}
 use Rattle.result_journal.specs.Grammar.{AreBodies, BeginsFramed, Reading, Foreign, Newer, Broken, Reads}
 use Rattle.result_journal.specs.Journals.{before_gate}
 use Rattle.result_journal.specs.Begins.{BeginsAs}
@@ -23,6 +23,7 @@ pub record IsBehind (part : Part) (given : List (List ℕ)) (place size : ℕ) :
 
 -- The opening has given these bodies. Where it has answered that there is no other, the gate behind them is closed.
 pub record HasGiven {D : Type 0} (told : D → Option Told) (opening : Opening D) (given : List (List ℕ)) : Type 0 where
+  pub behind_head : 8 ≤ opening.place
   pub inside : opening.place < opening.size
   pub on_disk : (t : Told) → told opening.disk ≡ Some t → IsBehind t.now.first given opening.place opening.size
   pub when_ended : opening.is_ended ≡ true → (t : Told) → told opening.disk ≡ Some t →
@@ -49,6 +50,17 @@ ReadsAlike one other = (reading : Reading) → Reads one reading → Reads other
 abbrev pub LeftBeforeOrAlike : Option Told → Image → Type 0
 LeftBeforeOrAlike told image = (t : Told) → told ≡ Some t →
     MayLeave t.now image ⊎ ReadsAlike t.now.first.bytes image.first
+
+-- From the moment after the old one on, which is that of a first sync, each image reads as the part
+-- did.
+abbrev pub AlikeOnceSynced : Option Told → Option Told → Type 0
+AlikeOnceSynced old new = (t u : Told) → old ≡ Some t → new ≡ Some u → (image : Image) →
+    LeftSince (suc (moment t)) u image → ReadsAlike t.now.first.bytes image.first
+
+-- What was more than the nine bytes that an opening may begin anew is as it was.
+abbrev pub LongPartStays : Option Told → Option Told → Type 0
+LongPartStays old new = (t u : Told) → old ≡ Some t → new ≡ Some u →
+    9 < length t.now.first.bytes → u.now.first.bytes ≡ t.now.first.bytes
 
 -- The bytes show this fault, where it is one of them.
 abbrev pub Shows : List ℕ → OpenFault → Type 0

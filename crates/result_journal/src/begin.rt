@@ -6,6 +6,7 @@ ghost use Rattle.disks.specs.Calls.{WhereTold};
 ghost use Rattle.result_journal.specs.Grammar.{head, IsOfHead};
 ghost use Rattle.result_journal.specs.Begins.{IsEmptyJournal, IsShort, IsShortImage, HoldsSynced, IsHead, HeadFault};
 ghost use Rattle.result_journal.specs.Openings.{CountsOpening};
+ghost use Rattle.result_journal.specs.Steps.{OtherStays};
 
 use crate::opening::OpenFault;
 use crate::read_whole::read_whole;
@@ -22,6 +23,7 @@ pub fn write_empty_journal<D: Disk>(disk: &mut D) -> Result<(), Failed>
     ensures moments { IsShort (D.told disk.old) → AtEachMoment (D.told disk.old) (D.told disk.new)
         IsShortImage }
     ensures ok { OnOk result (HoldsSynced (D.told disk.new) (head ++ 0 ∷ [])) }
+    ensures other { OtherStays (D.told disk.old) (D.told disk.new) }
     ensures cause { HasCause (D.faults disk.old) (D.faults disk.new) result }
 {
     disk.write_at(0, 0, &EMPTY_JOURNAL)?;

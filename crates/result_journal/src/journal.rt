@@ -2,10 +2,10 @@
 ghost use Rattle.std.specs.Prelude.{◌≡◌, ◌⊎◌, ℕ, ◌+◌, ◌^◌, ◌<◌, ◌≤◌, ◌↔◌, List, [], ◌∷◌, ◌++◌, length, true, false, IfOk, IfErr, OnOk, OnErr, MatchBool};
 ghost use Rattle.result_journal.specs.Grammar.{framed};
 ghost use Rattle.result_journal.specs.Full.{IsFullFor};
-ghost use Rattle.result_journal.specs.Steps.{IsStaged};
+ghost use Rattle.result_journal.specs.Steps.{IsStaged, OtherStays};
 ghost use Rattle.fault_counts.specs.Causes.{HasCause};
 ghost use Rattle.disks.specs.Moments.{Told, AtEachMoment};
-ghost use Rattle.result_journal.specs.Journals.{ReadsAs, BeforeOrAfter, Leaves, StandsFor, StandsForSome, SameButDisk, TakesMoments, disk_of, end_of, is_settled, is_prepared, prepared, IsPrepared};
+ghost use Rattle.result_journal.specs.Journals.{ReadsAs, BeforeOrAfter, Leaves, StandsFor, StandsForSome, SameButDisk, TakesMoments, disk_of, end_of, is_settled, is_settled_at, is_prepared, prepared, IsPrepared};
 
 use crate::DiskFailed;
 use crate::write_through::write_through;
@@ -51,6 +51,26 @@ fn framed_record(alloc: Global, command: &[u8]) -> Result<Vec<u8>, AllocError>
     Ok(record)
 }
 
+/// Whether a call is to be made good.
+#[derive(Clone, Copy, Debug, PartialEq, Eq)]
+pub enum Standing {
+    /// Nothing is to settle.
+    Settled,
+    /// An append failed behind its gate, which may be open.
+    GateMayBeOpen,
+}
+
+impl Standing {
+    fn nothing_is_left(self) -> bool
+        ensures { result ≡ is_settled_at self }
+    {
+        match self {
+            Standing::Settled => true,
+            Standing::GateMayBeOpen => false,
+        }
+    }
+}
+
 /// A journal of commands on part 0 of a disk.
 #[derive(Drop)]
 pub struct Journal<D: Disk> {
@@ -58,7 +78,7 @@ pub struct Journal<D: Disk> {
     pub(crate) end: u64,
     pub(crate) staged: Vec<u8>,
     pub(crate) is_prepared: bool,
-    pub(crate) is_settled: bool,
+    pub(crate) standing: Standing,
 }
 
 impl<D: Disk> Journal<D> {
@@ -69,7 +89,7 @@ impl<D: Disk> Journal<D> {
             MatchBool result (Leaves (D.told (disk_of self.now)) (ReadsAs commands))
             (Leaves (D.told (disk_of self.now)) (BeforeOrAfter commands (prepared self.now))) }
     {
-        self.is_settled
+        self.standing.nothing_is_left()
     }
 
     /// Makes all room that `append` and `settle` need for this command.
@@ -135,6 +155,7 @@ impl<D: Disk> Journal<D> {
             StandsFor D.told self.new commands) }
         ensures err_same { OnErr result (SameButDisk self.old self.new) }
         ensures still { StandsForSome D.told self.new }
+        ensures other { OtherStays (D.told (disk_of self.old)) (D.told (disk_of self.new)) }
 
         ensures cause { HasCause (D.faults (disk_of self.old))
             (D.faults (disk_of self.new)) result }
@@ -160,6 +181,7 @@ impl<D: Disk> Journal<D> {
         ensures calls { OnOk result (TakesMoments 2 (D.told (disk_of self.old))
             (D.told (disk_of self.new))) }
         ensures same { self.new ≡ record self.old { disk = self.new.disk } }
+        ensures other { OtherStays (D.told (disk_of self.old)) (D.told (disk_of self.new)) }
         ensures cause { HasCause (D.faults (disk_of self.old))
             (D.faults (disk_of self.new)) result }
     {
@@ -188,13 +210,14 @@ impl<D: Disk> Journal<D> {
             StandsFor D.told self.old commands →
             IsStaged D.told self.old commands → StandsFor D.told self.new commands) }
         ensures err_same { OnErr result (self.new ≡
-            record self.old { disk = self.new.disk; is_settled = false }) }
+            record self.old { disk = self.new.disk; standing = Standing.GateMayBeOpen }) }
+        ensures other { OtherStays (D.told (disk_of self.old)) (D.told (disk_of self.new)) }
         ensures cause { HasCause (D.faults (disk_of self.old))
             (D.faults (disk_of self.new)) result }
     {
-        self.is_settled = false;
+        self.standing = Standing::GateMayBeOpen;
         write_through(&mut self.disk, self.end, &[OPEN])?;
-        self.is_settled = true;
+        self.standing = Standing::Settled;
         self.is_prepared = false;
         self.end += self.staged.len() as u64;
         Ok(())
@@ -222,12 +245,13 @@ impl<D: Disk> Journal<D> {
             ≡ false)) }
         ensures same { SameButDisk self.old self.new }
         ensures unmoved { is_settled self.old ≡ true → self.new ≡ self.old }
+        ensures other { OtherStays (D.told (disk_of self.old)) (D.told (disk_of self.new)) }
         ensures cause { HasCause (D.faults (disk_of self.old))
             (D.faults (disk_of self.new)) result }
     {
-        if !self.is_settled {
+        if !self.is_settled() {
             write_through(&mut self.disk, self.end, &[CLOSED])?;
-            self.is_settled = true;
+            self.standing = Standing::Settled;
         }
         Ok(())
     }
@@ -248,7 +272,7 @@ impl<D: Disk> Journal<D> {
             end: _,
             staged: _,
             is_prepared: _,
-            is_settled: _,
+            standing: _,
         } = self;
         disk
     }

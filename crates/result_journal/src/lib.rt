@@ -10,7 +10,7 @@ mod read_whole;
 mod write_through;
 
 use fault_counts::Failed;
-pub use journal::{Full, Journal};
+pub use journal::{Full, Journal, Standing};
 pub use laws::one_reading;
 pub use opening::{OpenFault, Opening};
 pub use plain::PlainJournal;

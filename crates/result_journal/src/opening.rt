@@ -5,10 +5,11 @@ ghost use Rattle.disks.specs.Moments.{Told, AtEachMoment};
 ghost use Rattle.disks.specs.Calls.{WhereTold};
 ghost use Rattle.result_journal.specs.Grammar.{Reads, Bodies, IsBody};
 ghost use Rattle.result_journal.specs.Journals.{StandsFor, disk_of, end_of, is_settled, is_prepared};
-ghost use Rattle.result_journal.specs.Openings.{HasGiven, HasGivenSome, IsBehind, OpensAs, FaultCause, opened_disk, next_gate, is_ended, LeftBeforeOrAlike, ReadsAlike, ShownWhereTold, CountsOpening, FindsLength, IfFits, BrokenFault, IsNoFaultOfBytes};
+ghost use Rattle.result_journal.specs.Steps.{OtherStays};
+ghost use Rattle.result_journal.specs.Openings.{HasGiven, HasGivenSome, IsBehind, OpensAs, FaultCause, opened_disk, next_gate, is_ended, LeftBeforeOrAlike, AlikeOnceSynced, LongPartStays, ShownWhereTold, CountsOpening, FindsLength, IfFits, BrokenFault, IsNoFaultOfBytes};
 
 use crate::begin::{EMPTY_SIZE, check_head, is_empty_journal, write_empty_journal};
-use crate::journal::Journal;
+use crate::journal::{Journal, Standing};
 use crate::read_whole::read_whole;
 use disks::Disk;
 use fault_counts::Failed;
@@ -58,6 +59,9 @@ pub struct Opening<D: Disk> {
     staged: Vec<u8>,
 }
 
+/// The place behind the head.
+const FIRST_GATE: u64 = 8;
+
 const OPEN: u8 = 1;
 
 const GREATEST_BODY: u32 = 1 << 23;
@@ -75,10 +79,17 @@ impl<D: Disk> Opening<D> {
         ensures place { IfOk result (λ o. next_gate o ≡ 8) }
         ensures shown { IfErr result (λ e. ShownWhereTold (D.told disk) e.0) }
 
+        // A part that is refused stays, and so does the other part, whatever is answered.
+        ensures kept { IfErr result (λ e. LongPartStays (D.told disk) (D.told e.1)) }
+        ensures other { IfOk result (λ o. OtherStays (D.told disk) (D.told (opened_disk o))) }
+        ensures other_err { IfErr result (λ e. OtherStays (D.told disk) (D.told e.1)) }
+
         ensures any_moment { IfOk result (λ o. AtEachMoment (D.told disk) (D.told (opened_disk o))
             (LeftBeforeOrAlike (D.told disk))) }
         ensures any_moment_err { IfErr result (λ e. AtEachMoment (D.told disk) (D.told e.1)
             (LeftBeforeOrAlike (D.told disk))) }
+        ensures synced { IfOk result (λ o. AlikeOnceSynced (D.told disk) (D.told (opened_disk o))) }
+        ensures synced_err { IfErr result (λ e. AlikeOnceSynced (D.told disk) (D.told e.1)) }
 
         ensures no_cause { IfOk result (λ o. D.faults (opened_disk o) ≡ D.faults disk) }
         ensures cause { IfErr result (λ e. FaultCause (D.faults disk) e.0 (D.faults e.1)) }
@@ -88,7 +99,7 @@ impl<D: Disk> Opening<D> {
             Ok(size) => Ok(Opening {
                 disk,
                 size,
-                place: 8,
+                place: FIRST_GATE,
                 is_ended: false,
                 staged: Vec::new(alloc),
             }),
@@ -119,7 +130,7 @@ impl<D: Disk> Opening<D> {
             end: place,
             staged,
             is_prepared: false,
-            is_settled: true,
+            standing: Standing::Settled,
         }
     }
 
@@ -137,6 +148,18 @@ impl<D: Disk> Opening<D> {
         disk
     }
 
+    /// Goes back to the first gate, as it was after `begin`.
+    pub fn restart(&mut self)
+        requires { HasGivenSome D.told self.old }
+        ensures given { HasGiven D.told self.new [] }
+        ensures place { next_gate self.new ≡ 8 }
+        ensures going { is_ended self.new ≡ false }
+        ensures disk { opened_disk self.new ≡ opened_disk self.old }
+    {
+        self.place = FIRST_GATE;
+        self.is_ended = false;
+    }
+
     /// Puts the next record's body into `into`, and answers the place of its first byte, or `None` at the closed gate.
     ///
     /// `into` is left empty by `None` and by a fault.
@@ -151,6 +174,10 @@ impl<D: Disk> Opening<D> {
         ensures place { IfOk result (λ found. MatchOption found ⊤ (λ place. place
             ≡ next_gate self.old + 5)) }
         ensures body { IfOk result (λ found. MatchOption found ⊤ (λ place. IsBody into.new.items)) }
+
+        ensures gate { IfOk result (λ found. MatchOption found
+            (next_gate self.new ≡ next_gate self.old)
+            (λ place. next_gate self.new ≡ place + length into.new.items)) }
 
         // or the end, and then these were all,
         ensures ends { IfOk result (λ found. MatchOption found (is_ended self.new ≡ true)
@@ -295,6 +322,9 @@ fn begin_part<D: Disk>(disk: &mut D) -> Result<u64, OpenFault>
         IsBehind t.now.first [] 8 size) }
     ensures begins { OnOk result (OpensAs (D.told disk.old) (D.told disk.new)) }
     ensures shown { IfErr result (ShownWhereTold (D.told disk.old)) }
+    ensures kept { OnErr result (LongPartStays (D.told disk.old) (D.told disk.new)) }
+    ensures other { OtherStays (D.told disk.old) (D.told disk.new) }
+    ensures synced { AlikeOnceSynced (D.told disk.old) (D.told disk.new) }
     ensures any_moment { AtEachMoment (D.told disk.old) (D.told disk.new) (LeftBeforeOrAlike
         (D.told disk.old)) }
     ensures cause { CountsOpening (D.faults disk.old) result (D.faults disk.new) }

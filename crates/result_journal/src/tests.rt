@@ -43,12 +43,15 @@ fn append_twice<D: Disk>(journal: &mut Journal<D>) -> bool
     journal.append().is_ok()
 }
 
-/// The commands that a disk's journal holds, each behind its length.
+/// The commands that a disk's journal holds, each behind its length. The first one is read twice.
 fn read_back<D: Disk + Drop>(alloc: Global, disk: D) -> Result<Vec<u8>, Fail> {
     let mut opening = match Opening::begin(alloc, disk) {
         Ok(opening) => opening,
         Err((fault, _)) => return Err(Fail::from(fault)),
     };
+    let mut first = Vec::new(alloc);
+    opening.next(alloc, &mut first)?;
+    opening.restart();
     let mut read = Vec::new(alloc);
     for _ in 0..8 {
         let mut body = Vec::new(alloc);

@@ -2,6 +2,7 @@ use Rattle.std.proofs.Common.{inl, List, [], ◌∷◌, ◌++◌, ℕ, subst}
 use Rattle.disks.proofs.MomentLaws.{at_both}
 use Rattle.result_journal.specs.Journals.{ReadsAs, BeforeOrAfter, prepared, StandsFor}
 use Rattle.result_journal.proofs.JournalLaws.{on_each_err, settled_leaves, takes_both, same_command}
+use Rattle.result_journal.proofs.OtherLaws.{other_both}
 use Rattle.result_journal.proofs.journal.Journal.append.Goals as goal
 
 pub open_gate-requires-clause-stands : goal.open_gate-requires-clause-stands
@@ -76,3 +77,13 @@ returns-clause-still g c = (
   c.in_ok-open_gate.ensures.ok c.requires.stands.0 (c.stage.ensures.stands c.requires.stands.0 c.requires.stands.1)
       (c.in_ok-stage.ensures.staged c.requires.stands.0 c.requires.stands.1),
 )
+
+pub returns-in_err-open_gate-clause-other : goal.returns-in_err-open_gate-clause-other
+returns-in_err-open_gate-clause-other g c =
+    other_both (g.D.Disk.told c.args.self.now.disk) (g.D.Disk.told c.stage.new.self.disk)
+    (g.D.Disk.told c.open_gate.new.self.disk) c.stage.ensures.other c.open_gate.ensures.other
+
+pub returns-clause-other : goal.returns-clause-other
+returns-clause-other g c =
+    other_both (g.D.Disk.told c.args.self.now.disk) (g.D.Disk.told c.stage.new.self.disk)
+    (g.D.Disk.told c.open_gate.new.self.disk) c.stage.ensures.other c.open_gate.ensures.other

@@ -1,6 +1,8 @@
-use Rattle.std.proofs.Common.{◌≡◌, rules, false}
+use Rattle.std.proofs.Common.{◌≡◌, refl, rules, false}
 use Rattle.result_journal.proofs.StandLaws.{at_rest_reads}
 use Rattle.result_journal.proofs.JournalLaws.{rest_of, gate_of, open_long, settle_moments, gate_failed, settle_done, still_moments, settle_stands, unsettled_stands}
+use Rattle.result_journal.specs.Journals.{is_settled}
+use Rattle.result_journal.proofs.OtherLaws.{other_same}
 use Rattle.result_journal.proofs.journal.Journal.settle.Goals as goal
 
 pub write_through-requires : goal.write_through-requires
@@ -26,7 +28,7 @@ returns-in_ok-write_through-clause-any_moment g c = λ commands stands.
 pub returns-in_err-write_through-clause-commands : goal.returns-in_err-write_through-clause-commands
 returns-in_err-write_through-clause-commands g c = λ commands stands.
     let image = g.met.D.Disk.reads_as_image c.args.self.now.disk in
-    let unsettled : c.args.self.now.is_settled ≡ false = search rules in
+    let unsettled : is_settled c.args.self.now ≡ false = search rules in
     unsettled_stands g.D.Disk.told c.args.self.now commands stands c.write_through.new.disk unsettled
     (gate_failed g.D.Disk.told c.args.self.now commands stands image
     (gate_of g.D.Disk.told c.args.self.now commands stands image unsettled) 0
@@ -48,12 +50,12 @@ returns-in_ok-write_through-clause-commands g c = λ commands stands.
     (gate_of g.D.Disk.told c.args.self.now commands stands as_image (search rules)) _
     (g.D.Disk.told c.write_through.new.disk) c.in_ok-write_through.ensures.writes)
 
-pub returns-else-not-self-clause-any_moment : goal.returns-else-not-self-clause-any_moment
-returns-else-not-self-clause-any_moment g c = λ commands stands.
+pub returns-else-not-is_settled-clause-any_moment : goal.returns-else-not-is_settled-clause-any_moment
+returns-else-not-is_settled-clause-any_moment g c = λ commands stands.
     still_moments g.D.Disk.told c.args.self.now commands stands
 
-pub returns-else-not-self-clause-settled : goal.returns-else-not-self-clause-settled
-returns-else-not-self-clause-settled g c = λ commands stands t is image may.
+pub returns-else-not-is_settled-clause-settled : goal.returns-else-not-is_settled-clause-settled
+returns-else-not-is_settled-clause-settled g c = λ commands stands t is image may.
     at_rest_reads t.now.first commands c.args.self.now.end image.first
     (rest_of g.D.Disk.told c.args.self.now commands stands (g.met.D.Disk.reads_as_image c.args.self.now.disk)
     (search rules) t is) may.first
@@ -61,7 +63,7 @@ returns-else-not-self-clause-settled g c = λ commands stands t is image may.
 pub returns-in_err-write_through-clause-still : goal.returns-in_err-write_through-clause-still
 returns-in_err-write_through-clause-still g c =
     let image = g.met.D.Disk.reads_as_image c.args.self.now.disk in
-    let unsettled : c.args.self.now.is_settled ≡ false = search rules in (
+    let unsettled : is_settled c.args.self.now ≡ false = search rules in (
       c.requires.0,
       unsettled_stands g.D.Disk.told c.args.self.now c.requires.0 c.requires.1 c.write_through.new.disk unsettled
           (gate_failed g.D.Disk.told c.args.self.now c.requires.0 c.requires.1 image
@@ -78,3 +80,7 @@ returns-in_ok-write_through-clause-still g c =
           (gate_of g.D.Disk.told c.args.self.now c.requires.0 c.requires.1 as_image (search rules)) _
           (g.D.Disk.told c.write_through.new.disk) c.in_ok-write_through.ensures.writes),
     )
+
+pub returns-else-not-is_settled-clause-other : goal.returns-else-not-is_settled-clause-other
+returns-else-not-is_settled-clause-other g c =
+    other_same (g.D.Disk.told c.args.self.now.disk) (g.D.Disk.told c.args.self.now.disk) refl
