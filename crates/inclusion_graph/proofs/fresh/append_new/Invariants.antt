@@ -1,7 +1,7 @@
 use Rattle.std.proofs.Common.{◌≡◌, ◌+◌, ◌≤◌, ◌++◌, length, take, drop, vec_len, vec_capacity}
 use Rattle.inclusion_graph.specs.Edges.{fresh}
 use Rattle.inclusion_graph.specs.Searches.{IsJoined}
-use Rattle.inclusion_graph.proofs.fresh.append_by_edges.Given as goal
+use Rattle.inclusion_graph.proofs.fresh.append_new.Given as goal
 
 abbrev pub invariant-loop-target : goal.invariant-loop-target
 invariant-loop-target l = record {

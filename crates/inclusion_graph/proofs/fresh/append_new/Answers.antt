@@ -4,7 +4,7 @@ use Rattle.inclusion_graph.specs.Edges.{fresh}
 use Rattle.inclusion_graph.specs.Searches.{IsJoined}
 use Rattle.inclusion_graph.proofs.FreshLemmas.{fresh_few, joined_marked, joined_more, joined_start, joined_unmarked}
 use Rattle.inclusion_graph.proofs.ListLemmas.{fresh_step}
-use Rattle.inclusion_graph.proofs.fresh.append_by_edges.Goals as goal
+use Rattle.inclusion_graph.proofs.fresh.append_new.Goals as goal
 
 pub loop-target-init : goal.loop-target-init
 loop-target-init c = record {
