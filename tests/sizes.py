@@ -40,7 +40,6 @@ LISTED = {
     },
     "wrong bodies": {
         "disks": 10,
-        "finaliser": 10,
         "http_wire": 10,
         "invocation_world": 10,
         "json_fields": 10,
