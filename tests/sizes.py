@@ -41,7 +41,6 @@ LISTED = {
     "wrong bodies": {
         "disks": 10,
         "http_wire": 10,
-        "invocation_world": 10,
         "json_fields": 10,
         "junit_parts": 8,
         "message_forms": 10,
