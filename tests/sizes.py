@@ -35,12 +35,6 @@ LISTED = {
     "functions": {
         "json_fields": 103,
     },
-    "wrong bodies": {
-        "finaliser": 10,
-        "inclusion_graph": 10,
-        "invocation_world": 10,
-        "invocations": 10,
-    },
     "wide lines": {
         "call_forms": 4,
         "core_trial": 5,

@@ -6,11 +6,9 @@ mod candidates;
 mod finaliser;
 mod laws;
 mod node_set;
-mod settling;
 #[cfg(test)]
 mod tests;
 mod watches;
 
 pub use finaliser::Finaliser;
 pub use laws::{in_turn_is_at_once, settles_in_one_way};
-pub use settling::plain_settle;

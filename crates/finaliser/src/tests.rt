@@ -1,9 +1,6 @@
-//! Retirements one after the other, beside the plain program and what the graph says is reached.
-ghost use Rattle.std.specs.Prelude.{ℕ, ◌<◌, IsTrue, All};
+//! Retirements one after the other, beside what the graph says is reached.
 
-use crate::{Finaliser, plain_settle};
-use inclusion_graph::Graph;
-use names_realms::State;
+use crate::Finaliser;
 use std::alloc::{AllocError, Global};
 use std::test::Fail;
 
@@ -100,46 +97,15 @@ const ROWS: [(&[(u32, u32)], &[(u32, &[u32])]); 7] = [
     ),
 ];
 
-/// Retires a node by the plain program. What is newly final.
-fn retire_plainly(
-    alloc: Global,
-    graph: &Graph,
-    states: &mut Vec<State>,
-    node: u32,
-) -> Result<Vec<u32>, AllocError> {
-    if states.len() != graph.nodes() as usize || node >= graph.nodes() {
-        return Ok(Vec::new(alloc));
-    }
-    states[node as usize] = State::Finalizing;
-    plain_settle(alloc, graph.edges(), states)
-}
-
-/// Whether each node has this state in the finaliser too.
-fn are_states(finaliser: &Finaliser, states: &[State]) -> bool {
-    for node in 0..finaliser.graph().nodes() {
-        let Some(state) = states.get(node as usize) else {
-            return false;
-        };
-        if finaliser.is_active(node) != (*state == State::Active)
-            || finaliser.is_final(node) != (*state == State::Finalized)
-        {
-            return false;
-        }
-    }
-    true
-}
-
 /// Whether a node would be final, if it is active.
 fn would_be_final(finaliser: &mut Finaliser, node: u32) -> bool {
     node < finaliser.graph().nodes() && finaliser.is_active(node) && finaliser.would_be_final(node)
 }
 
-/// Whether a retirement does what the plain program does, and what is said before, and leaves what
-/// the graph says.
-fn turns_alike(
+/// Whether a retirement makes these nodes final, as is said before, and leaves what the graph says.
+fn turn_holds(
     alloc: Global,
     finaliser: &mut Finaliser,
-    states: &mut Vec<State>,
     node: u32,
     finals: &[u32],
 ) -> Result<bool, AllocError> {
@@ -147,12 +113,9 @@ fn turns_alike(
     if !retire(finaliser, node) || retire(finaliser, node) {
         return Ok(false);
     }
-    let plain = retire_plainly(alloc, finaliser.graph(), states, node)?;
     Ok(
         would == finals.contains(&node)
             && finaliser.finals() == finals
-            && plain.as_slice() == finals
-            && are_states(finaliser, states.as_slice())
             && is_settled(alloc, finaliser)?,
     )
 }
@@ -175,7 +138,6 @@ fn row_holds(
     noted: bool,
 ) -> Result<bool, AllocError> {
     let mut finaliser = finaliser_of(alloc, 5)?;
-    let mut states = vec![in alloc; State::Active; 5]?;
     for (from, target) in edges {
         if !include(alloc, &mut finaliser, *from, *target) {
             return Ok(false);
@@ -185,7 +147,7 @@ fn row_holds(
         note_all(&mut finaliser);
     }
     for (node, finals) in turns {
-        if !turns_alike(alloc, &mut finaliser, &mut states, *node, finals)? {
+        if !turn_holds(alloc, &mut finaliser, *node, finals)? {
             return Ok(false);
         }
         if include(alloc, &mut finaliser, *node, 4) {

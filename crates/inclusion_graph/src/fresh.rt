@@ -133,28 +133,6 @@ fn append_by_marks(targets: &[u32], marks: &mut Vec<bool>, all: &mut Vec<u32>)
     unmark(marks, all.as_slice());
 }
 
-/// Appends those of the targets that a node hasn't yet, as `append_new`, by the edges at each.
-fn append_by_edges(
-    edges: &EdgeList,
-    from: u32,
-    targets: &[u32],
-    marks: &mut Vec<bool>,
-    all: &mut Vec<u32>,
-)
-    requires held { all.old.items ≡ targets_of edges.now.edges from }
-    requires targets { All (λ target. target < edges.now.nodes) targets.now }
-    requires marks { HasMarks marks.old.items edges.now.nodes [] }
-    requires room { vec_len all.old + length targets.now ≤ vec_capacity all.old }
-    ensures all { all.new.items ≡ all.old.items ++ fresh all.old.items targets.now }
-    ensures marks { HasMarks marks.new.items edges.now.nodes [] }
-    ensures capacity { vec_capacity marks.new ≡ vec_capacity marks.old }
-{
-    for target in targets {
-        join(edges, from, *target, marks, all);
-    }
-    unmark(marks, targets);
-}
-
 /// Appends to the targets of a node those of the given ones that it hasn't yet, each once, in
 /// order. There is room for them. No node is marked before, and none afterwards. A few targets are
 /// sought by the edges at them; more by marks of all that the node has.
@@ -176,9 +154,12 @@ pub(crate) fn append_new(
 {
     if targets.len() > FEW {
         append_by_marks(targets, marks, all);
-    } else {
-        append_by_edges(edges, from, targets, marks, all);
+        return;
     }
+    for target in targets {
+        join(edges, from, *target, marks, all);
+    }
+    unmark(marks, targets);
 }
 
 /// Marks a target. One, where it wasn't marked, else none.

@@ -5,8 +5,6 @@ mod edge;
 mod edge_list;
 mod fresh;
 mod graph;
-#[cfg(test)]
-mod plain;
 mod plan;
 mod search;
 #[cfg(test)]

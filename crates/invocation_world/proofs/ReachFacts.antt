@@ -12,6 +12,7 @@ use Rattle.inclusion_graph.specs.Walks.{Reaches}
 use Rattle.inclusion_graph.proofs.ListLemmas.{in_one}
 use Rattle.inclusion_graph.proofs.WalkLemmas.{along, reaches_itself, reaches_more}
 use Rattle.finaliser.specs.Settling.{IsIn, ReachesActive}
+use Rattle.invocation_world.specs.World.{IsInclusion}
 use Rattle.invocation_world.proofs.RowFacts.{stands}
 
 pub reaches_join : (edges : List Edge) (a b c : ℕ) → Reaches edges a b → Reaches edges b c → Reaches edges a c
@@ -26,6 +27,12 @@ reaches_over edges others more a b h =
 pub reaches_appended : (edges new : List Edge) (a b : ℕ) → Reaches edges a b → Reaches (edges ++ new) a b
 reaches_appended edges new a b h =
     reaches_over edges (edges ++ new) (λ x y edge. Contains-append_left edges new (record { from = x; to = y }) edge) a b h
+
+-- what is reached from a row is a row
+pub reaches_row : (count : ℕ) (edges : List Edge) (a b : ℕ) → All (IsInclusion count) edges → a < count → Reaches edges a b → b < count
+reaches_row count edges a b joined within h =
+    along edges (λ x. x < count) (λ x y so edge. (All-contains (IsInclusion count) edges (record { from = x; to = y }) joined edge).1) h.0 a b
+    h.1 within
 
 -- by new edges from one node alone, nothing more is reached but from that node
 pub reaches_split : (edges new : List Edge) (p : ℕ) → All (λ (e : Edge). e.from ≡ p) new → (a b : ℕ) → Reaches (edges ++ new) a b

@@ -64,7 +64,8 @@ ChangesKeepValid =
     → length w.inclusions + length (fresh (targets_of w.inclusions place) targets) ≤ 262_144
     → IsValid (with_inclusions moment place targets w))
 
--- The rows that are final stay as they are, and what they include and reach stays.
+-- The rows that are final stay as they are, and what they include and reach stays. In a valid world
+-- each row that a final one reaches is final itself, before and after, and stays as it is.
 pub record KeepsFinal (w after : World) : Type 0 where
   pub rows : (place : ℕ) (row : Invocation) → slice_get w.invocations place ≡ Some row
       → row.state ≡ Finalized
@@ -73,6 +74,10 @@ pub record KeepsFinal (w after : World) : Type 0 where
       → targets_of after.inclusions place ≡ targets_of w.inclusions place
   pub reached : (place other : ℕ) → IsInState Finalized w.invocations place
       → Reaches after.inclusions place other ↔ Reaches w.inclusions place other
+  pub all_final : IsValid w → (place other : ℕ) → IsInState Finalized w.invocations place
+      → Reaches w.inclusions place other
+      → IsInState Finalized w.invocations other × IsInState Finalized after.invocations other
+      × (slice_get after.invocations other ≡ slice_get w.invocations other)
 
 abbrev pub AdvanceKeepsFinal : Type 0
 AdvanceKeepsFinal = (moment : ℤ) (w after : World) → Advances w moment after → KeepsFinal w after

@@ -220,7 +220,7 @@ fn retire(world: &mut InvocationWorld, place: u32, at: u32) -> bool {
     place < world.count() && told == (world.row(place).state == State::Finalized)
 }
 
-/// The deadline that is given, where it isn't 0, if it is behind a moment.
+/// The deadline that is given, where it isn't 0, if it is after a moment.
 fn deadline_of(deadline: u32, at: u32) -> Option<Moment>
     ensures { ForSome result (λ given. (pos at <ℤ given) × (given ≤ℤ latest_deadline)) }
 {
@@ -358,7 +358,7 @@ fn are_told(alloc: Global, world: &InvocationWorld) -> Result<bool, Fail> {
     )
 }
 
-/// Steps that can't be taken behind those of the first case: a taken id, an inclusion in itself,
+/// Steps that can't be taken after those of the first case: a taken id, an inclusion in itself,
 /// and the retirement of a row that isn't active.
 const REFUSED: [Step; 3] = [
     Step::Add("u-b", 90, 20),
@@ -366,7 +366,7 @@ const REFUSED: [Step; 3] = [
     Step::Retire(0, 20),
 ];
 
-/// Whether behind a case these steps can't be taken, and the rows are told.
+/// Whether after a case these steps can't be taken, and the rows are told.
 fn are_refused(alloc: Global, case: &Case, refused: &[Step]) -> Result<bool, Fail> {
     let mut world = InvocationWorld::new(alloc)?;
     are_refused_then(alloc, &mut world, case, refused)

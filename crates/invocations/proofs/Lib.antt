@@ -1,5 +1,5 @@
-pub mod DueLemmas
 pub mod IndexedRows
+pub mod LawLemmas
 pub mod OrderLemmas
 pub mod OrderedRows
 pub mod RowLemmas

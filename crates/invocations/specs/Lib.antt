@@ -1,5 +1,5 @@
 pub mod Due
 pub mod Faults
+pub mod Laws
 pub mod Orders
 pub mod Rows
-pub mod Scans

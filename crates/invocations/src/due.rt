@@ -17,20 +17,6 @@ pub(crate) struct Due {
     pub(crate) place: u32,
 }
 
-impl Due {
-    /// The other one, where its deadline is earlier.
-    pub(crate) fn or_sooner(self, other: Due) -> Due
-        ensures { ((result ≡ other) × (other.deadline <ℤ self.deadline))
-            ⊎ ((result ≡ self) × (self.deadline ≤ℤ other.deadline)) }
-    {
-        if other.deadline < self.deadline {
-            other
-        } else {
-            self
-        }
-    }
-}
-
 /// The deadlines of the active rows, in order, those that are equal in the order of the places.
 #[derive(Drop)]
 pub(crate) struct DueIndex {

@@ -5,7 +5,7 @@ mod due;
 mod faults;
 mod ids;
 mod invocation;
-pub mod plain;
+pub mod laws;
 mod table;
 #[cfg(test)]
 mod tests;

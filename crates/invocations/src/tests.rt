@@ -1,10 +1,8 @@
-//! The table beside the plain scans, over the same calls.
-use crate::plain::{find_due, find_id};
-use crate::{AddFault, Invocation, Table};
+//! Calls in turn, and a full table.
+use crate::{AddFault, Invocation, Table, laws};
 use lists::{Bytes, Listed};
 use names_realms::{InvocationId, Moment, Pair, Realm, State};
 use std::alloc::Global;
-use std::process::Abort;
 use std::test::Fail;
 
 /// A call, and its number of seconds.
@@ -78,24 +76,8 @@ fn make(alloc: Global, table: &mut Table, call: Call) -> Result<&'static str, Fa
     }
 }
 
-/// Asks the table and the scans for the same.
-fn compare(rt: &impl Abort, alloc: Global, table: &Table) -> Result<(), Fail> {
-    for text in ["u-a", "u-b", "u-c", "u-d", "u-e"] {
-        let id = InvocationId::parse(alloc, text.as_bytes())?;
-        assert!(rt; table.find(&id) == find_id(table.rows(), &id), "{text}");
-    }
-    for seconds in 0u32..60 {
-        let moment = Moment::new(i64::from(seconds));
-        assert!(rt;
-            table.next_due(moment) == find_due(table.rows(), moment),
-            "{seconds}"
-        );
-    }
-    Ok(())
-}
-
 #[test]
-fn the_table_and_the_scans_agree(rt: HostRuntime) -> Result<(), Fail> {
+fn calls_are_answered_in_turn(rt: HostRuntime) -> Result<(), Fail> {
     let alloc = rt.alloc();
     let mut table = Table::new(alloc)?;
     // Each call, its answer, and the place of the row that is due at the second 40.
@@ -125,9 +107,12 @@ fn the_table_and_the_scans_agree(rt: HostRuntime) -> Result<(), Fail> {
     for (call, answer, due) in calls {
         assert_eq!(rt; make(alloc, &mut table, call)?, answer, "{call:?}");
         assert_eq!(rt; table.next_due(Moment::new(40)), due, "{call:?}");
-        compare(&rt, alloc, &table)?;
     }
     assert_eq!(rt; table.count(), 5);
+    for (id, place) in [("u-a", Some(1)), ("u-e", Some(4)), ("u-f", None)] {
+        let id = InvocationId::parse(alloc, id.as_bytes())?;
+        assert_eq!(rt; table.find(&id), place);
+    }
     let row = table.row(1);
     assert!(rt; row.state == State::Finalized && row.tags.len() == 1);
     assert!(rt; row.started == Some(Moment::new(30)) && row.finished == Some(Moment::new(31)));
@@ -150,4 +135,10 @@ fn a_full_table_takes_no_row(rt: HostRuntime) -> Result<(), Fail> {
     let held = Err(AddFault::Taken { place: 7 });
     assert_eq!(rt; table.prepare_add(alloc, &taken.id), held);
     Ok(())
+}
+
+#[test]
+fn laws_do_nothing() {
+    laws::finds_one_place();
+    laws::has_one_next();
 }

@@ -7,3 +7,4 @@ pub mod RootLemmas
 pub mod RowLemmas
 pub mod RankLemmas
 pub mod RightLemmas
+pub mod ShortcutLemmas

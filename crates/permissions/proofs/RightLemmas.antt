@@ -20,7 +20,7 @@ use Rattle.permissions.specs.Graph.{IsWalkOn, ReachesOn, graph_of}
 use Rattle.permissions.specs.Grants.{AreMembers, IsBoundFrom, bound_at, gives_member, granted, is_member}
 use Rattle.permissions.specs.Masks.{has_bit}
 use Rattle.permissions.specs.Ranks.{IsBoundOn, place_at, rank_at}
-use Rattle.permissions.specs.Rights.{AreBoundPlaces, AreRights, binds_user, gives_user, grants_user, is_marked, marked_at}
+use Rattle.permissions.specs.Rights.{AreRights, binds_user, gives_user, grants_user}
 use Rattle.permissions.proofs.RankLemmas.{over_places, over_ranks, few_ranks}
 
 map_ext : {A : Type 0} (f g : A → Bool) (xs : List A) → ((x : A) → f x ≡ g x) → map f xs ≡ map g xs
@@ -108,15 +108,3 @@ module _ (t : PolicyTables) (ranks : List (Option ℕ)) (ranked : Ranked) (h : A
 
     pub rank_granted : rank < length ranked.grants.items
     rank_granted = omega (arith, (h.ranks_are.right place rank is).0, h.grants_are.count)
-
--- by the places of realms what is told by their ranks
-pub places_told : (t : PolicyTables) (ranks : List (Option ℕ)) (ranked : Ranked) → AreRights t ranks ranked → (u : ℕ) (p : Permission) (by_rank by_place : List Bool)
-    → ((rank : ℕ) → rank < length ranked.grants.items → (is_marked by_rank rank ≡ true) ↔ IsBoundOn ranked.rows.items (binds_user ranked u p) rank)
-    → by_place ≡ map (marked_at by_rank) ranks → AreBoundPlaces t u p by_place
-places_told t ranks ranked h u p by_rank by_place told is place low =
-    let found = h.all place low in
-    let mark : is_marked by_place place ≡ is_marked by_rank found.0 =
-    ap (λ (ms : List Bool). is_marked ms place) is ∙ get_or-default (marked_at by_rank) ranks place None ∙ ap (marked_at by_rank) found.1 in
-    let both =
-    bound_over_ranks t ranks ranked h u p place found.0 found.1 (is_marked by_rank found.0) (told found.0 (rank_granted t ranks ranked h u p place found.0 found.1)) in
-    (λ m. both.0 (sym mark ∙ m), λ w. mark ∙ both.1 w)

@@ -34,3 +34,7 @@ pub record IsBoundOn (rows : List (List ℕ)) (bound : ℕ → Bool) (start : �
   pub path : List ℕ
   pub walk : IsWalkOn rows start path to
   pub is : bound to ≡ true
+
+-- from one of these ranks a walk leads to one that is bound
+abbrev pub IsOneBoundOn : List (List ℕ) → (ℕ → Bool) → List ℕ → Type 0
+IsOneBoundOn rows bound ranks = (q : ℕ) × (has q ranks ≡ true) × IsBoundOn rows bound q

@@ -1,11 +1,12 @@
 //! The realms in which a caller has a permission.
-ghost use Rattle.std.specs.Prelude.{◌≡◌, ◌↔◌, true, IsTrue};
+ghost use Rattle.std.specs.Prelude.{◌≡◌, ◌↔◌, ◌<◌, true, IsTrue, length};
 ghost use Rattle.permissions.specs.Allows.{Allows};
-ghost use Rattle.permissions.specs.Grants.{IsBoundByName};
+ghost use Rattle.permissions.specs.Grants.{IsBoundByName, IsBoundFrom};
 
 use crate::caller::CallerId;
 use crate::policy::Policy;
-use crate::ranked::mark_at;
+use crate::ranked::{Ask, Pass, Ranked};
+use crate::ranks::rank_of;
 use crate::root::write_root;
 use names_realms::Realm;
 use policy_checks::Permission;
@@ -18,12 +19,14 @@ pub struct Granted<'p> {
     pub(crate) policy: &'p Policy,
     pub(crate) caller: CallerId,
     pub(crate) permission: Permission,
-    pub(crate) bound: Vec<bool>,
+    pub(crate) ranks: &'p [Option<usize>],
+    pub(crate) ranked: &'p Ranked,
+    pub(crate) pass: Pass,
 }
 
 impl<'p> Model for Granted<'p> {
     ghost use Rattle.permissions.specs.Granting.{Granting};
-    ghost use Rattle.permissions.specs.Rights.{AreBoundPlaces};
+    ghost use Rattle.permissions.specs.Rights.{IsPassed};
 
     ghost Value = { Granting };
 
@@ -33,17 +36,34 @@ impl<'p> Model for Granted<'p> {
       permission = g.permission;
     } };
 
-    ghost invariant = { λ g. AreBoundPlaces g.policy.now g.caller g.permission g.bound.items };
+    ghost invariant = { λ g. IsPassed g.policy.now g.caller g.permission g.ranks.now g.ranked.now
+        g.pass };
 }
 
 impl Granted<'_> {
+    /// Whether the realm at a place, or one that it reaches, binds the caller.
+    fn binds_from(&self, place: usize) -> bool
+        requires { place < length self.now.policy.realms }
+        ensures { (result ≡ true)
+            ↔ IsBoundFrom self.now.policy place self.now.caller self.now.permission }
+    {
+        let ask = Ask {
+            user: self.caller.place(),
+            permission: self.permission,
+        };
+        match rank_of(self.ranks, place) {
+            Some(rank) => self.ranked.is_bound(&self.pass, rank, ask),
+            None => false,
+        }
+    }
+
     /// Whether the realm of a name, or one that it reaches, binds the caller.
     fn binds(&self, name: &[u8]) -> bool
         ensures { (result ≡ true)
             ↔ IsBoundByName self.now.policy name.now self.now.caller self.now.permission }
     {
         match self.policy.realm(name) {
-            Some(place) => mark_at(self.bound.as_slice(), place),
+            Some(place) => self.binds_from(place),
             None => false,
         }
     }

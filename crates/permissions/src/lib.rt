@@ -15,6 +15,7 @@ mod realms;
 mod rights;
 mod roles;
 mod root;
+mod shortcuts;
 
 pub use caller::CallerId;
 pub use faults::PolicyFault;

@@ -18,6 +18,7 @@ use crate::ranks::{Ranking, rank_places};
 use crate::rights::Rights;
 use crate::roles::role_masks;
 use crate::root::write_root;
+use crate::shortcuts::all_shortcuts;
 use hex::FromHexError;
 use name_parts::Bytes;
 use names_realms::Realm;
@@ -98,6 +99,7 @@ fn ranked_rights(
         places: _,
         rows,
     } = ranking;
+    let shortcuts = all_shortcuts(alloc, rows.as_slice(), grants.as_slice())?;
     Ok(Rights {
         book,
         ranks,
@@ -105,6 +107,7 @@ fn ranked_rights(
             rows,
             grants,
             members,
+            shortcuts,
         },
     })
 }
@@ -197,12 +200,15 @@ impl Policy {
             user: caller.place(),
             permission,
         };
-        let bound = self.rights.bound_places(alloc, ask)?;
+        let (ranks, ranked) = self.rights.parts();
+        let pass = ranked.pass(alloc, ask)?;
         Ok(Granted {
             policy: self,
             caller,
             permission,
-            bound,
+            ranks,
+            ranked,
+            pass,
         })
     }
 

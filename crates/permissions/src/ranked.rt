@@ -2,31 +2,33 @@
 //!
 //! A chain of tens of thousands of realms, each with bindings of its own, has rows of permissions
 //! that no memory holds. So each realm keeps its own grants alone. An ask for one realm goes down
-//! over the ranks from its own, and looks at those that it reaches. An ask for all realms goes up
-//! over the ranks once.
+//! over the ranks that it reaches. An ask for all goes up over the ranks once, and leaves those
+//! whose own grants tell all to whoever asks for them.
 ghost use Rattle.std.specs.Prelude.{◌≡◌, ◌<◌, ◌≤◌, ◌↔◌, ◌==◌, ◌||◌, ℕ, true, false, IfOk, length, unwrap_or};
 ghost use Rattle.std.specs.List.{list_any};
 ghost use Rattle.std.specs.Ordering.{nat_cmp};
 ghost use Rattle.std.specs.BTreeMap.{get};
 ghost use Rattle.permissions.specs.Graph.{has};
-ghost use Rattle.permissions.specs.Ranks.{IsFalling, IsBoundOn};
-ghost use Rattle.permissions.specs.Rights.{is_marked, AreGroupsOf, gives_user, grants_user, binds_user};
+ghost use Rattle.permissions.specs.Ranks.{IsFalling, IsBoundOn, IsOneBoundOn};
+ghost use Rattle.permissions.specs.Rights.{is_marked, AllCome, AreGroupsOf, HasShortcuts, IsMark, IsPass, gives_user, grants_user, binds_user};
 
 use crate::grants::{Grants, GroupGrant};
 use crate::graph::edges_of;
 use crate::masks::is_in;
 use crate::members::{Members, has_member};
+use crate::shortcuts::{Shortcut, shortcut_at};
 use policy_checks::Permission;
 use policy_tables::Listed;
 use std::alloc::{AllocError, Global};
 
-/// By rank the ranks of the realms that each extends, and the grants of each; by their places the
-/// members of the groups.
+/// By rank the ranks of the realms that each extends, the grants of each, and its shortcut; by
+/// their places the members of the groups.
 #[derive(Drop)]
 pub(crate) struct Ranked {
     pub(crate) rows: Vec<Listed<usize>>,
     pub(crate) grants: Vec<Grants>,
     pub(crate) members: Vec<Members>,
+    pub(crate) shortcuts: Vec<Shortcut>,
 }
 
 /// What is asked: whether a user has a permission.
@@ -34,6 +36,14 @@ pub(crate) struct Ranked {
 pub(crate) struct Ask {
     pub(crate) user: usize,
     pub(crate) permission: Permission,
+}
+
+/// What is found for an ask of all ranks: the user's groups, and by rank whether it, or one that it
+/// leads to, gives what is asked, but where its own grants tell.
+#[derive(Drop)]
+pub(crate) struct Pass {
+    pub(crate) groups: Vec<bool>,
+    pub(crate) marks: Vec<bool>,
 }
 
 /// The bits of a user.
@@ -53,13 +63,6 @@ pub(crate) fn mark_at(marks: &[bool], place: usize) -> bool
     }
 }
 
-/// Whether one of these places is marked.
-fn is_one_marked(marks: &[bool], places: &[usize]) -> bool
-    ensures { result ≡ list_any (is_marked marks.now) places.now }
-{
-    places.iter().any(|place| mark_at(marks, *place))
-}
-
 /// No place marked.
 fn no_marks<const N: usize>() -> [bool; N]
     ensures { (q : ℕ) → is_marked result q ≡ false }
@@ -68,7 +71,7 @@ fn no_marks<const N: usize>() -> [bool; N]
 }
 
 /// Marks places.
-fn mark_all(marks: &mut [bool], places: &[usize])
+pub(crate) fn mark_all(marks: &mut [bool], places: &[usize])
     ensures len { length marks.new ≡ length marks.old }
     ensures marks { (q : ℕ) → q < length marks.old
         → is_marked marks.new q ≡ (is_marked marks.old q || has q places.now) }
@@ -81,21 +84,14 @@ fn mark_all(marks: &mut [bool], places: &[usize])
 }
 
 impl Ranked {
-    /// Whether a grant to a group gives what is asked.
-    fn group_gives(&self, grant: GroupGrant, ask: Ask) -> bool
-        ensures { result ≡ gives_user self.now.members.items ask.user ask.permission grant }
-    {
-        has_member(self.members.as_slice(), grant.group, ask.user)
-            && is_in(grant.mask, ask.permission)
-    }
-
     /// Whether one of these grants gives what is asked.
     fn any_gives(&self, grants: &[GroupGrant], ask: Ask) -> bool
         ensures { result
             ≡ list_any (gives_user self.now.members.items ask.user ask.permission) grants.now }
     {
+        let members = self.members.as_slice();
         for grant in grants {
-            if self.group_gives(*grant, ask) {
+            if has_member(members, grant.group, ask.user) && is_in(grant.mask, ask.permission) {
                 return true;
             }
         }
@@ -185,23 +181,82 @@ impl Ranked {
             || self.any_marked(groups, grants.groups.as_slice(), ask)
     }
 
-    /// Which ranks give what is asked, or lead to one that does. One pass: what a rank leads to
-    /// comes before it.
-    pub(crate) fn bound_ranks(&self, alloc: Global, ask: Ask) -> Result<Vec<bool>, AllocError>
-        requires { IsFalling self.now.rows.items }
-        ensures { IfOk result
-            (λ marks. (rank : ℕ) → rank < length self.now.grants.items
-            → (is_marked marks.items rank ≡ true) ↔ IsBoundOn self.now.rows.items
-            (binds_user self.now ask.user ask.permission) rank) }
+    /// Whether the grants at a rank give what is asked, where the groups of the user are marked.
+    fn gives_at(&self, groups: &[bool], rank: usize, ask: Ask) -> bool
+        requires { AreGroupsOf self.now.members.items ask.user groups.now }
+        ensures { result ≡ binds_user self.now ask.user ask.permission rank }
+    {
+        match self.grants.as_slice().get(rank) {
+            Some(grants) => self.gives(groups, grants, ask),
+            None => false,
+        }
+    }
+
+    /// Whether a rank to which a pass came gives what is asked, or leads to one that does.
+    pub(crate) fn is_bound(&self, pass: &Pass, rank: usize, ask: Ask) -> bool
+        requires pass { IsPass self.now ask.user ask.permission pass.now }
+        requires shortcuts { HasShortcuts self.now }
+        requires rank { rank < length pass.now.marks.items }
+        ensures { (result ≡ true) ↔ IsBoundOn self.now.rows.items
+            (binds_user self.now ask.user ask.permission) rank }
+    {
+        let mark = mark_at(pass.marks.as_slice(), rank);
+        match shortcut_at(self.shortcuts.as_slice(), rank) {
+            Shortcut::OwnGrants => self.gives_at(pass.groups.as_slice(), rank, ask),
+            Shortcut::SameAs(_) => mark,
+            Shortcut::Absent => mark,
+        }
+    }
+
+    /// Whether one of these ranks, to which a pass came, gives it, or leads to one that does.
+    fn is_one_bound(&self, pass: &Pass, ranks: &[usize], ask: Ask) -> bool
+        requires pass { IsPass self.now ask.user ask.permission pass.now }
+        requires shortcuts { HasShortcuts self.now }
+        requires ranks { AllCome pass.now ranks.now }
+        ensures { (result ≡ true) ↔ IsOneBoundOn self.now.rows.items
+            (binds_user self.now ask.user ask.permission) ranks.now }
+    {
+        for rank in ranks {
+            if self.is_bound(pass, *rank, ask) {
+                return true;
+            }
+        }
+        false
+    }
+
+    /// The mark of the next rank of a pass.
+    fn next_mark(&self, pass: &Pass, rank: usize, ask: Ask) -> bool
+        requires falling { IsFalling self.now.rows.items }
+        requires pass { IsPass self.now ask.user ask.permission pass.now }
+        requires shortcuts { HasShortcuts self.now }
+        requires rank { length pass.now.marks.items ≡ rank }
+        ensures { IsMark self.now ask.user ask.permission rank result }
+    {
+        match shortcut_at(self.shortcuts.as_slice(), rank) {
+            Shortcut::OwnGrants => false,
+            Shortcut::SameAs(other) => self.is_bound(pass, other as usize, ask),
+            Shortcut::Absent => {
+                self.is_one_bound(pass, edges_of(self.rows.as_slice(), rank), ask)
+                    || self.gives_at(pass.groups.as_slice(), rank, ask)
+            }
+        }
+    }
+
+    /// One pass over the ranks: what a rank leads to comes before it.
+    pub(crate) fn pass(&self, alloc: Global, ask: Ask) -> Result<Pass, AllocError>
+        requires falling { IsFalling self.now.rows.items }
+        requires shortcuts { HasShortcuts self.now }
+        ensures pass { IfOk result (IsPass self.now ask.user ask.permission) }
+        ensures all { IfOk result
+            (λ pass. length pass.marks.items ≡ length self.now.grants.items) }
     {
         let groups = self.groups_of(alloc, ask.user)?;
-        let groups = groups.as_slice();
-        let rows = self.rows.as_slice();
-        let mut marks = Vec::new(alloc);
-        for (rank, grants) in self.grants.as_slice().iter().enumerate() {
-            let below = is_one_marked(marks.as_slice(), edges_of(rows, rank));
-            marks.push(below || self.gives(groups, grants, ask))?;
+        let marks = Vec::new(alloc);
+        let mut pass = Pass { groups, marks };
+        for rank in 0..self.grants.len() {
+            let mark = self.next_mark(&pass, rank, ask);
+            pass.marks.push(mark)?;
         }
-        Ok(marks)
+        Ok(pass)
     }
 }

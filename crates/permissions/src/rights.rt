@@ -1,12 +1,11 @@
 //! Who is bound in a realm, or in one that it reaches.
-ghost use Rattle.std.specs.Prelude.{◌≡◌, ◌<◌, ◌↔◌, true, IfOk, length, map};
+ghost use Rattle.std.specs.Prelude.{◌≡◌, ◌<◌, ◌↔◌, true, length};
 ghost use Rattle.permissions.specs.Grants.{IsBoundFrom, IsBoundByName};
-ghost use Rattle.permissions.specs.Rights.{AreBoundPlaces, marked_at};
+ghost use Rattle.permissions.specs.Rights.{AreRights};
 
-use crate::ranked::{Ask, Ranked, mark_at};
+use crate::ranked::{Ask, Ranked};
 use crate::ranks::rank_of;
 use policy_checks::Book;
-use std::alloc::{AllocError, Global};
 use std::marker::Model;
 
 /// The tables, the ranks of the realms by their places, and what they grant by their ranks.
@@ -26,31 +25,6 @@ impl Model for Rights {
     ghost view = { λ r. r.book };
 
     ghost invariant = { λ r. AreRights r.book r.ranks.items r.ranked };
-}
-
-/// Whether the rank of a place is marked.
-fn is_marked(marks: &[bool], rank: Option<usize>) -> bool
-    ensures { result ≡ marked_at marks.now rank }
-{
-    match rank {
-        Some(rank) => mark_at(marks, rank),
-        None => false,
-    }
-}
-
-/// By place whether its rank is marked.
-fn marks_by_place(
-    alloc: Global,
-    marks: &[bool],
-    ranks: &[Option<usize>],
-) -> Result<Vec<bool>, AllocError>
-    ensures { IfOk result (λ by_place. by_place.items ≡ map (marked_at marks.now) ranks.now) }
-{
-    let mut by_place = Vec::new(alloc);
-    for rank in ranks {
-        by_place.push(is_marked(marks, *rank))?;
-    }
-    Ok(by_place)
 }
 
 impl Rights {
@@ -75,12 +49,10 @@ impl Rights {
         }
     }
 
-    /// Which realms, by their places, give what is asked, or reach one that does.
-    pub(crate) fn bound_places(&self, alloc: Global, ask: Ask) -> Result<Vec<bool>, AllocError>
-        ensures { IfOk result
-            (λ marks. AreBoundPlaces self.now ask.user ask.permission marks.items) }
+    /// The ranks of the realms by their places, and what they grant by their ranks.
+    pub(crate) fn parts(&self) -> (&[Option<usize>], &Ranked)
+        ensures { AreRights self.now result.0.now result.1.now }
     {
-        let by_rank = self.ranked.bound_ranks(alloc, ask)?;
-        marks_by_place(alloc, by_rank.as_slice(), self.ranks.as_slice())
+        (self.ranks.as_slice(), &self.ranked)
     }
 }

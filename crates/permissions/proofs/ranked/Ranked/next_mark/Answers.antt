@@ -1,0 +1,50 @@
+use Rattle.std.proofs.Common.{◌≡◌, ◌<◌, ℕ, List, length, true, false, inl, inr, sym, ap, subst, ◌∙◌, arith}
+use Rattle.permissions.specs.declared.shortcuts.Shortcut.{Shortcut}
+use Rattle.permissions.specs.declared.shortcuts.Shortcut.TheVariants.{SameAs}
+use Rattle.permissions.specs.Graph.{edges}
+use Rattle.permissions.specs.Ranks.{IsOneBoundOn}
+use Rattle.permissions.specs.Rights.{IsShortcut, binds_user, shortcut_at}
+use Rattle.permissions.proofs.ShortcutLemmas.{bound_itself, bound_led, here_or_led}
+use Rattle.permissions.proofs.ranked.Ranked.next_mark.Goals as goal
+
+pub is_bound-requires-clause-rank : goal.is_bound-requires-clause-rank
+is_bound-requires-clause-rank c =
+    let r = c.args.self.now in
+    let is : shortcut_at r.shortcuts.items c.args.rank ≡ SameAs c.in-SameAs.other =
+    sym (c.shortcut_at.ensures ∙ ap (λ (ss : List Shortcut). shortcut_at ss c.args.rank) c.as_slice.ensures.value) ∙ c.in-SameAs.is in
+    let known = subst (IsShortcut r.rows.items r.grants.items c.args.rank) is (c.requires.shortcuts c.args.rank) in
+    omega (arith, known.0, c.requires.rank)
+
+pub returns-in-SameAs : goal.returns-in-SameAs
+returns-in-SameAs c = λ own.
+    let r = c.args.self.now in
+    let is : shortcut_at r.shortcuts.items c.args.rank ≡ SameAs c.in-SameAs.other =
+    sym (c.shortcut_at.ensures ∙ ap (λ (ss : List Shortcut). shortcut_at ss c.args.rank) c.as_slice.ensures.value) ∙ c.in-SameAs.is in
+    let known = subst (IsShortcut r.rows.items r.grants.items c.args.rank) is (c.requires.shortcuts c.args.rank) in
+    let same = known.1 r.members.items c.args.ask.user c.args.ask.permission in
+    (λ e. same.1 (c.is_bound.ensures.0 e), λ w. c.is_bound.ensures.1 (same.0 w))
+
+pub returns-then-is_one_bound : goal.returns-then-is_one_bound
+returns-then-is_one_bound c = λ own.
+    let r = c.args.self.now in
+    let bound = binds_user r c.args.ask.user c.args.ask.permission in
+    let leads : c.edges_of.result.now ≡ edges r.rows.items c.args.rank =
+    c.edges_of.ensures ∙ ap (λ (rows : List (List ℕ)). edges rows c.args.rank) c.as_slice-in-Absent.ensures.value in (
+      λ e. bound_led r.rows.items bound c.args.rank (subst (IsOneBoundOn r.rows.items bound) leads (c.is_one_bound.ensures.0 e)),
+      λ w. c.if-is_one_bound.true,
+    )
+
+pub returns-else-is_one_bound : goal.returns-else-is_one_bound
+returns-else-is_one_bound c = λ own.
+    let r = c.args.self.now in
+    let bound = binds_user r c.args.ask.user c.args.ask.permission in
+    let leads : c.edges_of.result.now ≡ edges r.rows.items c.args.rank =
+    c.edges_of.ensures ∙ ap (λ (rows : List (List ℕ)). edges rows c.args.rank) c.as_slice-in-Absent.ensures.value in (
+      λ e. bound_itself r.rows.items bound c.args.rank (sym c.gives_at.ensures ∙ e),
+      λ w. elim (here_or_led r.rows.items bound c.args.rank w) [
+        | inl here ↦ c.gives_at.ensures ∙ here
+        | inr one ↦
+            let no : false ≡ true = sym c.if-is_one_bound.false ∙ c.is_one_bound.ensures.1 (subst (IsOneBoundOn r.rows.items bound) (sym leads) one) in
+            absurd cc
+      ],
+    )
