@@ -1,8 +1,6 @@
 -- What is final stays as it is, with all that it reaches.
-use Rattle.std.proofs.Common.{◌≡◌, ◌⊎◌, ℕ, ℤ, List, [], ◌∷◌, inl, inr, refl, sym, ◌∙◌, subst}
-use Rattle.names_realms.specs.declared.states.State.TheVariants.{Finalized}
+use Rattle.std.proofs.Common.{◌≡◌, ◌⊎◌, ℕ, ℤ, List, [], ◌∷◌, inl, inr, sym, subst}
 use Rattle.inclusion_graph.specs.Edges.{edges_from}
-use Rattle.invocations.specs.Rows.{IsInState}
 use Rattle.call_forms.specs.declared.asked.Asked.{Asked}
 use Rattle.call_forms.specs.declared.forms.Answer.{Answer}
 use Rattle.call_forms.specs.declared.forms.Standin.TheVariants.{Unavailable, Memory, Spent}
@@ -12,8 +10,7 @@ use Rattle.invocation_world.specs.World.{World, IsValid}
 use Rattle.invocation_world.specs.Advancing.{Advances}
 use Rattle.invocation_world.specs.Changes.{with_edges}
 use Rattle.invocation_world.specs.Laws.{KeepsFinal}
-use Rattle.invocation_world.proofs.FinalFacts.{advance_final, begin_final, inclusions_final, row_final, settling_final, update_final}
-use Rattle.invocation_world.proofs.RowFacts.{row_in, state_is}
+use Rattle.invocation_world.proofs.FinalFacts.{advance_final, begin_final, both_final, inclusions_final, itself_final, row_final, settling_final, update_final}
 use Rattle.request_rules.specs.Settings.{Settings, HasNames}
 use Rattle.request_effects.specs.declared.effect.Effect.{Effect}
 use Rattle.request_effects.specs.declared.effect.Effect.TheVariants as does
@@ -26,30 +23,12 @@ use Rattle.service_core.specs.Laws.{FinalStays}
 use Rattle.service_core.proofs.ClearedLaws.{accepted_suits}
 use Rattle.service_core.proofs.HistoryLaws.{advanced_timely, leads_valid}
 
-pub all_final : (w : World) → KeepsFinal w w
-all_final w = record { rows = λ p row e is. e; included = λ p is. refl; reached = λ p other is. (λ h. h, λ h. h) }
-
 same_final : (w after : World) → after ≡ w → KeepsFinal w after
-same_final w after same = subst (KeepsFinal w) (sym same) (all_final w)
-
-still_final : (a b : World) → KeepsFinal a b → (p : ℕ) → IsInState Finalized a.invocations p → IsInState Finalized b.invocations p
-still_final a b keeps p is =
-    let row = row_in Finalized a.invocations p is in
-    state_is Finalized b.invocations p row.0 (keeps.rows p row.0 row.1 row.2) row.2
-
-both_final : (a b c : World) → KeepsFinal a b → KeepsFinal b c → KeepsFinal a c
-both_final a b c first second = record {
-  rows = λ p row e is. second.rows p row (first.rows p row e is) is;
-  included = λ p is. second.included p (still_final a b first p is) ∙ first.included p is;
-  reached = λ p other is.
-      let one = first.reached p other is in
-      let two = second.reached p other (still_final a b first p is) in
-      (λ h. one.0 (two.0 h), λ h. two.1 (one.1 h));
-}
+same_final w after same = subst (KeepsFinal w) (sym same) (itself_final w)
 
 -- what an effect does
 effect_final : (w : World) (moment : ℤ) (effect : Effect) → IsValid w → Suits w moment effect → KeepsFinal w (with_effect moment effect w)
-effect_final w moment does.Nothing valid may = all_final w
+effect_final w moment does.Nothing valid may = itself_final w
 effect_final w moment (does.Add row) valid may = row_final w row
 effect_final w moment (does.Update place deadline tags) valid may = update_final moment w place deadline tags may.active
 effect_final w moment (does.End place) valid may = begin_final moment w place may

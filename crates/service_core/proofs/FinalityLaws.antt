@@ -37,7 +37,8 @@ use Rattle.service_core.proofs.ChangeLaws.{effect_keeps}
 use Rattle.service_core.proofs.StayLaws.{advanced_rows}
 use Rattle.service_core.proofs.ClearedLaws.{accepted_suits}
 use Rattle.service_core.proofs.HistoryLaws.{advanced_timely, leads_valid}
-use Rattle.service_core.proofs.FinalLaws.{all_final, judged_final}
+use Rattle.invocation_world.proofs.FinalFacts.{itself_final}
+use Rattle.service_core.proofs.FinalLaws.{judged_final}
 
 -- the rows that a change made final got its time as their end
 abbrev AreEndedAt : ℤ → List Invocation → List Invocation → Type 0
@@ -274,7 +275,7 @@ ends_in_time time w after valid keeps kept at = record {
 
 -- a valid world in which nothing else changes
 nothing_else : (time : ℤ) (w : World) → IsValid w → EndsInTime w.inclusions time w.invocations w.invocations
-nothing_else time w valid = ends_in_time time w w valid (all_final w) (λ p row e is. inl e) (none_ended time w.invocations)
+nothing_else time w valid = ends_in_time time w w valid (itself_final w) (λ p row e is. inl e) (none_ended time w.invocations)
 
 -- ---- entries
 
