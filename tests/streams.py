@@ -1,8 +1,9 @@
 """Streams that are no messages, or barely, and outputs that take nothing."""
 
 import os
+import subprocess
 
-from harness import expect, not_implemented, run
+from harness import SECONDS, TOP, expect, not_implemented, run, words
 from stored_replies import example
 
 
@@ -24,6 +25,15 @@ def full_output(folder):
     """The output has no room: Linux's /dev/full refuses each write."""
     with open("/dev/full", "wb") as full:
         expect(run(example("create-invocation", "http"), folder, stdout=full), None, b"rdb: fault of output\n", 4)
+
+
+def closed_streams(folder):
+    """One that is closed is /dev/null, and no file that is opened takes its place. ./rdb would, so it isn't asked."""
+    program, request = TOP / "crates/rdb_program/out/rdb_program", example("no-caller", "http")
+    for closed, output in (("0<&-", b""), ("1>&-", b""), ("2>&-", example("no-caller", "reply"))):
+        command = ["sh", "-c", f'exec "$0" "$@" {closed}', program, *words(folder)[1:]]
+        done = subprocess.run(command, input=request, capture_output=True, timeout=SECONDS)
+        expect((done.stdout, done.stderr, done.returncode), output, b"", 0)
 
 
 def farewell(number, name):
@@ -78,4 +88,5 @@ CHECKS = {
     "hostile streams": hostile_streams,
     "a closed output": closed_output,
     "a full output": full_output,
+    "closed standard streams": closed_streams,
 }

@@ -16,6 +16,7 @@ use permissions::{Policy, PolicyFault};
 use policy_reading::from_toml;
 use script::Line;
 use service_core::Core;
+use standard_files::{DevNull, hold_standard};
 use std::alloc::{AllocError, Global};
 use std::io::Write;
 use std::process::ExitCode;
@@ -130,6 +131,9 @@ fn tell_script(alloc: Global, script: &[u8]) -> Result<Vec<u8>, Stop> {
 }
 
 fn main(rt: HostRuntime) -> ExitCode {
+    let Ok(_held) = hold_standard(&mut DevNull::new(&rt)) else {
+        return ExitCode::from(4);
+    };
     let Ok(script) = read_front(rt.alloc(), &mut StdIn::new(rt.stdin()), MOST_BYTES) else {
         return ExitCode::from(2);
     };

@@ -12,6 +12,7 @@ use names_realms::Realm;
 use outside::StdIn;
 use permissions::{Permission, Policy, PolicyFault};
 use policy_reading::from_toml;
+use standard_files::{DevNull, hold_standard};
 use std::alloc::{AllocError, Global};
 use std::io::Write;
 use std::process::ExitCode;
@@ -158,6 +159,9 @@ fn report(alloc: Global, input: &[u8]) -> Result<Vec<u8>, AllocError> {
 }
 
 fn main(rt: HostRuntime) -> ExitCode {
+    let Ok(_held) = hold_standard(&mut DevNull::new(&rt)) else {
+        return ExitCode::from(4);
+    };
     let Ok(text) = read_front(rt.alloc(), &mut StdIn::new(rt.stdin()), MOST_BYTES) else {
         return ExitCode::from(2);
     };

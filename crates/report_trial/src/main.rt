@@ -12,6 +12,7 @@
 use junit_reader::{JunitFault, Unsupported};
 use names_realms::{Case, Status};
 use outside::StdIn;
+use standard_files::{DevNull, hold_standard};
 use std::alloc::{AllocError, Global};
 use std::env;
 use std::io::{self, Write};
@@ -244,6 +245,9 @@ fn answer(
 }
 
 fn main(rt: HostRuntime) -> io::Result<ExitCode> {
+    let Ok(_held) = hold_standard(&mut DevNull::new(&rt)) else {
+        return Ok(ExitCode::from(4));
+    };
     let alloc = rt.alloc();
     let words: Vec<String> = env::args(&rt)?.collect(alloc)?;
     let (Some(form), Some(what)) = (words.get(1), words.get(2)) else {

@@ -27,7 +27,8 @@ fn with_answer(
     requires fits { Fits world.old change.moment change.effect }
     requires own { IsOwn world.old.world change.effect shows }
     ensures roomier { IsRoomier world.old world.new }
-    ensures shown { IfOk result (IsShown (record { policy = policy.now }) world.old.world change shows) }
+    ensures shown { IfOk result
+        (IsShown (record { policy = policy.now }) world.old.world change shows) }
 {
     let answer = show(alloc, world, policy, &change, shows)?;
     if change.effect.is_nothing() {

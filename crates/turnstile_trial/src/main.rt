@@ -7,6 +7,7 @@
 mod callers;
 
 use callers::{Tally, callers, take_all};
+use standard_files::{DevNull, hold_standard};
 use std::process::ExitCode;
 use std::{env, io};
 use turnstile::Turnstile;
@@ -17,6 +18,9 @@ fn number(word: Option<&String>) -> u64 {
 }
 
 fn main(rt: HostRuntime) -> io::Result<ExitCode> {
+    let Ok(_held) = hold_standard(&mut DevNull::new(&rt)) else {
+        return Ok(ExitCode::from(4));
+    };
     let alloc = rt.alloc();
     let words: Vec<String> = env::args(&rt)?.collect(alloc)?;
     let threads = number(words.get(1)).min(1000);
