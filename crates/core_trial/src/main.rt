@@ -8,9 +8,6 @@
 mod script;
 mod telling;
 
-ghost use Rattle.std.specs.Prelude.{IfOk};
-ghost use Rattle.permissions.specs.Faults.{IsSound};
-
 use outside::StdIn;
 use permissions::{Policy, PolicyFault};
 use policy_reading::from_toml;
@@ -43,7 +40,6 @@ impl From<AllocError> for Stop {
 
 /// The policy of a configuration.
 fn policy_of(alloc: Global, config: &str) -> Result<Policy, Stop>
-    ensures { IfOk result IsSound }
 {
     match from_toml(alloc, config.as_bytes()) {
         Ok(policy) => Ok(policy),

@@ -1,7 +1,6 @@
 //! The top call: all that the program does, over ends that are handed in.
 ghost use Rattle.std.specs.Prelude.{◌≡◌, ◌≢◌, ℕ, List, map, string_bytes, MatchResult};
 ghost use Rattle.outside.specs.Ends.{Incoming};
-ghost use Rattle.permissions.specs.Faults.{IsSound};
 ghost use Rattle.rdb_program.specs.Words.{IsAnswerWords, AskForText};
 ghost use Rattle.rdb_program.specs.Configured.{Accepts, IsUnserved};
 ghost use Rattle.rdb_program.specs.Run.{outside, line_of, IsRun, Shows, StopsAtConfig, IsReported};
@@ -49,7 +48,6 @@ fn read_policy<I: Source>(alloc: Global, config: &mut I) -> Result<Policy, Endin
 
 /// Serves one connection over an empty world, under a policy.
 fn answer<L: Link, C: Clock>(alloc: Global, policy: Policy, clock: &mut C, link: &mut L) -> Ending
-    requires { IsSound policy }
     ensures run { (words : List (List ℕ)) (before after : Incoming) → IsAnswerWords words
         → Accepts before policy after → IsRun result words
         (record { config = before; ends = L.ends link.old }) (C.tells (C.state clock.old))
