@@ -39,8 +39,7 @@ impl From<AllocError> for Stop {
 }
 
 /// The policy of a configuration.
-fn policy_of(alloc: Global, config: &str) -> Result<Policy, Stop>
-{
+fn policy_of(alloc: Global, config: &str) -> Result<Policy, Stop> {
     match from_toml(alloc, config.as_bytes()) {
         Ok(policy) => Ok(policy),
         Err(PolicyFault::Memory) => Err(Stop::Memory),
