@@ -11,6 +11,7 @@ mod telling;
 use outside::StdIn;
 use permissions::{Policy, PolicyFault};
 use policy_reading::from_toml;
+use request_rules::understand;
 use script::Line;
 use service_core::Core;
 use standard_files::{DevNull, hold_standard};
@@ -47,65 +48,60 @@ fn policy_of(alloc: Global, config: &str) -> Result<Policy, Stop> {
     }
 }
 
-fn core_of(alloc: Global, config: &str) -> Result<Core, Stop> {
-    let policy = policy_of(alloc, config)?;
-    Ok(Core::new(alloc, policy)?)
+/// A core that is told lines under a policy.
+struct Told<'p> {
+    alloc: Global,
+    policy: &'p Policy,
+    core: Core,
 }
 
-/// Tells a line.
-fn tell_line(
-    alloc: Global,
-    secret: &[u8],
-    core: &mut Core,
-    line: &str,
-    out: &mut Vec<u8>,
-) -> Result<(), AllocError> {
-    match Line::read(alloc, secret, line)? {
-        Line::Comment => put_line("", line, out),
-        Line::Request(turn) => put_told(alloc, &core.serve(alloc, turn.now, &turn.asked), out),
-        Line::Odd => put_line("no request: ", line, out),
+impl<'p> Told<'p> {
+    /// Tells a line.
+    fn tell_line(&mut self, line: &str, out: &mut Vec<u8>) -> Result<(), AllocError> {
+        let alloc = self.alloc;
+        match Line::read(alloc, self.policy.secret(), line)? {
+            Line::Comment => put_line("", line, out),
+            Line::Request(turn) => {
+                let understood = understand(alloc, self.policy, &turn.asked);
+                let told = self.core.serve(alloc, self.policy, turn.now, understood);
+                put_told(alloc, &told, out)
+            }
+            Line::Odd => put_line("no request: ", line, out),
+        }
     }
-}
-
-/// Tells the lines of a block in turn.
-fn tell_lines(
-    alloc: Global,
-    secret: &[u8],
-    core: &mut Core,
-    block: &str,
-    out: &mut Vec<u8>,
-) -> Result<(), AllocError> {
-    for line in block.lines() {
-        tell_line(alloc, secret, core, line, out)?;
-    }
-    Ok(())
 }
 
 /// Tells a block to a core of its own.
 fn tell_block(
     alloc: Global,
-    secret: &[u8],
-    config: &str,
+    policy: &Policy,
     block: &str,
     out: &mut Vec<u8>,
-) -> Result<(), Stop> {
-    let mut core = core_of(alloc, config)?;
-    Ok(tell_lines(alloc, secret, &mut core, block, out)?)
+) -> Result<(), AllocError> {
+    let core = Core::new(alloc)?;
+    let mut told = Told {
+        alloc,
+        policy,
+        core,
+    };
+    for line in block.lines() {
+        told.tell_line(line, out)?;
+    }
+    Ok(())
 }
 
 /// Tells all blocks, with a line `----` between two of them.
 fn tell_blocks(
     alloc: Global,
-    secret: &[u8],
-    config: &str,
+    policy: &Policy,
     blocks: &str,
     out: &mut Vec<u8>,
-) -> Result<(), Stop> {
+) -> Result<(), AllocError> {
     for (i, block) in blocks.split("\n----\n").enumerate() {
         if i > 0 {
             put_line("----", "", out)?;
         }
-        tell_block(alloc, secret, config, block, out)?;
+        tell_block(alloc, policy, block, out)?;
     }
     Ok(())
 }
@@ -121,7 +117,7 @@ fn tell_script(alloc: Global, script: &[u8]) -> Result<Vec<u8>, Stop> {
     let (config, blocks) = text.split_once("\n----\n").ok_or(Stop::NoScript)?;
     let policy = policy_of(alloc, config)?;
     let mut out = Vec::new(alloc);
-    tell_blocks(alloc, policy.secret(), config, blocks, &mut out)?;
+    tell_blocks(alloc, &policy, blocks, &mut out)?;
     Ok(out)
 }
 

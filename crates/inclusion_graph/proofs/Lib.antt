@@ -4,3 +4,4 @@ pub mod LinkLemmas
 pub mod ListLemmas
 pub mod SearchLemmas
 pub mod WalkLemmas
+pub mod ReachLaws

@@ -26,7 +26,8 @@ use Rattle.invocation_world.specs.World.{World, IsCallMoment, IsInclusion, IsPai
 use Rattle.invocation_world.specs.Advancing.{AreQuiet}
 use Rattle.invocation_world.specs.Changes.{updated}
 use Rattle.invocation_world.proofs.RowFacts.{all_at, all_from, state_is, row_in, active≢finalizing, active≢finalized, changed_here, changed_other}
-use Rattle.invocation_world.proofs.ReachFacts.{reach_over, reaches_appended, reaches_split}
+use Rattle.inclusion_graph.proofs.ReachLaws.{reaches_appended, reaches_split}
+use Rattle.invocation_world.proofs.ReachFacts.{reach_over}
 use Rattle.invocation_world.proofs.ValidFacts.{ahead_if_quiet, rows_later}
 
 -- what stands at a place with one row more

@@ -19,7 +19,8 @@ use Rattle.invocation_world.specs.Laws.{KeepsFinal}
 use Rattle.invocation_world.specs.Settling.{Settles, SettlesRows}
 use Rattle.invocation_world.proofs.BegunFacts.{all_begun_at, not_begun}
 use Rattle.invocation_world.proofs.ChangeFacts.{edges_all_from, targets_elsewhere}
-use Rattle.invocation_world.proofs.ReachFacts.{reaches_appended, reaches_join, reaches_row, reaches_split}
+use Rattle.inclusion_graph.proofs.ReachLaws.{reaches_appended, reaches_join, reaches_split}
+use Rattle.invocation_world.proofs.ReachFacts.{reaches_row}
 use Rattle.invocation_world.proofs.RowFacts.{row_in, state_is, apart, active≢finalized, finalizing≢finalized, changed_other}
 use Rattle.invocation_world.proofs.SettleFacts.{row_stays}
 

@@ -8,3 +8,4 @@ pub mod RowLemmas
 pub mod RankLemmas
 pub mod RightLemmas
 pub mod ShortcutLemmas
+pub mod AllowLaws

@@ -7,7 +7,7 @@ use Rattle.std.specs.Cmp.Lexicographic.{bytes_decides}
 use Rattle.std.proofs.lemmas.Bool.{cases_Bool, eqb-true}
 use Rattle.policy_tables.specs.declared.tables.RealmTable.{RealmTable}
 use Rattle.policy_tables.specs.declared.tables.PolicyTables.{PolicyTables}
-use Rattle.policy_tables.specs.Document.{with_entry}
+use Rattle.policy_tables.specs.Entries.{with_entry}
 use Rattle.policy_checks.specs.Index.{place_of}
 use Rattle.policy_checks.specs.Checks.{is_there, realm_names}
 use Rattle.policy_checks.proofs.IndexLemmas.{not_there}

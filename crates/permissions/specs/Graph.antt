@@ -4,7 +4,7 @@ use Rattle.std.specs.Prelude.{◌≡◌, ℕ, ◌<◌, ◌==◌, Bool, true, Lis
 use Rattle.std.specs.List.{list_any}
 use Rattle.policy_tables.specs.declared.tables.RealmTable.{RealmTable}
 use Rattle.policy_tables.specs.declared.tables.PolicyTables.{PolicyTables}
-use Rattle.policy_tables.specs.Document.{with_entry}
+use Rattle.policy_tables.specs.Entries.{with_entry}
 use Rattle.policy_checks.specs.Index.{place_of}
 use Rattle.policy_checks.specs.Checks.{realm_names}
 

@@ -1,5 +1,5 @@
 -- A machine of the code: what an ask looks at, the realms by their ranks, with what each grants.
-use Rattle.std.specs.Prelude.{◌≡◌, ◌⊎◌, ◌↔◌, ◌<◌, ◌≤◌, ℕ, Bool, true, false, ◌&&◌, ◌||◌, List, [], length, map, Option, Some, None, slice_index_or, unwrap_or}
+use Rattle.std.specs.Prelude.{◌≡◌, ◌⊎◌, ◌↔◌, ◌<◌, ◌≤◌, ℕ, Bool, true, false, ◌&&◌, ◌||◌, List, [], length, map, Option, Some, slice_index_or, unwrap_or}
 use Rattle.std.specs.List.{list_any}
 use Rattle.std.specs.Ordering.{nat_cmp}
 use Rattle.std.specs.BTreeMap.{get}
@@ -14,7 +14,7 @@ use Rattle.permissions.specs.declared.shortcuts.Shortcut.{Shortcut}
 use Rattle.permissions.specs.declared.shortcuts.Shortcut.TheVariants.{OwnGrants, SameAs, Absent}
 use Rattle.permissions.specs.Graph.{has, edges, IsWalkOn, graph_of}
 use Rattle.permissions.specs.Masks.{has_bit}
-use Rattle.permissions.specs.Grants.{AreGrants, AreMembers, IsBoundFrom, is_member}
+use Rattle.permissions.specs.Grants.{AreGrants, AreMembers, is_member}
 use Rattle.permissions.specs.Ranks.{AreRanked, IsBoundOn, rank_at}
 
 -- the place is marked

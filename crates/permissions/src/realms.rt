@@ -2,7 +2,7 @@
 ghost use Rattle.std.specs.Prelude.{◌≡◌, ◌++◌, [], IfOk, OnOk};
 ghost use Rattle.policy_checks.specs.Index.{place_of};
 ghost use Rattle.policy_checks.specs.Checks.{realm_names};
-ghost use Rattle.policy_tables.specs.Document.{with_entry};
+ghost use Rattle.policy_tables.specs.Entries.{with_entry};
 ghost use Rattle.permissions.specs.Graph.{places_in, graph_from, graph_of};
 
 use name_parts::Bytes;

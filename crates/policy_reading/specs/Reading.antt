@@ -4,7 +4,7 @@ use Rattle.toml.specs.Data.{Members}
 use Rattle.toml.specs.Parse.{parse_document}
 use Rattle.policy_tables.specs.declared.tables.PolicyTables.{PolicyTables}
 use Rattle.policy_tables.specs.Findings.{least_of}
-use Rattle.policy_tables.specs.Document.{shape_findings, tables_of}
+use Rattle.policy_document.specs.Document.{shape_findings, tables_of}
 use Rattle.permissions.specs.declared.faults.PolicyFault.{PolicyFault}
 use Rattle.permissions.specs.declared.faults.PolicyFault.TheVariants.{NotToml, RealmCycle, TooMany, BadShape, Memory}
 use Rattle.permissions.specs.Cycle.{HasNoCycle, IsLeastCycle}

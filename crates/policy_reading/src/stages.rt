@@ -2,7 +2,7 @@
 ghost use Rattle.std.specs.Prelude.{◌≡◌, ◌≢◌, ◌<◌, ◌≤◌, ℕ, List, None, Some, Ok, length, map, IfOk, IfErr, OnOk, option_map};
 ghost use Rattle.toml.specs.Data.{Members};
 ghost use Rattle.toml.specs.View.{table_view};
-ghost use Rattle.policy_tables.specs.Document.{tables_of};
+ghost use Rattle.policy_document.specs.Document.{tables_of};
 ghost use Rattle.policy_checks.specs.Index.{IsIndexOf};
 ghost use Rattle.permissions.specs.Cycle.{IsLeastCycle};
 ghost use Rattle.policy_reading.specs.Walked.{LeadsBack};
@@ -13,7 +13,8 @@ ghost use Rattle.permissions.specs.Faults.{entries_fault, check_fault, checked, 
 use crate::cycle::first_cycle;
 use permissions::PolicyFault;
 use policy_checks::{Book, Check, NameIndex, first_failing, index_tokens};
-use policy_tables::{Finding, Listed, Notes, PolicyTables, count_entries, read_tables};
+use policy_document::read_tables;
+use policy_tables::{Finding, Listed, Notes, PolicyTables, count_entries};
 use std::alloc::Global;
 use toml::Table;
 

@@ -1,4 +1,3 @@
-pub mod Document
 pub mod Entries
 pub mod Findings
 pub mod Notes

@@ -12,8 +12,8 @@ pub struct Finding {
     pub text: Bytes,
 }
 
-/// The bytes in memory of their own.
-pub(crate) fn copied(alloc: Global, bytes: &[u8]) -> Result<Bytes, AllocError>
+/// The bytes in memory of their own. `Err` where there is none.
+pub fn copied(alloc: Global, bytes: &[u8]) -> Result<Bytes, AllocError>
     ensures { IfOk result (λ b. b ≡ bytes.now) }
 {
     Ok(Bytes::new(Vec::from_slice(alloc, bytes)?))

@@ -1,18 +1,11 @@
-//! The tables of a configuration, read from a TOML document, or the least path at which it isn't of
-//! their shape.
+//! The tables of a configuration as plain data, and the path at which something is wrong with them.
 #![tactic(auto)]
 
-mod entries;
 mod findings;
 mod notes;
-mod read;
-mod shape;
 mod tables;
-#[cfg(test)]
-mod tests;
 
-pub use entries::read_tables;
-pub use findings::Finding;
+pub use findings::{Finding, copied};
 pub use lists::Listed;
 pub use notes::Notes;
 pub use tables::{Binding, Group, PolicyTables, RealmTable, Role, User, count_entries};

@@ -4,7 +4,7 @@ use Rattle.toml.specs.Data.{Members}
 use Rattle.outside.specs.Bytes.{Gave, IsEnd}
 use Rattle.outside.specs.Ends.{Incoming}
 use Rattle.policy_tables.specs.declared.tables.PolicyTables.{PolicyTables}
-use Rattle.policy_tables.specs.Document.{tables_of}
+use Rattle.policy_document.specs.Document.{tables_of}
 use Rattle.permissions.specs.Faults.{IsSound}
 use Rattle.policy_reading.specs.Reading.{IsPolicyOf, IsFirstFault, IsTablesFault, size, toml, shape, tables, text, cycle, owners, shape_fault, most_bytes}
 use Rattle.permissions.specs.declared.faults.PolicyFault.{PolicyFault}

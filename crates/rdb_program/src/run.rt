@@ -54,10 +54,10 @@ fn answer<L: Link, C: Clock>(alloc: Global, policy: Policy, clock: &mut C, link:
         (record { config = after; ends = L.ends link.new }) (C.tells (C.state clock.new)) }
     ensures holds { L.holds link.new ≡ L.holds link.old }
 {
-    let Ok(mut core) = Core::new(alloc, policy) else {
+    let Ok(mut core) = Core::new(alloc) else {
         return Ending::Unstarted;
     };
-    let mut teller = CoreTeller::new(&mut core, clock, alloc);
+    let mut teller = CoreTeller::new(&policy, &mut core, clock, alloc);
     Ending::Served(serve_connection(alloc, &mut teller, link))
 }
 

@@ -2,7 +2,5 @@
 #![tactic(auto)]
 
 mod core_teller;
-#[cfg(test)]
-mod tests;
 
 pub use core_teller::CoreTeller;

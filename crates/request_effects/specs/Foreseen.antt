@@ -5,10 +5,13 @@ use Rattle.invocations.specs.declared.invocation.Invocation.{Invocation}
 use Rattle.invocations.specs.Rows.{ended}
 use Rattle.invocation_world.specs.World.{World, IsPair, ReachesActive}
 use Rattle.invocation_world.specs.Changes.{with_begun}
+use Rattle.request_effects.specs.declared.ahead.Ahead.{Ahead}
 use Rattle.request_effects.specs.declared.effect.Effect.{Effect}
 use Rattle.request_effects.specs.declared.effect.Effect.TheVariants as does
 use Rattle.request_effects.specs.declared.shows.Shows.{Shows}
 use Rattle.request_effects.specs.declared.shows.Shows.TheVariants as shows
+use Rattle.request_effects.specs.Effects.{Does}
+use Rattle.request_effects.specs.Fitting.{IsTimely, Suits}
 
 -- the row ended, too, where it is final
 abbrev pub ended_if : Bool → ℤ → Invocation → Invocation
@@ -38,6 +41,16 @@ abbrev pub IsOwn : World → Effect → Shows → Type 0
 IsOwn w effect shows.Empty = ⊤
 IsOwn w effect (shows.Row place) = IsHere w effect place
 IsOwn w effect (shows.Made place) = IsHere w effect place
+
+-- What is seen ahead is what a change will leave: it suits the world, and it is told whether what it
+-- ends is final at once.
+pub record Foresees (a : Ahead) : Type 0 where
+  pub timely : IsTimely a.world.now.world a.moment
+  pub suits : Suits a.world.now.world a.moment a.effect.now
+  pub told : IsFinalTold a.world.now.world a.moment a.effect.now a.is_final
+
+abbrev pub Leaves : Ahead → World → Type 0
+Leaves a after = Does a.moment a.effect.now a.world.now.world after
 
 -- What a row shows can be written: its creator's name and its tags are of their forms.
 pub record IsFormed (row : Invocation) : Type 0 where

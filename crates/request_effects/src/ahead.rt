@@ -4,9 +4,8 @@ ghost use Rattle.inclusion_graph.specs.Edges.{targets_of};
 ghost use Rattle.invocations.specs.Rows.{begun};
 ghost use Rattle.invocation_world.specs.World.{World};
 ghost use Rattle.invocation_world.specs.Changes.{updated};
-ghost use Rattle.request_effects.specs.Effects.{Does};
-ghost use Rattle.request_effects.specs.Fitting.{IsTimely, Suits};
-ghost use Rattle.request_effects.specs.Foreseen.{IsFinalTold, IsFormed, IsHere, ended_if};
+ghost use Rattle.request_effects.specs.Fitting.{Suits};
+ghost use Rattle.request_effects.specs.Foreseen.{Foresees, IsFinalTold, IsFormed, IsHere, Leaves, ended_if};
 ghost use Rattle.request_effects.specs.Planned.{IsRoomier};
 ghost use Rattle.request_effects.specs.Shows.{ids_at};
 
@@ -119,14 +118,10 @@ pub(crate) struct Ahead<'r> {
 impl<'r> Ahead<'r> {
     /// The invocation at a place as it will be, where it is the one that is changed, or nothing is.
     pub(crate) fn row(&self, place: u32) -> Seen<'r>
-        requires timely { IsTimely self.now.world.now.world self.now.moment }
-        requires suits { Suits self.now.world.now.world self.now.moment self.now.effect.now }
-        requires told { IsFinalTold self.now.world.now.world self.now.moment
-            self.now.effect.now self.now.is_final }
+        requires foresees { Foresees self.now }
         requires here { IsHere self.now.world.now.world self.now.effect.now place }
         ensures formed { IsFormed result }
-        ensures stands { (after : World)
-            → Does self.now.moment self.now.effect.now self.now.world.now.world after
+        ensures stands { (after : World) → Leaves self.now after
             → slice_get after.invocations place ≡ Some result }
     {
         match self.effect {
@@ -142,13 +137,11 @@ impl<'r> Ahead<'r> {
 
     /// The places of the invocations that the one at a place will include.
     pub(crate) fn included(&self, place: u32) -> &'r [u32]
-        requires timely { IsTimely self.now.world.now.world self.now.moment }
-        requires suits { Suits self.now.world.now.world self.now.moment self.now.effect.now }
+        requires foresees { Foresees self.now }
         requires here { IsHere self.now.world.now.world self.now.effect.now place }
         ensures within { All (λ target. target < length self.now.world.now.world.invocations)
             result.now }
-        ensures targets { (after : World)
-            → Does self.now.moment self.now.effect.now self.now.world.now.world after
+        ensures targets { (after : World) → Leaves self.now after
             → (result.now ≡ targets_of after.inclusions place)
             × (ids_at self.now.world.now.world.invocations result.now
             ≡ ids_at after.invocations result.now) }

@@ -4,7 +4,7 @@ ghost use Rattle.invocation_world.specs.World.{World};
 ghost use Rattle.message_forms.specs.Replies.{IsShowable};
 ghost use Rattle.request_effects.specs.Effects.{Does};
 ghost use Rattle.request_effects.specs.Fitting.{IsTimely, Suits};
-ghost use Rattle.request_effects.specs.Foreseen.{IsFinalTold, IsHere, IsOwn};
+ghost use Rattle.request_effects.specs.Foreseen.{Foresees, IsHere, IsOwn, Leaves};
 ghost use Rattle.request_effects.specs.Planned.{IsRoomier};
 ghost use Rattle.request_effects.specs.Shows.{answer_of, done, ids_at, reply_at, shown_with, token_at};
 
@@ -72,13 +72,9 @@ fn done(alloc: Global, token: Option<[u8; 64]>, reply: &Reply) -> Result<Answer,
 impl<'r> Ahead<'r> {
     /// The update token of the invocation at a place.
     fn token(&self, policy: &Policy, place: u32) -> [u8; 64]
-        requires timely { IsTimely self.now.world.now.world self.now.moment }
-        requires suits { Suits self.now.world.now.world self.now.moment self.now.effect.now }
-        requires told { IsFinalTold self.now.world.now.world self.now.moment
-            self.now.effect.now self.now.is_final }
+        requires foresees { Foresees self.now }
         requires here { IsHere self.now.world.now.world self.now.effect.now place }
-        ensures { (after : World)
-            → Does self.now.moment self.now.effect.now self.now.world.now.world after
+        ensures { (after : World) → Leaves self.now after
             → token_at (record { policy = policy.now }) (slice_get after.invocations place)
             ≡ Some result }
     {
@@ -94,13 +90,9 @@ impl<'r> Ahead<'r> {
         place: u32,
         token: Option<[u8; 64]>,
     ) -> Result<Answer, AllocError>
-        requires timely { IsTimely self.now.world.now.world self.now.moment }
-        requires suits { Suits self.now.world.now.world self.now.moment self.now.effect.now }
-        requires told { IsFinalTold self.now.world.now.world self.now.moment
-            self.now.effect.now self.now.is_final }
+        requires foresees { Foresees self.now }
         requires here { IsHere self.now.world.now.world self.now.effect.now place }
-        ensures { (after : World)
-            → Does self.now.moment self.now.effect.now self.now.world.now.world after
+        ensures { (after : World) → Leaves self.now after
             → IfOk result (λ answer. answer ≡ done token
             (reply_at after place (slice_get after.invocations place))) }
     {
@@ -112,13 +104,9 @@ impl<'r> Ahead<'r> {
 
     /// The answer that shows this.
     fn show(&self, alloc: Global, policy: &Policy, shows: Shows) -> Result<Answer, AllocError>
-        requires timely { IsTimely self.now.world.now.world self.now.moment }
-        requires suits { Suits self.now.world.now.world self.now.moment self.now.effect.now }
-        requires told { IsFinalTold self.now.world.now.world self.now.moment
-            self.now.effect.now self.now.is_final }
+        requires foresees { Foresees self.now }
         requires own { IsOwn self.now.world.now.world self.now.effect.now shows }
-        ensures { (after : World)
-            → Does self.now.moment self.now.effect.now self.now.world.now.world after
+        ensures { (after : World) → Leaves self.now after
             → IfOk result (λ answer. answer ≡ answer_of
             (record { settings = record { policy = policy.now }; world = after }) shows) }
     {

@@ -1,4 +1,4 @@
--- Which rule a request breaks can be told in every world, where each right can be told.
+-- Which rule a request breaks can be told in every world.
 use Rattle.std.proofs.Common.{◌≡◌, ◌++◌, ℕ, zero, ℤ, ◌+ℤ◌, List, [], ◌∷◌, length, codes, decimal, Contains, Option, Some, None, inl, inr, refl, sym, ap, ◌∙◌, subst, arith}
 use Rattle.std.specs.Prelude.{◌⊎◌}
 use Rattle.std.specs.Str.{bytes_eq}
@@ -11,6 +11,7 @@ use Rattle.names_realms.specs.Names.{invocation_name}
 use Rattle.names_realms.specs.declared.states.State.{State}
 use Rattle.names_realms.specs.declared.states.State.TheVariants.{Active, Finalizing, Finalized}
 use Rattle.policy_tables.specs.declared.tables.PolicyTables.{PolicyTables}
+use Rattle.permissions.proofs.AllowLaws.{allows_or_not}
 use Rattle.update_tokens.specs.Hash.{token_text}
 use Rattle.inclusion_graph.proofs.ListLemmas.{in_one}
 use Rattle.invocations.specs.declared.invocation.Invocation.{Invocation}
@@ -176,26 +177,25 @@ taken_told rows d (Some id) e =
       | inr there ↦ inl (of_invocation 19 id, record { id = id; makes = e; taken = there; refusal_is = refl })
     ]
 
--- Whether a caller has a right can be told.
-abbrev pub RightsAreTold : PolicyTables → ℕ → Type 0
-RightsAreTold policy caller = (x : Right) → Lacks policy caller x ⊎ (Lacks policy caller x → ⊥)
+-- whether a caller lacks a right can be told
+lacks_or_not : (policy : PolicyTables) (caller : ℕ) (x : Right) → Lacks policy caller x ⊎ (Lacks policy caller x → ⊥)
+lacks_or_not policy caller x =
+    elim (allows_or_not policy caller x.permission x.realm) [ inl is ↦ inr (λ none. none is) | inr none ↦ inl none ]
 
-pub broken_told : (x : Case) (d : Demand) → RightsAreTold x.settings.policy x.caller → (k : Rule) → Told (IsBroken x d k)
-broken_told x d rights rule.NotFound =
+pub broken_told : (x : Case) (d : Demand) (k : Rule) → Told (IsBroken x d k)
+broken_told x d rule.NotFound =
     let first = first_there (IsMissing x.rows) (missing_or_not x.rows) (d.named ++ d.included) in
     not_found_told x.rows d first.0 first.1
-broken_told x d rights rule.NoUpdateToken = no_token_told x.asked d d.changed x.asked.update_token refl refl
-broken_told x d rights rule.BadUpdateToken = bad_token_told x.settings x.asked d d.changed x.asked.update_token refl refl
-broken_told x d rights rule.Denied =
-    let first = first_there (Lacks x.settings.policy x.caller) rights (rights_taken x.rows d) in
+broken_told x d rule.NoUpdateToken = no_token_told x.asked d d.changed x.asked.update_token refl refl
+broken_told x d rule.BadUpdateToken = bad_token_told x.settings x.asked d d.changed x.asked.update_token refl refl
+broken_told x d rule.Denied =
+    let first = first_there (Lacks x.settings.policy x.caller) (lacks_or_not x.settings.policy x.caller) (rights_taken x.rows d) in
     denied_told x.settings.policy x.rows x.caller d first.0 first.1
-broken_told x d rights rule.NotActive = active_told x.rows d d.active refl
-broken_told x d rights rule.DeadlineRange = deadline_told x.moment d d.deadline refl
-broken_told x d rights rule.Itself = itself_told d d.changed refl
-broken_told x d rights rule.TooMany = many_told d
-broken_told x d rights rule.Taken = taken_told x.rows d d.makes refl
-
--- ---- the last rule
+broken_told x d rule.NotActive = active_told x.rows d d.active refl
+broken_told x d rule.DeadlineRange = deadline_told x.moment d d.deadline refl
+broken_told x d rule.Itself = itself_told d d.changed refl
+broken_told x d rule.TooMany = many_told d
+broken_told x d rule.Taken = taken_told x.rows d d.makes refl
 
 -- ---- what a request says by itself
 

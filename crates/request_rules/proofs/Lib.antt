@@ -1,4 +1,3 @@
-pub mod FormLaws
 pub mod Firsts
 pub mod Judged
 pub mod RuleFacts

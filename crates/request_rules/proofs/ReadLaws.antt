@@ -14,7 +14,7 @@ use Rattle.request_rules.specs.Settings.{Settings, caller_of}
 use Rattle.message_forms.specs.declared.requests.Request.{Request}
 use Rattle.request_rules.specs.Order.{IsUnbroken}
 use Rattle.request_rules.specs.Broken.{HasNoMethod, IsRefusedAlone, Wants, refusal, target_of}
-use Rattle.request_rules.proofs.FormLaws.{never_both, not_memory}
+use Rattle.message_forms.proofs.FaultLaws.{never_both, not_memory}
 
 -- what is understood where the method isn't there, or nobody asks, or the body has a fault
 pub no_method : (s : Settings) (asked : Asked) (answer : Answer) → method_of asked.service asked.method ≡ None

@@ -16,7 +16,8 @@ use Rattle.request_rules.specs.Named.{named}
 use Rattle.request_rules.specs.Demands.{Demand, rights_taken}
 use Rattle.request_rules.specs.Broken.{Alone, BadUpdateToken, Case, DeadlineRange, Denied, HasBadBody, IsBroken, IsBrokenAlone, IsMissing, IsRefusedAlone, Itself, Lacks, NoUpdateToken, NotActive, NotFound, Taken, Wants, body_right, caller_known, denied, method_known, of_invocation, order_alone, out_of_reach, refusal, target_of}
 use Rattle.request_rules.proofs.Firsts.{one_first}
-use Rattle.request_rules.proofs.FormLaws.{one_request_asked, one_fault}
+use Rattle.message_forms.proofs.FaultLaws.{one_fault}
+use Rattle.message_forms.proofs.RequestLaws.{one_request_asked}
 use Rattle.request_rules.proofs.Judged.{IsOne, one_judged}
 
 -- what is said of an id that a request has is said of one

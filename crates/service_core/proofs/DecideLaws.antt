@@ -1,5 +1,5 @@
 -- Which rule a request breaks can be told in every world.
-use Rattle.std.proofs.Common.{ℕ, ℤ, Option, inl, inr}
+use Rattle.std.proofs.Common.{ℕ, ℤ, Option}
 use Rattle.call_forms.specs.declared.asked.Asked.{Asked}
 use Rattle.call_forms.specs.declared.forms.Refusal.{Refusal}
 use Rattle.message_forms.specs.declared.requests.Request.{Request}
@@ -7,17 +7,12 @@ use Rattle.invocation_world.specs.World.{World}
 use Rattle.request_rules.specs.Settings.{Settings}
 use Rattle.request_rules.specs.Demands.{demand_of}
 use Rattle.request_rules.specs.Broken.{Case, IsBroken, order}
-use Rattle.request_rules.proofs.Decided.{RightsAreTold, broken_told}
+use Rattle.request_rules.proofs.Decided.{broken_told}
 use Rattle.request_rules.proofs.Judged.{judged_there}
 use Rattle.service_core.specs.Step.{IsJudgedAs, case_in}
-use Rattle.service_core.proofs.AllowLaws.{allows_or_not}
-
-rights_told : (s : Settings) (caller : ℕ) → RightsAreTold s.policy caller
-rights_told s caller x =
-    elim (allows_or_not s caller x.permission x.realm) [ inl is ↦ inr (λ none. none is) | inr none ↦ inl none ]
 
 pub judged_as : (s : Settings) (w : World) (moment : ℤ) (asked : Asked) (caller : ℕ) (request : Request)
     → (found : Option Refusal) × IsJudgedAs s w moment asked caller request found
 judged_as s w moment asked caller request =
     let x : Case = case_in s w moment asked caller in
-    judged_there (IsBroken x (demand_of request)) (broken_told x (demand_of request) (rights_told s caller)) order
+    judged_there (IsBroken x (demand_of request)) (broken_told x (demand_of request)) order

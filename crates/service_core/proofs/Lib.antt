@@ -1,5 +1,4 @@
 pub mod ClearedLaws
-pub mod AllowLaws
 pub mod DecideLaws
 pub mod ChangeLaws
 pub mod StayLaws

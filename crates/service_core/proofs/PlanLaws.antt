@@ -29,39 +29,39 @@ use Rattle.request_effects.proofs.EffectLaws.{effects_change}
 use Rattle.request_effects.proofs.FullLaws.{unfull}
 use Rattle.service_core.specs.declared.plan.Prepared.{Prepared}
 use Rattle.service_core.specs.declared.plan.Prepared.TheVariants as prepared
-use Rattle.service_core.specs.CoreState.{CoreState, PlanState, held_by}
+use Rattle.service_core.specs.CoreState.{CoreState, PlanState}
 use Rattle.service_core.specs.Planning.{ComesTo}
 use Rattle.service_core.specs.Plans.{Carries, Fits, IsPlanOf, IsPrepared}
 use Rattle.service_core.specs.Step.{Performs, Refuses, effect_for}
 use Rattle.service_core.proofs.ClearedLaws.{IsCleared}
 
-pub comes_prepared : (core : CoreState) (moment : ℤ) (asked : Asked) (caller : ℕ) (request : Request) (p : Prepared)
-    → IsTimely core.world moment → IsCleared core.settings core.world moment asked caller request
-    → ComesTo core.settings (held_by core) moment caller request p → IsPrepared core moment asked p
-comes_prepared core moment asked caller request (prepared.Refused answer) timely h comes = record {
+pub comes_prepared : (s : Settings) (core : CoreState) (moment : ℤ) (asked : Asked) (caller : ℕ) (request : Request) (p : Prepared)
+    → IsTimely core.held.world moment → IsCleared s core.held.world moment asked caller request
+    → ComesTo s core moment caller request p → IsPrepared s core moment asked p
+comes_prepared s core moment asked caller request (prepared.Refused answer) timely h comes = record {
   refusal = comes.0;
   is_refusal = inr (caller, request, h.wants, inr (h.judged, comes.1));
   same = refl;
   answer_is = comes.2;
 }
-comes_prepared core moment asked caller request (prepared.Answered answer) timely h comes =
-    let w : World = core.world in
-    let effect : Effect = effect_for core.settings w moment caller request in
+comes_prepared s core moment asked caller request (prepared.Answered answer) timely h comes =
+    let w : World = core.held.world in
+    let effect : Effect = effect_for s w moment caller request in
     let acts : Does moment effect w w =
     subst (λ (e : Effect). Does moment e w w) (sym comes.1.0) (valid_settles moment w timely.valid) in
     record {
       caller = caller;
       request = request;
-      accepted = record { wants = h.wants; judged = h.judged; room = unfull (held_by core) effect comes.0.room };
+      accepted = record { wants = h.wants; judged = h.judged; room = unfull core.held effect comes.0.room };
       acts = acts;
       answer_is = comes.1.1 w acts;
     }
-comes_prepared core moment asked caller request (prepared.Change plan) timely h comes =
-    let w : World = core.world in
-    let effect : Effect = effect_for core.settings w moment caller request in
-    let room = unfull (held_by core) effect comes.0.room in
+comes_prepared s core moment asked caller request (prepared.Change plan) timely h comes =
+    let w : World = core.held.world in
+    let effect : Effect = effect_for s w moment caller request in
+    let room = unfull core.held effect comes.0.room in
     let shown = comes.1.1 in
-    subst (λ (p : PlanState). IsPlanOf core.settings w moment asked p × Fits core p.work) (sym shown.1) (
+    subst (λ (p : PlanState). IsPlanOf s w moment asked p × Fits core p) (sym shown.1) (
       record {
         caller = caller;
         request = request;
@@ -71,36 +71,50 @@ comes_prepared core moment asked caller request (prepared.Change plan) timely h 
         acts = λ after carries. (carries, shown.2 after carries);
         changes = λ after carries. (effects_change w after moment effect timely comes.0.suits room carries).1 comes.1.0;
       },
-      comes.0,
+      record { made = refl; can = comes.0 },
     )
 
 -- in a core with another room
-pub prepared_in : (old new : CoreState) (moment : ℤ) (asked : Asked) (caller : ℕ) (request : Request) (p : Prepared)
-    → new.world ≡ old.world → new.settings ≡ old.settings → IsTimely old.world moment
-    → IsCleared old.settings old.world moment asked caller request
-    → ComesTo new.settings (held_by new) moment caller request p → IsPrepared new moment asked p
-prepared_in old new moment asked caller request p same settings timely h comes =
-    comes_prepared new moment asked caller request p (subst (λ (w : World). IsTimely w moment) (sym same) timely)
-    (subst (λ (w : World). IsCleared new.settings w moment asked caller request) (sym same)
-    (subst (λ (s : Settings). IsCleared s old.world moment asked caller request) (sym settings) h)) comes
+pub prepared_in : (s : Settings) (old new : CoreState) (moment : ℤ) (asked : Asked) (caller : ℕ) (request : Request) (p : Prepared)
+    → new.held.world ≡ old.held.world → IsTimely old.held.world moment → IsCleared s old.held.world moment asked caller request
+    → ComesTo s new moment caller request p → IsPrepared s new moment asked p
+prepared_in s old new moment asked caller request p same timely h comes =
+    comes_prepared s new moment asked caller request p (subst (λ (w : World). IsTimely w moment) (sym same) timely)
+    (subst (λ (w : World). IsCleared s w moment asked caller request) (sym same) h) comes
 
 -- a plan that was carried out is told as it was planned
-pub told_of : (old mid : CoreState) (moment : ℤ) (asked : Asked) (p : Prepared) (plan : PlanState) (result : Option Answer) (answer : Answer)
-    (after : World) → mid.world ≡ old.world → mid.settings ≡ old.settings → p ≡ prepared.Change plan → IsPrepared mid moment asked p
-    → Carries mid.world plan.work after → result ≡ plan.answer → result ≡ Some answer
-    → Refuses old.settings old.world moment asked after answer ⊎ Performs old.settings old.world moment asked after answer
-told_of old mid moment asked p plan result answer after same settings p_is prepared carries result_is some =
-    let is = (subst (IsPrepared mid moment asked) p_is prepared).0 in
+pub told_of : (s : Settings) (old mid : CoreState) (moment : ℤ) (asked : Asked) (p : Prepared) (plan : PlanState) (result : Option Answer)
+    (answer : Answer) (after : World) → mid.held.world ≡ old.held.world → p ≡ prepared.Change plan → IsPrepared s mid moment asked p
+    → Carries mid.held.world plan.work after → result ≡ plan.answer → result ≡ Some answer
+    → Refuses s old.held.world moment asked after answer ⊎ Performs s old.held.world moment asked after answer
+told_of s old mid moment asked p plan result answer after same p_is prepared carries result_is some =
+    let is = (subst (IsPrepared s mid moment asked) p_is prepared).0 in
     let both = is.acts after carries in
-    let here : Performs mid.settings mid.world moment asked after answer = record {
+    let here : Performs s mid.held.world moment asked after answer = record {
       caller = is.caller;
       request = is.request;
       accepted = is.accepted;
       acts = both.0;
       answer_is = same_Some answer is.answer (sym some ∙ (result_is ∙ is.answer_is)) ∙ both.1;
     } in
-    inr (subst (λ (w : World). Performs old.settings w moment asked after answer) same
-    (subst (λ (s : Settings). Performs s mid.world moment asked after answer) settings here))
+    inr (subst (λ (w : World). Performs s w moment asked after answer) same here)
+
+-- what was prepared without a change is told as it was prepared
+pub told_at_once : (s : Settings) (old mid : CoreState) (moment : ℤ) (asked : Asked) (answer : Answer) → mid.held.world ≡ old.held.world
+    → Refuses s mid.held.world moment asked mid.held.world answer ⊎ Performs s mid.held.world moment asked mid.held.world answer
+    → Refuses s old.held.world moment asked mid.held.world answer ⊎ Performs s old.held.world moment asked mid.held.world answer
+told_at_once s old mid moment asked answer same told =
+    subst (λ (w : World). Refuses s w moment asked mid.held.world answer ⊎ Performs s w moment asked mid.held.world answer) same told
+
+pub fits_as : (s : Settings) (core : CoreState) (moment : ℤ) (asked : Asked) (p : Prepared) (plan : PlanState) → p ≡ prepared.Change plan
+    → IsPrepared s core moment asked p → Fits core plan
+fits_as s core moment asked p plan p_is prepared = (subst (IsPrepared s core moment asked) p_is prepared).1
+
+pub answers_as : (s : Settings) (core : CoreState) (moment : ℤ) (asked : Asked) (p : Prepared) (plan : PlanState) → p ≡ prepared.Change plan
+    → IsPrepared s core moment asked p → plan.answer ≡ None → ⊥
+answers_as s core moment asked p plan p_is prepared none =
+    let is = (subst (IsPrepared s core moment asked) p_is prepared).0 in
+    let no : Some is.answer ≡ None = sym is.answer_is ∙ none in cc
 
 -- ---- what a request shows is what its effect is about
 

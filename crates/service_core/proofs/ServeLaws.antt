@@ -1,11 +1,15 @@
 -- Calls that are judged, and due deadlines that are carried out.
-use Rattle.std.proofs.Common.{◌≡◌, ◌<◌, ℤ, ◌≤ℤ◌, List, length, Option, Some, refl, sym, subst, inl, inr}
+use Rattle.std.proofs.Common.{◌≡◌, ℕ, ℤ, ◌≤ℤ◌, List, Option, Some, refl, sym, subst, inl, inr}
 use Rattle.invocations.specs.declared.invocation.Invocation.{Invocation}
 use Rattle.call_forms.specs.declared.asked.Asked.{Asked}
 use Rattle.call_forms.specs.declared.forms.Answer.{Answer}
 use Rattle.call_forms.specs.declared.forms.Refusal.{Refusal}
+use Rattle.call_forms.specs.declared.forms.Standin.TheVariants.{Memory, Spent, Unavailable}
+use Rattle.call_forms.specs.declared.forms.Told.{Told}
+use Rattle.call_forms.specs.declared.forms.Told.TheVariants.{Made, Standin as Instead}
 use Rattle.call_forms.specs.Rules.{refusal_answer}
 use Rattle.invocation_world.specs.World.{World, IsCallMoment, IsValid}
+use Rattle.invocation_world.specs.Advancing.{Advances}
 use Rattle.request_rules.specs.declared.reading.Call.{Call}
 use Rattle.request_rules.specs.declared.rules.Rule.{Rule}
 use Rattle.request_rules.specs.declared.reading.Understood.{Understood}
@@ -15,55 +19,37 @@ use Rattle.request_rules.specs.Demands.{demand_of}
 use Rattle.request_rules.specs.Order.{Judges}
 use Rattle.request_rules.specs.Broken.{IsBroken, order}
 use Rattle.request_rules.specs.Understood.{IsCallOf, IsUnderstood}
-use Rattle.request_rules.proofs.PolicyLaws.{caller_is_there}
 use Rattle.request_effects.specs.Fitting.{IsTimely}
 use Rattle.service_core.specs.declared.plan.Work.{Work}
 use Rattle.service_core.specs.declared.plan.Work.TheVariants.{Tick}
 use Rattle.service_core.specs.CoreState.{CoreState}
 use Rattle.service_core.specs.Plans.{Carries}
-use Rattle.service_core.specs.Step.{IsJudgedAs, Refuses}
+use Rattle.service_core.specs.Step.{IsJudgedAs, Refuses, moment_of}
+use Rattle.service_core.specs.Judged.{IsAnswered}
+use Rattle.service_core.specs.History.{Leads, Tells, entry_at}
 use Rattle.service_core.proofs.HistoryLaws.{advanced_timely}
 
-pub ticked : (old new : CoreState) (work : Work) (after : World) (moment : ℤ) → IsValid old.world → IsCallMoment moment
-    → old.world.last ≤ℤ moment → new ≡ old → work ≡ Tick moment → Carries new.world work after → IsTimely after moment
+pub ticked : (old new : CoreState) (work : Work) (after : World) (moment : ℤ) → IsValid old.held.world → IsCallMoment moment
+    → old.held.world.last ≤ℤ moment → new ≡ old → work ≡ Tick moment → Carries new.held.world work after → IsTimely after moment
 ticked old new work after moment valid call later same is carries =
-    advanced_timely old.world after moment valid call later
-    (subst (λ (x : Work). Carries old.world x after) is (subst (λ (core : CoreState). Carries core.world work after) same carries))
+    advanced_timely old.held.world after moment valid call later
+    (subst (λ (x : Work). Carries old.held.world x after) is
+    (subst (λ (core : CoreState). Carries core.held.world work after) same carries))
 
--- what is judged in the situation of a core is judged there
-pub caller_there : (s t : Settings) (asked : Asked) (call : Call) → t ≡ s → IsCallOf s asked call → call.caller < length t.policy.users
-caller_there s t asked call same is =
-    subst (λ (x : Settings). call.caller < length x.policy.users) (sym same) (caller_is_there s asked.bearer call.caller is.wants.caller_is)
+-- whatever was found of a call among these rows, which are those of a world
+pub found_there : (s : Settings) (w : World) (moment : ℤ) (rows : List Invocation) (asked : Asked) (call : Call) (ks : List Rule)
+    (found : Option Refusal) → rows ≡ w.invocations → ks ≡ order
+    → Judges (IsBroken (record { settings = s; rows = rows; moment = moment; asked = asked; caller = call.caller }) (demand_of call.request)) ks found
+    → IsJudgedAs s w moment asked call.caller call.request found
+found_there s w moment rows asked call ks found same all judged =
+    let Found : List Invocation → List Rule → Type 0 =
+    λ rs ls. Judges (IsBroken (record { settings = s; rows = rs; moment = moment; asked = asked; caller = call.caller }) (demand_of call.request)) ls found in
+    subst (λ (ls : List Rule). Found w.invocations ls) all (subst (λ (rs : List Invocation). Found rs ks) same judged)
 
--- the situation: its settings, rows and moment are those of a core
-pub record IsSituation (core : CoreState) (moment : ℤ) (s : Settings) (rows : List Invocation) (at : ℤ) : Type 0 where
-  pub by_settings : s ≡ core.settings
-  pub by_rows : rows ≡ core.world.invocations
-  pub by_moment : at ≡ moment
-
--- whatever was found there of a call
-pub found_there : (core : CoreState) (moment : ℤ) (s : Settings) (rows : List Invocation) (at : ℤ) (asked : Asked) (call : Call)
-    (ks : List Rule) (found : Option Refusal) → IsSituation core moment s rows at → IsCallOf core.settings asked call → ks ≡ order
-    → ((asked : Asked) → IsCallOf s asked call
-    → Judges (IsBroken (record { settings = s; rows = rows; moment = at; asked = asked; caller = call.caller }) (demand_of call.request)) ks found)
-    → IsJudgedAs core.settings core.world moment asked call.caller call.request found
-found_there core moment s rows at asked call ks found there is all judged =
-    let w = core.world in
-    let here =
-    subst (λ (l : List Rule). Judges (IsBroken (record { settings = s; rows = rows; moment = at; asked = asked; caller = call.caller })
-    (demand_of call.request)) l found) all
-    (judged asked (subst (λ (x : Settings). IsCallOf x asked call) (sym there.by_settings) is)) in
-    let One : Settings → List Invocation → ℤ → Type 0 =
-    λ x rs m. Judges (IsBroken (record { settings = x; rows = rs; moment = m; asked = asked; caller = call.caller }) (demand_of call.request)) order found in
-    subst (λ (m : ℤ). One core.settings w.invocations m) there.by_moment
-    (subst (λ (rs : List Invocation). One core.settings rs at) there.by_rows
-    (subst (λ (x : Settings). One x rows at) there.by_settings here))
-
-pub refuses_first : (core : CoreState) (moment : ℤ) (asked : Asked) (call : Call) (r : Refusal) (answer : Answer)
-    → IsCallOf core.settings asked call
-    → IsJudgedAs core.settings core.world moment asked call.caller call.request (Some r)
-    → answer ≡ refusal_answer r → Refuses core.settings core.world moment asked core.world answer
-refuses_first core moment asked call r answer is first told = record {
+pub refuses_first : (s : Settings) (w : World) (moment : ℤ) (asked : Asked) (call : Call) (r : Refusal) (answer : Answer)
+    → IsCallOf s asked call → IsJudgedAs s w moment asked call.caller call.request (Some r) → answer ≡ refusal_answer r
+    → Refuses s w moment asked w answer
+refuses_first s w moment asked call r answer is first told = record {
   refusal = r;
   is_refusal = inr (call.caller, call.request, is.wants, inl first);
   same = refl;
@@ -71,15 +57,41 @@ refuses_first core moment asked call r answer is first told = record {
 }
 
 -- what is refused by itself is refused in each world
-pub refuses_alone : (core inside : CoreState) (moment : ℤ) (asked : Asked) (understood : Understood) (answer : Answer) → inside ≡ core
-    → understood ≡ Refused answer → IsUnderstood inside.settings asked understood
-    → Refuses core.settings core.world moment asked core.world answer
-refuses_alone core inside moment asked understood answer same is told =
-    let alone = subst (λ (u : Understood). IsUnderstood core.settings asked u) is
-    (subst (λ (c : CoreState). IsUnderstood c.settings asked understood) same told) in
+pub refuses_alone : (s : Settings) (core : CoreState) (moment : ℤ) (asked : Asked) (understood : Understood) (answer : Answer)
+    → understood ≡ Refused answer → IsUnderstood s asked understood → Refuses s core.held.world moment asked core.held.world answer
+refuses_alone s core moment asked understood answer is told =
+    let alone = subst (IsUnderstood s asked) is told in
     record {
       refusal = alone.0;
       is_refusal = inl alone.1;
       same = refl;
       answer_is = alone.2;
     }
+
+told_after : (s : Settings) (w between after : World) (moment : ℤ) (asked : Asked) → Advances w moment between → (told : Told)
+    → IsAnswered s between moment asked told after → Tells s w moment asked told after
+told_after s w between after moment asked due (Made answer) answered = record { between = between; advances = due; judged = answered }
+told_after s w between after moment asked due (Instead Memory) answered = inr (subst (Advances w moment) (sym answered) due)
+told_after s w between after moment asked due (Instead Unavailable) answered = absurd answered
+told_after s w between after moment asked due (Instead Spent) answered = absurd answered
+
+-- what is answered after what was due is served
+pub serves_after : (s : Settings) (w between after : World) (seat : ℕ) (now moment : ℤ) (asked : Asked) (told : Told)
+    → moment ≡ moment_of w.last now → IsCallMoment moment → w.last ≤ℤ moment → Advances w moment between
+    → IsAnswered s between moment asked told after → Leads s w (entry_at w seat now asked told) after
+serves_after s w between after seat now moment asked told is call later due answered =
+    let tells : (told : Told) → IsAnswered s between moment asked told after → Tells s w moment asked told after = told_after s w between after moment asked due in
+    record {
+      moment = subst IsCallMoment is call;
+      later = subst (λ (t : ℤ). w.last ≤ℤ t) is later;
+      tells = subst (λ (t : ℤ). Tells s w t asked told after) is (tells told answered);
+    }
+
+-- want of memory leaves the world, and is served
+pub serves_nothing : (s : Settings) (w after : World) (seat : ℕ) (now moment : ℤ) (asked : Asked) → moment ≡ moment_of w.last now
+    → IsCallMoment moment → w.last ≤ℤ moment → after ≡ w → Leads s w (entry_at w seat now asked (Instead Memory)) after
+serves_nothing s w after seat now moment asked is call later same = record {
+  moment = subst IsCallMoment is call;
+  later = subst (λ (t : ℤ). w.last ≤ℤ t) is later;
+  tells = inl same;
+}

@@ -1,28 +1,28 @@
 -- What the core and its plans show of themselves.
-use Rattle.std.specs.Prelude.{ℕ, Option}
+use Rattle.std.specs.Prelude.{◌≡◌, ℕ, ◌+◌, Option, min}
 use Rattle.call_forms.specs.declared.forms.Answer.{Answer}
-use Rattle.invocation_world.specs.World.{World}
 use Rattle.invocation_world.specs.States.{WorldState}
-use Rattle.request_rules.specs.Settings.{Settings}
+use Rattle.request_effects.specs.Planned as effects
 use Rattle.service_core.specs.declared.plan.Work.{Work}
 
--- A core: what it is set up with, its world, and for how many more rows and inclusions it has room.
+-- A core: its world with its room, and how many changes were made in it, counted as far as the
+-- count goes.
 pub record CoreState : Type 0 where
-  pub settings : Settings
-  pub world : World
-  pub spare_rows : ℕ
-  pub spare_inclusions : ℕ
+  pub held : WorldState
+  pub changes : ℕ
 
--- the world with its room
-abbrev pub held_by : CoreState → WorldState
-held_by core = record {
-  world = core.world;
-  spare_rows = core.spare_rows;
-  spare_inclusions = core.spare_inclusions;
-}
+-- one change more
+abbrev pub more_changes : ℕ → ℕ
+more_changes changes = min (changes + 1) 18_446_744_073_709_551_615
 
--- A plan: what is to be done, and the answer that it gives. The plan that carries out due deadlines
--- gives none.
+-- The world stays, no change was made, and there is room for no less.
+pub record IsRoomier (before after : CoreState) : Type 0 where
+  pub held : effects.IsRoomier before.held after.held
+  pub changes : after.changes ≡ before.changes
+
+-- A plan: what is to be done, the answer that it gives, and how many changes there were when it was
+-- made. The plan that carries out due deadlines gives no answer.
 pub record PlanState : Type 0 where
   pub work : Work
   pub answer : Option Answer
+  pub made_at : ℕ

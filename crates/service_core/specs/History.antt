@@ -30,10 +30,13 @@ pub record Leads (s : Settings) (w : World) (e : Entry) (after : World) : Type 0
   pub later : w.last ≤ℤ e.moment
   pub tells : Tells s w e.moment e.asked e.told after
 
--- One call without others beside it, at the moment that this answer of a clock makes.
-abbrev pub Serves : Settings → World → ℤ → Asked → Told → World → Type 0
-Serves s w now asked told after =
-    Leads s w (record { seat = 0; moment = moment_of w.last now; asked = asked; told = told }) after
+-- One call of a seat, at the moment that this answer of a clock makes of the world.
+abbrev pub entry_at : World → ℕ → ℤ → Asked → Told → Entry
+entry_at w seat now asked told =
+    record { seat = seat; moment = moment_of w.last now; asked = asked; told = told }
+
+abbrev pub Serves : Settings → World → ℕ → ℤ → Asked → Told → World → Type 0
+Serves s w seat now asked told after = Leads s w (entry_at w seat now asked told) after
 
 -- Each entry leads from the world that the one before it left.
 abbrev pub IsLegal : Settings → World → List Entry → World → Type 0

@@ -1,6 +1,6 @@
 -- The code's own words: a call that was judged, and what was told for a request at a moment at
 -- which nothing is due.
-use Rattle.std.specs.Prelude.{◌≡◌, ℤ, Option, Some, None}
+use Rattle.std.specs.Prelude.{◌≡◌, ◌⊎◌, ℤ, Option, Some, None}
 use Rattle.call_forms.specs.declared.asked.Asked.{Asked}
 use Rattle.call_forms.specs.declared.forms.Answer.{Answer}
 use Rattle.call_forms.specs.declared.forms.Refusal.{Refusal}
@@ -8,21 +8,18 @@ use Rattle.call_forms.specs.Rules.{refusal_answer}
 use Rattle.call_forms.specs.declared.forms.Standin.TheVariants.{Unavailable, Memory, Spent}
 use Rattle.call_forms.specs.declared.forms.Told.{Told}
 use Rattle.call_forms.specs.declared.forms.Told.TheVariants.{Made, Standin as Instead}
-use Rattle.std.specs.Prelude.{◌⊎◌}
 use Rattle.invocation_world.specs.World.{World}
 use Rattle.request_rules.specs.declared.reading.Call.{Call}
 use Rattle.request_rules.specs.Settings.{Settings}
-use Rattle.service_core.specs.CoreState.{CoreState}
 use Rattle.service_core.specs.Step.{IsJudgedAs, Refuses, Performs}
 
 -- The answer refuses the call, by the first rule for what is demanded that it breaks; or it breaks
 -- none.
-abbrev pub TellsRefusal : CoreState → ℤ → Asked → Call → Option Answer → Type 0
-TellsRefusal core moment asked call None =
-    IsJudgedAs core.settings core.world moment asked call.caller call.request None
-TellsRefusal core moment asked call (Some answer) =
-    (r : Refusal)
-    × IsJudgedAs core.settings core.world moment asked call.caller call.request (Some r)
+abbrev pub TellsRefusal : Settings → World → ℤ → Asked → Call → Option Answer → Type 0
+TellsRefusal s w moment asked call None =
+    IsJudgedAs s w moment asked call.caller call.request None
+TellsRefusal s w moment asked call (Some answer) =
+    (r : Refusal) × IsJudgedAs s w moment asked call.caller call.request (Some r)
     × (answer ≡ refusal_answer r)
 
 -- The request is refused or performed, or want of memory was told and nothing changed.

@@ -5,7 +5,6 @@ use Rattle.call_forms.specs.declared.forms.Refusal.{Refusal}
 use Rattle.call_forms.specs.Rules.{refusal_answer}
 use Rattle.message_forms.specs.declared.requests.Request.{Request}
 use Rattle.invocation_world.specs.World.{World}
-use Rattle.invocation_world.specs.States.{WorldState}
 use Rattle.request_rules.specs.Settings.{Settings}
 use Rattle.request_effects.specs.declared.effect.Change.{Change}
 use Rattle.request_effects.specs.declared.effect.Effect.TheVariants as does
@@ -17,6 +16,7 @@ use Rattle.request_effects.specs.Shows.{answer_of, shows_of}
 use Rattle.service_core.specs.declared.plan.Prepared.{Prepared}
 use Rattle.service_core.specs.declared.plan.Prepared.TheVariants as prepared
 use Rattle.service_core.specs.declared.plan.Work.TheVariants as work
+use Rattle.service_core.specs.CoreState.{CoreState, PlanState}
 use Rattle.service_core.specs.Step.{effect_for, scene_of}
 
 -- the answer shows this of the world that a change leaves
@@ -25,31 +25,39 @@ Answers s w change shows answer =
     (after : World) → Does change.moment change.effect w after
     → answer ≡ answer_of (scene_of s after) shows
 
+-- the plan of a change that shows this, made in this core
+abbrev pub plan_of : Change → Answer → CoreState → PlanState
+plan_of change answer core =
+    record { work = work.Change change; answer = Some answer; made_at = core.changes }
+
 -- A change that does nothing is answered; another one is planned, with its answer.
-abbrev pub IsShown : Settings → World → Change → Shows → Prepared → Type 0
-IsShown s w change shows (prepared.Refused answer) = ⊥
-IsShown s w change shows (prepared.Answered answer) =
-    (change.effect ≡ does.Nothing) × Answers s w change shows answer
-IsShown s w change shows (prepared.Change plan) =
+abbrev pub IsShown : Settings → CoreState → Change → Shows → Prepared → Type 0
+IsShown s core change shows (prepared.Refused answer) = ⊥
+IsShown s core change shows (prepared.Answered answer) =
+    (change.effect ≡ does.Nothing) × Answers s core.held.world change shows answer
+IsShown s core change shows (prepared.Change plan) =
     (change.effect ≢ does.Nothing)
-    × ((answer : Answer) × (plan ≡ record { work = work.Change change; answer = Some answer })
-    × Answers s w change shows answer)
+    × ((answer : Answer) × (plan ≡ plan_of change answer core)
+    × Answers s core.held.world change shows answer)
 
 -- what a caller's request does at a moment
 abbrev pub change_for : Settings → World → ℤ → ℕ → Request → Change
 change_for s w moment caller request =
     record { moment = moment; effect = effect_for s w moment caller request }
 
+-- What the request does can be done, and it is shown.
+abbrev pub IsReady : Settings → CoreState → ℤ → ℕ → Request → Prepared → Type 0
+IsReady s core moment caller request p =
+    Fits core.held moment (effect_for s core.held.world moment caller request)
+    × IsShown s core (change_for s core.held.world moment caller request)
+    (shows_of core.held.world request) p
+
 -- The request is refused, since a table is full; or there is room, and what it does is shown.
-abbrev pub ComesTo : Settings → WorldState → ℤ → ℕ → Request → Prepared → Type 0
-ComesTo s held moment caller request (prepared.Refused answer) =
-    (r : Refusal) × TableFull held.world (effect_for s held.world moment caller request) r
+abbrev pub ComesTo : Settings → CoreState → ℤ → ℕ → Request → Prepared → Type 0
+ComesTo s core moment caller request (prepared.Refused answer) =
+    (r : Refusal) × TableFull core.held.world (effect_for s core.held.world moment caller request) r
     × (answer ≡ refusal_answer r)
-ComesTo s held moment caller request (prepared.Answered answer) =
-    Fits held moment (effect_for s held.world moment caller request)
-    × IsShown s held.world (change_for s held.world moment caller request)
-    (shows_of held.world request) (prepared.Answered answer)
-ComesTo s held moment caller request (prepared.Change plan) =
-    Fits held moment (effect_for s held.world moment caller request)
-    × IsShown s held.world (change_for s held.world moment caller request)
-    (shows_of held.world request) (prepared.Change plan)
+ComesTo s core moment caller request (prepared.Answered answer) =
+    IsReady s core moment caller request (prepared.Answered answer)
+ComesTo s core moment caller request (prepared.Change plan) =
+    IsReady s core moment caller request (prepared.Change plan)

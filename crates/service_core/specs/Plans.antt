@@ -5,6 +5,7 @@ use Rattle.call_forms.specs.declared.asked.Asked.{Asked}
 use Rattle.message_forms.specs.declared.requests.Request.{Request}
 use Rattle.invocation_world.specs.World.{World, IsCallMoment}
 use Rattle.invocation_world.specs.Advancing.{Advances}
+use Rattle.invocation_world.specs.States.{WorldState}
 use Rattle.request_rules.specs.Settings.{Settings}
 use Rattle.request_effects.specs.Effects.{Does}
 use Rattle.request_effects.specs.Fitting as effects
@@ -13,7 +14,7 @@ use Rattle.service_core.specs.declared.plan.Work.{Work}
 use Rattle.service_core.specs.declared.plan.Work.TheVariants.{Tick, Change}
 use Rattle.service_core.specs.declared.plan.Prepared.{Prepared}
 use Rattle.service_core.specs.declared.plan.Prepared.TheVariants as prepared
-use Rattle.service_core.specs.CoreState.{CoreState, PlanState, held_by}
+use Rattle.service_core.specs.CoreState.{CoreState, PlanState}
 use Rattle.service_core.specs.Step.{IsAccepted, Acts, Refuses, Performs, scene_of}
 
 -- What is planned makes this of a world: due deadlines are carried out at a moment; or a request's
@@ -22,10 +23,15 @@ abbrev pub Carries : World → Work → World → Type 0
 Carries w (Tick moment) after = Advances w moment after
 Carries w (Change change) after = Does change.moment change.effect w after
 
--- It can be done in a core, without memory.
-abbrev pub Fits : CoreState → Work → Type 0
-Fits core (Tick moment) = IsCallMoment moment × (core.world.last ≤ℤ moment)
-Fits core (Change change) = effects.Fits (held_by core) change.moment change.effect
+-- It can be done in the world that is held, without memory.
+abbrev pub CanDo : WorldState → Work → Type 0
+CanDo held (Tick moment) = IsCallMoment moment × (held.world.last ≤ℤ moment)
+CanDo held (Change change) = effects.Fits held change.moment change.effect
+
+-- The plan was made for this core: no change was made since, and it can be done.
+pub record Fits (core : CoreState) (plan : PlanState) : Type 0 where
+  pub made : plan.made_at ≡ core.changes
+  pub can : CanDo core.held plan.work
 
 -- The plan does what a caller asks for and is granted, and gives the reply to it. It changes the
 -- world: what changes nothing is answered and not planned.
@@ -42,11 +48,11 @@ pub record IsPlanOf (s : Settings) (w : World) (moment : ℤ) (asked : Asked) (p
   pub changes : (after : World) → Carries w plan.work after → after ≢ w
 
 -- A request is refused by the answer of the rule that it breaks; or it is accepted, and answered
--- without a change; or it is accepted, and its plan can be carried out.
-abbrev pub IsPrepared : CoreState → ℤ → Asked → Prepared → Type 0
-IsPrepared core moment asked (prepared.Refused answer) =
-    Refuses core.settings core.world moment asked core.world answer
-IsPrepared core moment asked (prepared.Answered answer) =
-    Performs core.settings core.world moment asked core.world answer
-IsPrepared core moment asked (prepared.Change plan) =
-    IsPlanOf core.settings core.world moment asked plan × Fits core plan.work
+-- without a change; or it is accepted, and its plan fits the core.
+abbrev pub IsPrepared : Settings → CoreState → ℤ → Asked → Prepared → Type 0
+IsPrepared s core moment asked (prepared.Refused answer) =
+    Refuses s core.held.world moment asked core.held.world answer
+IsPrepared s core moment asked (prepared.Answered answer) =
+    Performs s core.held.world moment asked core.held.world answer
+IsPrepared s core moment asked (prepared.Change plan) =
+    IsPlanOf s core.held.world moment asked plan × Fits core plan

@@ -20,6 +20,7 @@ pub enum Work {
 pub struct Plan {
     work: Work,
     answer: Option<Answer>,
+    made_at: u64,
 }
 
 impl Model for Plan {
@@ -27,15 +28,19 @@ impl Model for Plan {
 
     ghost Value = { PlanState };
 
-    ghost view = { λ p. record { work = p.work; answer = p.answer } };
+    ghost view = { λ p. record { work = p.work; answer = p.answer; made_at = p.made_at } };
 }
 
 impl Plan {
-    /// The plan of what is to be done, with its answer.
-    pub(crate) fn new(work: Work, answer: Option<Answer>) -> Plan
-        ensures { result ≡ record { work = work; answer = answer } }
+    /// The plan of what is to be done, with its answer, made after this many changes.
+    pub(crate) fn new(work: Work, answer: Option<Answer>, made_at: u64) -> Plan
+        ensures { result ≡ record { work = work; answer = answer; made_at = made_at } }
     {
-        Plan { work, answer }
+        Plan {
+            work,
+            answer,
+            made_at,
+        }
     }
 
     /// What is to be done, and the answer.

@@ -1,69 +1,60 @@
 //! The core: the world in memory, and its steps.
-ghost use Rattle.std.specs.Prelude.{◌≡◌, ◌≤ℤ◌, ◌<◌, ◌≤◌, pos, IfOk, MatchBool, None, OnErr, OnOk, length};
+ghost use Rattle.std.specs.Prelude.{◌≡◌, ℕ, ◌≤ℤ◌, ◌<◌, pos, IfOk, MatchBool, None, OnErr, OnOk, length};
 ghost use Rattle.std.specs.Int.{int_min, int_max};
 ghost use Rattle.invocation_world.specs.World.{empty_world, IsCallMoment, IsValid, latest_call};
 ghost use Rattle.invocation_world.specs.Advancing.{Advances, IsDueAt, IsQuiet};
-ghost use Rattle.request_rules.specs.Understood.{IsCallOf};
+ghost use Rattle.request_rules.specs.Understood.{IsCallOf, IsUnderstood};
 ghost use Rattle.request_effects.specs.Fitting.{IsTimely};
+ghost use Rattle.service_core.specs.CoreState.{IsRoomier, more_changes};
 ghost use Rattle.service_core.specs.Step.{moment_of};
-ghost use Rattle.service_core.specs.Plans.{Carries, Fits, IsPrepared};
+ghost use Rattle.service_core.specs.Plans.{CanDo, Carries, Fits, IsPrepared};
 ghost use Rattle.call_forms.specs.declared.asked.Asked.{Asked};
 ghost use Rattle.service_core.specs.Judged.{IsAnswered, TellsRefusal};
 ghost use Rattle.service_core.specs.History.{Serves};
 
 use crate::plan::{Plan, Prepared, Work};
-use crate::planning::plan;
-use call_forms::{Answer, Asked, Standin, Told};
+use call_forms::{Answer, Standin, Told};
 use invocation_world::InvocationWorld;
 use invocations::Invocation;
 use names_realms::Moment;
 use permissions::Policy;
 use request_effects::carry_out;
-use request_rules::{Call, Holding, Rule, Situation, Understood, holding_for, understand};
+use request_rules::{Call, Rule, Situation, Understood, holding_for};
 use std::alloc::{AllocError, Global};
 use std::marker::Model;
 
 /// 9999-01-01T00:00:00Z
 const LATEST_CALL: i64 = 253_370_764_800_000_000;
 
-/// All that the service holds, under a policy.
+/// All that the service holds. The policy stands beside it: what depends on policy and request alone
+/// is understood before, by as many callers at once as there are.
 #[derive(Drop)]
 pub struct Core {
-    policy: Policy,
-    world: InvocationWorld,
+    pub(crate) world: InvocationWorld,
+    pub(crate) changes: u64,
 }
 
 impl Model for Core {
-    ghost use Rattle.request_rules.specs.Settings.{HasNames};
     ghost use Rattle.service_core.specs.CoreState.{CoreState};
 
     ghost Value = { CoreState };
 
-    ghost view = { λ c. record {
-      settings = record { policy = c.policy };
-      world = c.world.world;
-      spare_rows = c.world.spare_rows;
-      spare_inclusions = c.world.spare_inclusions;
-    } };
-
-    ghost invariant = { λ c. HasNames (record { policy = c.policy }) };
+    ghost view = { λ c. record { held = c.world; changes = c.changes } };
 }
 
 impl Core {
-    /// The empty world under a policy. `Err` where there is no memory.
-    pub fn new(alloc: Global, policy: Policy) -> Result<Core, AllocError>
-        ensures world { IfOk result (λ core. core.world ≡ empty_world) }
-        ensures settings { IfOk result (λ core. core.settings.policy ≡ policy) }
+    /// The empty world. `Err` where there is no memory.
+    pub fn new(alloc: Global) -> Result<Core, AllocError>
+        ensures { IfOk result (λ core. core.held.world ≡ empty_world) }
     {
-        let _ = policy.tables();
         let world = InvocationWorld::new(alloc)?;
-        Ok(Core { policy, world })
+        Ok(Core { world, changes: 0 })
     }
 
     /// The invocations, in order of creation.
     pub fn invocations(&self) -> &[Invocation]
-        ensures value { result.now ≡ self.now.world.invocations }
-        ensures valid { IsValid self.now.world }
+        ensures value { result.now ≡ self.now.held.world.invocations }
+        ensures valid { IsValid self.now.held.world }
     {
         self.world.rows()
     }
@@ -71,17 +62,18 @@ impl Core {
     /// The moment of a call: what the clock says, in microseconds since 1970, brought into
     /// 1970-01-01T00:00:00Z to 9999-01-01T00:00:00Z, and no earlier than the last change.
     pub fn moment_of(&self, now: i64) -> Moment
-        ensures value { result ≡ moment_of self.now.world.last now }
+        ensures value { result ≡ moment_of self.now.held.world.last now }
         ensures in_range { IsCallMoment result }
-        ensures later { self.now.world.last ≤ℤ result }
+        ensures later { self.now.held.world.last ≤ℤ result }
     {
         Moment::new(later_of(within_years(now), self.world.last().micros()))
     }
 
     /// Whether a deadline is due at a moment.
     pub fn is_due(&self, moment: Moment) -> bool
-        ensures due { MatchBool result (IsDueAt self.now.world moment) (IsQuiet self.now.world moment) }
-        ensures valid { IsValid self.now.world }
+        ensures due { MatchBool result (IsDueAt self.now.held.world moment)
+            (IsQuiet self.now.held.world moment) }
+        ensures valid { IsValid self.now.held.world }
     {
         self.world.is_due(moment)
     }
@@ -90,31 +82,15 @@ impl Core {
     /// `Err` where there is no memory.
     pub fn prepare_tick(&mut self, alloc: Global, moment: Moment) -> Result<Plan, AllocError>
         requires in_range { IsCallMoment moment }
-        requires later { self.old.world.last ≤ℤ moment }
-        requires due { IsDueAt self.old.world moment }
+        requires later { self.old.held.world.last ≤ℤ moment }
+        requires due { IsDueAt self.old.held.world moment }
         ensures core { self.new ≡ self.old }
         ensures work { IfOk result (λ plan. plan.work ≡ Work.Tick moment) }
         ensures answer { IfOk result (λ plan. plan.answer ≡ None) }
-        ensures fits { IfOk result (λ plan. Fits self.new plan.work) }
+        ensures fits { IfOk result (Fits self.new) }
     {
         let _ = alloc;
-        Ok(Plan::new(Work::Tick(moment), None))
-    }
-
-    /// What a call at this moment is judged by, with what was found before of its caller's rights.
-    fn situation<'c>(&'c self, moment: Moment, holding: &'c Option<Holding<'c>>) -> Situation<'c>
-        ensures policy { record { policy = result.policy.now } ≡ self.now.settings }
-        ensures holding { result.holding.now ≡ holding.now }
-        ensures rows { result.table.now.rows ≡ self.now.world.invocations }
-        ensures moment { result.moment ≡ moment }
-        ensures valid { IsValid self.now.world }
-    {
-        Situation {
-            policy: &self.policy,
-            table: self.world.table(),
-            moment,
-            holding,
-        }
+        Ok(Plan::new(Work::Tick(moment), None, self.changes))
     }
 
     /// The answer that refuses a call at this moment, where it breaks a rule for what is demanded.
@@ -122,16 +98,23 @@ impl Core {
     fn refused(
         &self,
         alloc: Global,
+        policy: &Policy,
         moment: Moment,
         call: &Call,
     ) -> Result<Option<Answer>, AllocError>
-        requires { call.now.caller < length self.now.settings.policy.users }
-        ensures valid { IfOk result (λ _. IsValid self.now.world) }
-        ensures told { (asked : Asked) → IsCallOf self.now.settings asked call.now
-            → IfOk result (TellsRefusal self.now moment asked call.now) }
+        requires { call.now.caller < length policy.now.users }
+        ensures valid { IfOk result (λ _. IsValid self.now.held.world) }
+        ensures told { (asked : Asked) → IsCallOf (record { policy = policy.now }) asked call.now
+            → IfOk result (TellsRefusal (record { policy = policy.now }) self.now.held.world moment
+            asked call.now) }
     {
-        let holding = holding_for(alloc, &self.policy, call)?;
-        let situation = self.situation(moment, &holding);
+        let holding = holding_for(alloc, policy, call)?;
+        let situation = Situation {
+            policy,
+            table: self.world.table(),
+            moment,
+            holding: &holding,
+        };
         match situation.judge(Rule::order(), call) {
             Some(breach) => Ok(Some(breach.answer(alloc)?)),
             None => Ok(None),
@@ -142,55 +125,56 @@ impl Core {
     fn prepare_call(
         &mut self,
         alloc: Global,
+        policy: &Policy,
         moment: Moment,
-        asked: &Asked,
         call: Call,
     ) -> Result<Prepared, AllocError>
         requires in_range { IsCallMoment moment }
-        requires later { self.old.world.last ≤ℤ moment }
-        requires quiet { IsQuiet self.old.world moment }
-        requires call { IsCallOf self.old.settings asked.now call }
-        ensures world { self.new.world ≡ self.old.world }
-        ensures settings { self.new.settings ≡ self.old.settings }
-        ensures spare_rows { self.old.spare_rows ≤ self.new.spare_rows }
-        ensures spare_inclusions { self.old.spare_inclusions ≤ self.new.spare_inclusions }
-        ensures prepared { IfOk result (IsPrepared self.new moment asked.now) }
+        requires later { self.old.held.world.last ≤ℤ moment }
+        requires quiet { IsQuiet self.old.held.world moment }
+        requires call { (asked : Asked) × IsCallOf (record { policy = policy.now }) asked call }
+        ensures roomier { IsRoomier self.old self.new }
+        ensures prepared { (asked : Asked) → IsCallOf (record { policy = policy.now }) asked call
+            → IfOk result (IsPrepared (record { policy = policy.now }) self.new moment asked) }
     {
-        if let Some(answer) = self.refused(alloc, moment, &call)? {
+        let _ = policy.tables();
+        if let Some(answer) = self.refused(alloc, policy, moment, &call)? {
             return Ok(Prepared::Refused(answer));
         }
-        let _ = asked;
-        plan(alloc, &mut self.world, &self.policy, moment, call)
+        self.plan(alloc, policy, moment, call)
     }
 
-    /// What a request comes to at this moment, at which nothing is due. It takes all the memory that
-    /// the change needs, and changes nothing yet. `Err` where there is no memory.
+    /// What a request comes to at this moment, at which nothing is due, by what was understood of
+    /// it under this policy. It takes all the memory that the change needs, and changes nothing
+    /// yet. `Err` where there is no memory.
     pub fn prepare(
         &mut self,
         alloc: Global,
+        policy: &Policy,
         moment: Moment,
-        asked: &Asked,
+        understood: Understood,
     ) -> Result<Prepared, AllocError>
         requires in_range { IsCallMoment moment }
-        requires later { self.old.world.last ≤ℤ moment }
-        requires quiet { IsQuiet self.old.world moment }
-        ensures world { self.new.world ≡ self.old.world }
-        ensures settings { self.new.settings ≡ self.old.settings }
-        ensures spare_rows { self.old.spare_rows ≤ self.new.spare_rows }
-        ensures spare_inclusions { self.old.spare_inclusions ≤ self.new.spare_inclusions }
-        ensures prepared { IfOk result (IsPrepared self.new moment asked.now) }
+        requires later { self.old.held.world.last ≤ℤ moment }
+        requires quiet { IsQuiet self.old.held.world moment }
+        requires understood { (asked : Asked)
+            × IsUnderstood (record { policy = policy.now }) asked understood }
+        ensures roomier { IsRoomier self.old self.new }
+        ensures prepared { (asked : Asked)
+            → IsUnderstood (record { policy = policy.now }) asked understood
+            → IfOk result (IsPrepared (record { policy = policy.now }) self.new moment asked) }
     {
-        match understand(alloc, &self.policy, asked)? {
+        match understood {
             Understood::Refused(answer) => Ok(Prepared::Refused(answer)),
-            Understood::Wanted(call) => self.prepare_call(alloc, moment, asked, call),
+            Understood::Wanted(call) => self.prepare_call(alloc, policy, moment, call),
         }
     }
 
     /// Does what was planned.
     fn work(&mut self, work: Work)
-        requires { Fits self.old work }
-        ensures world { Carries self.old.world work self.new.world }
-        ensures settings { self.new.settings ≡ self.old.settings }
+        requires { CanDo self.old.held work }
+        ensures world { Carries self.old.held.world work self.new.held.world }
+        ensures changes { self.new.changes ≡ self.old.changes }
     {
         match work {
             Work::Tick(moment) => self.world.advance(moment),
@@ -198,16 +182,17 @@ impl Core {
         }
     }
 
-    /// Makes a change that was prepared, and gives its answer: none for due deadlines. It takes no
-    /// memory.
+    /// Makes a change that was prepared last, and gives its answer: none for due deadlines. It takes
+    /// no memory.
     pub fn commit(&mut self, plan: Plan) -> Option<Answer>
-        requires { Fits self.old plan.work }
-        ensures world { Carries self.old.world plan.work self.new.world }
-        ensures settings { self.new.settings ≡ self.old.settings }
+        requires { Fits self.old plan }
+        ensures world { Carries self.old.held.world plan.work self.new.held.world }
+        ensures changes { self.new.changes ≡ more_changes self.old.changes }
         ensures answer { result ≡ plan.answer }
     {
         let (work, answer) = plan.into_parts();
         self.work(work);
+        self.changes = self.changes.saturating_add(1);
         answer
     }
 
@@ -215,11 +200,10 @@ impl Core {
     /// `Err` where there is no memory, and then nothing was changed.
     fn catch_up(&mut self, alloc: Global, moment: Moment) -> Result<(), AllocError>
         requires in_range { IsCallMoment moment }
-        requires later { self.old.world.last ≤ℤ moment }
-        ensures ok { OnOk result (Advances self.old.world moment self.new.world) }
-        ensures timely { OnOk result (IsTimely self.new.world moment) }
-        ensures err { OnErr result (self.new.world ≡ self.old.world) }
-        ensures settings { self.new.settings ≡ self.old.settings }
+        requires later { self.old.held.world.last ≤ℤ moment }
+        ensures ok { OnOk result (Advances self.old.held.world moment self.new.held.world) }
+        ensures timely { OnOk result (IsTimely self.new.held.world moment) }
+        ensures err { OnErr result (self.new.held.world ≡ self.old.held.world) }
     {
         if self.is_due(moment) {
             let plan = self.prepare_tick(alloc, moment)?;
@@ -228,14 +212,45 @@ impl Core {
         Ok(())
     }
 
-    /// Answers a request at a moment at which nothing is due.
-    fn answer(&mut self, alloc: Global, moment: Moment, asked: &Asked) -> Told
-        requires { IsTimely self.old.world moment }
-        ensures told { IsAnswered self.old.settings self.old.world moment asked.now result
-            self.new.world }
-        ensures settings { self.new.settings ≡ self.old.settings }
+    /// What a request comes to at this moment, where there was memory to understand it.
+    fn prepare_if(
+        &mut self,
+        alloc: Global,
+        policy: &Policy,
+        moment: Moment,
+        understood: Result<Understood, AllocError>,
+    ) -> Result<Prepared, AllocError>
+        requires timely { IsTimely self.old.held.world moment }
+        requires understood { (asked : Asked)
+            × IfOk understood (IsUnderstood (record { policy = policy.now }) asked) }
+        ensures roomier { IsRoomier self.old self.new }
+        ensures prepared { (asked : Asked)
+            → IfOk understood (IsUnderstood (record { policy = policy.now }) asked)
+            → IfOk result (IsPrepared (record { policy = policy.now }) self.new moment asked) }
     {
-        match self.prepare(alloc, moment, asked) {
+        match understood {
+            Ok(understood) => self.prepare(alloc, policy, moment, understood),
+            Err(AllocError) => Err(AllocError),
+        }
+    }
+
+    /// Answers a request at a moment at which nothing is due.
+    fn answer(
+        &mut self,
+        alloc: Global,
+        policy: &Policy,
+        moment: Moment,
+        understood: Result<Understood, AllocError>,
+    ) -> Told
+        requires timely { IsTimely self.old.held.world moment }
+        requires understood { (asked : Asked)
+            × IfOk understood (IsUnderstood (record { policy = policy.now }) asked) }
+        ensures { (asked : Asked)
+            → IfOk understood (IsUnderstood (record { policy = policy.now }) asked)
+            → IsAnswered (record { policy = policy.now }) self.old.held.world moment asked result
+            self.new.held.world }
+    {
+        match self.prepare_if(alloc, policy, moment, understood) {
             Ok(Prepared::Refused(answer)) => Told::Made(answer),
             Ok(Prepared::Answered(answer)) => Told::Made(answer),
             Ok(Prepared::Change(plan)) => match self.commit(plan) {
@@ -247,16 +262,26 @@ impl Core {
     }
 
     /// Serves a request at the moment that this answer of the clock makes, in microseconds since
-    /// 1970: the deadlines that are due are carried out, and then the request is judged. Where there
-    /// is no memory, the stand-in for it is told, and nothing but due deadlines is carried out.
-    pub fn serve(&mut self, alloc: Global, now: i64, asked: &Asked) -> Told
-        ensures serves { Serves self.old.settings self.old.world now asked.now result
-            self.new.world }
-        ensures settings { self.new.settings ≡ self.old.settings }
+    /// 1970, by what was understood of it under this policy: the deadlines that are due are carried
+    /// out, and then the request is judged. Where there is no memory for that, or was none to
+    /// understand it, the stand-in for it is told, and nothing but due deadlines is carried out.
+    pub fn serve(
+        &mut self,
+        alloc: Global,
+        policy: &Policy,
+        now: i64,
+        understood: Result<Understood, AllocError>,
+    ) -> Told
+        requires { (asked : Asked)
+            × IfOk understood (IsUnderstood (record { policy = policy.now }) asked) }
+        ensures { (seat : ℕ) (asked : Asked)
+            → IfOk understood (IsUnderstood (record { policy = policy.now }) asked)
+            → Serves (record { policy = policy.now }) self.old.held.world seat now asked result
+            self.new.held.world }
     {
         let moment = self.moment_of(now);
         match self.catch_up(alloc, moment) {
-            Ok(()) => self.answer(alloc, moment, asked),
+            Ok(()) => self.answer(alloc, policy, moment, understood),
             Err(AllocError) => Told::Standin(Standin::Memory),
         }
     }

@@ -1,5 +1,4 @@
-use Rattle.std.proofs.Common.{◌≡◌, ℕ, length, [], ◌∷◌, inl, inr, sym, subst, ◌∙◌}
-use Rattle.permissions.specs.Graph.{edges}
+use Rattle.std.proofs.Common.{length, inl, inr, sym, subst, ◌∙◌}
 use Rattle.permissions.specs.Rights.{IsShortcut}
 use Rattle.permissions.proofs.ShortcutLemmas.{only_one, same_shortcut}
 use Rattle.permissions.proofs.shortcuts.next_shortcut.Goals as goal

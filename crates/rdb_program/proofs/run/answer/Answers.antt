@@ -1,5 +1,6 @@
 use Rattle.std.proofs.Common.{◌≡◌, [], sym, ap, ◌∙◌}
 use Rattle.service_core.specs.CoreState.{CoreState}
+use Rattle.service_core.specs.Step.{scene_of}
 use Rattle.record_desk.proofs.StandingLaws.{moves_nowhere}
 use Rattle.http_workers.proofs.FramingLaws.{asked_so}
 use Rattle.rdb_program.proofs.RunLaws.{history_from}
@@ -18,9 +19,10 @@ returns-clause-run g c = λ words before after are accepts.
       tables = _;
       config = accepts;
       served = asked_so _ _ _ _ _
-          (λ es asked. history_from (λ clock. g.C.Clock.tells (g.C.Clock.state clock)) _ first.core.now last.core.now first.clock.now _ last.clock.now _ es
-          (ap (λ (k : CoreState). k.settings.policy) c.new-teller.ensures.core_now ∙ c.in-Ok.ensures.settings)
-          (ap (λ (k : CoreState). k.world) c.new-teller.ensures.core_now ∙ c.in-Ok.ensures.world)
+          (λ es asked. history_from (λ clock. g.C.Clock.tells (g.C.Clock.state clock)) _ first.policy.now first.core.now.held.world
+          (scene_of (record { policy = last.policy.now }) last.core.now.held.world) first.clock.now _ last.clock.now _ es
+          c.new-teller.ensures.policy
+          (ap (λ (k : CoreState). k.held.world) c.new-teller.ensures.core_now ∙ c.in-Ok.ensures)
           c.new-teller.ensures.clock_now (sym clock) (asked first [] (moves_nowhere _ _)))
           c.serve_connection.ensures.serves;
     }

@@ -1,4 +1,4 @@
-use Rattle.std.proofs.Common.{◌≡◌, ◌<◌, ℕ, List, length, true, false, inl, inr, sym, ap, subst, ◌∙◌, arith}
+use Rattle.std.proofs.Common.{◌≡◌, ℕ, List, true, false, inl, inr, sym, ap, subst, ◌∙◌, arith}
 use Rattle.permissions.specs.declared.shortcuts.Shortcut.{Shortcut}
 use Rattle.permissions.specs.declared.shortcuts.Shortcut.TheVariants.{SameAs}
 use Rattle.permissions.specs.Graph.{edges}

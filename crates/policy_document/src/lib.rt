@@ -1,0 +1,11 @@
+//! The tables of a configuration, read from a TOML document, or the least path at which it isn't of
+//! their shape.
+#![tactic(auto)]
+
+mod entries;
+mod read;
+mod shape;
+#[cfg(test)]
+mod tests;
+
+pub use entries::read_tables;

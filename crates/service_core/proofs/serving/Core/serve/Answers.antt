@@ -1,0 +1,22 @@
+use Rattle.std.proofs.Common.{ℤ, FitsSigned, w64, to_z-of_z}
+use Rattle.service_core.proofs.ServeLaws.{serves_after, serves_nothing}
+use Rattle.service_core.proofs.serving.Core.serve.Goals as goal
+
+pub answer-requires-clause-timely : goal.answer-requires-clause-timely
+answer-requires-clause-timely c = c.in-Ok.ensures.timely
+
+pub returns-in-Ok : goal.returns-in-Ok
+returns-in-Ok c = λ seat asked is.
+    let fits : FitsSigned w64 c.args.now = c.ranges.now in
+    let value = simp to_z-of_z at c.moment_of-moment.ensures.value in
+    serves_after (record { policy = c.args.policy.now }) c.args.self.now.held.world c.catch_up.new.self.held.world c.answer.new.self.held.world
+    seat c.args.now c.moment_of-moment.result asked c.answer.result value c.moment_of-moment.ensures.in_range
+    c.moment_of-moment.ensures.later c.in-Ok.ensures.ok (c.answer.ensures asked is)
+
+pub returns-in-Err : goal.returns-in-Err
+returns-in-Err c = λ seat asked is.
+    let fits : FitsSigned w64 c.args.now = c.ranges.now in
+    let value = simp to_z-of_z at c.moment_of-moment.ensures.value in
+    serves_nothing (record { policy = c.args.policy.now }) c.args.self.now.held.world c.catch_up.new.self.held.world seat c.args.now
+    c.moment_of-moment.result asked value c.moment_of-moment.ensures.in_range c.moment_of-moment.ensures.later
+    c.in-Err.ensures.err
