@@ -1,9 +1,11 @@
 """Streams that are no messages, or barely, and outputs that take nothing."""
 
+import concurrent.futures
+import contextlib
 import os
 import subprocess
 
-from harness import SECONDS, TOP, expect, not_implemented, run, words
+from harness import SECONDS, TOP, expect, not_implemented, run, same, words
 from stored_replies import example
 
 
@@ -83,9 +85,42 @@ def hostile_streams(folder):
             expect(run(stream, folder), reply, b"rdb: wire %d %s\n" % fault, 8)
 
 
+def longest_connection(folder):
+    """The 1,048,576th reply closes the connection and none before it does, and the next message isn't answered."""
+    last, message, many = not_implemented(b"/"), b"POST / HTTP/1.1\r\nContent-Length: 0\r\n\r\n", 4096
+    reply = last.replace(b"Connection: close\r\n", b"")
+    block = reply * many
+    reader, writer = os.pipe()
+
+    def feed(pipe):
+        with contextlib.suppress(BrokenPipeError):  # it may have ended before the last message is written
+            for _ in range(256):
+                pipe.write(message * many)
+            pipe.write(message)
+            pipe.flush()
+
+    def read():
+        """How many blocks of replies come, whether the last one is right, and how many bytes follow it."""
+        blocks = 0
+        with open(reader, "rb") as replies:
+            while (piece := replies.read(len(block))) == block:
+                blocks += 1
+            rest = piece + replies.read(len(last))
+            return blocks, rest == reply * (many - 1) + last, sum(map(len, iter(lambda: replies.read(1 << 20), b"")))
+
+    with concurrent.futures.ThreadPoolExecutor(1) as pool:
+        got = pool.submit(read)
+        try:
+            expect(run(feed, folder, stdout=writer), None, b"", 0)
+        finally:
+            os.close(writer)
+        same(got.result(), (255, True, 0))
+
+
 CHECKS = {
     "an empty input": empty_input,
     "hostile streams": hostile_streams,
+    "the longest connection": longest_connection,
     "a closed output": closed_output,
     "a full output": full_output,
     "closed standard streams": closed_streams,

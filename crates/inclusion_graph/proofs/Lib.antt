@@ -1,5 +1,6 @@
 pub mod EdgeLemmas
 pub mod FreshLemmas
+pub mod LawLemmas
 pub mod LinkLemmas
 pub mod ListLemmas
 pub mod SearchLemmas

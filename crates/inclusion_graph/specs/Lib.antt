@@ -1,4 +1,5 @@
 pub mod Edges
+pub mod Laws
 pub mod Links
 pub mod Plans
 pub mod Searches

@@ -5,6 +5,7 @@ mod edge;
 mod edge_list;
 mod fresh;
 mod graph;
+mod laws;
 mod plan;
 mod search;
 #[cfg(test)]
@@ -12,4 +13,5 @@ mod tests;
 
 pub use edge::Edge;
 pub use graph::Graph;
+pub use laws::{fresh_are_new, new_are_one_list};
 pub use plan::{EdgeFault, EdgePlan};

@@ -1,37 +1,31 @@
 -- An index after a name more.
-use Rattle.std.proofs.Common.{◌≡◌, ℕ, suc, Bool, true, false, cond, List, [], ◌∷◌, ◌++◌, length, map, Option, Some, None, option_map, BTreeMap, Vec, Global, nat_cmp, refl, sym, ap, subst, ◌∙◌, inl, inr}
+use Rattle.std.proofs.Common.{◌≡◌, ℕ, suc, Bool, true, false, cond, List, [], ◌∷◌, ◌++◌, length, map, Option, Some, None, option_map, Vec, Global, refl, sym, ap, subst, ◌∙◌, inl, inr}
 use Rattle.std.proofs.lemmas.Bool.{cases_Bool, cond-true, cond-false}
-use Rattle.std.proofs.lemmas.Map.Text.{is_eq-slice_cmp}
 use Rattle.std.specs.Str.{bytes_eq}
-use Rattle.std.specs.Ordering.{is_eq}
-use Rattle.std.specs.Cmp.{eq_by_cmp_equiv}
-use Rattle.std.specs.Cmp.Lexicographic.{slice_cmp, bytes_decides, nat_list_cmp_total, nat_list_eq_equiv}
+use Rattle.std.specs.Cmp.Lexicographic.{bytes_decides, nat_list_eq_equiv}
+use Rattle.std.specs.HashMap.{HashMap, get_by, UpdatesBy}
 use Rattle.std.specs.Map.{lookup, IsKeyTest, AreApart, KeepsOthers}
-use Rattle.std.specs.BTreeMap.{get_by, UpdatesBy}
 use Rattle.policy_checks.specs.Index.{place_of, found}
 
 apart : (bs cs ks : List ℕ) → bytes_eq bs cs ≡ false → bytes_eq bs ks ≡ true → bytes_eq cs ks ≡ false
 apart bs cs ks n y = nat_list_eq_equiv.symm cs ks ∙ sym (nat_list_eq_equiv.congr bs ks cs y) ∙ n
 
-apart_in_order : (bs cs ks : List ℕ) → bytes_eq bs cs ≡ false → is_eq (slice_cmp nat_cmp bs ks) ≡ true → is_eq (slice_cmp nat_cmp cs ks) ≡ false
-apart_in_order bs cs ks n y = is_eq-slice_cmp cs ks ∙ apart bs cs ks n (sym (is_eq-slice_cmp bs ks) ∙ y)
-
 other_entries : {K X : Type 0} (eq : K → K → Bool) (test : K → Bool) → (old new : List (K × X)) → KeepsOthers eq test old new → (other : K → Bool) → IsKeyTest eq other → AreApart test other → lookup other new ≡ lookup other old
 unfolding KeepsOthers
 other_entries eq test old new h = h
 
-abbrev pub found_at : List ℕ → BTreeMap (Vec ℕ Global) ℕ → Option ℕ
-found_at name m = get_by (λ k. slice_cmp nat_cmp name k.items) m
+abbrev pub found_at : {S : Type 0} → List ℕ → HashMap (Vec ℕ Global) ℕ S → Option ℕ
+found_at name m = get_by (λ k. bytes_eq name k.items) m
 
 -- what is found after a value more
-pub found_after : (bs : List ℕ) (m n : BTreeMap (Vec ℕ Global) ℕ) (w : Option ℕ)
-    → UpdatesBy (λ x y. slice_cmp nat_cmp x.items y.items) (λ k. slice_cmp nat_cmp bs k.items) m n w
+pub found_after : {S : Type 0} (bs : List ℕ) (m n : HashMap (Vec ℕ Global) ℕ S) (w : Option ℕ)
+    → UpdatesBy (λ x y. bytes_eq x.items y.items) (λ k. bytes_eq bs k.items) m n w
     → (cs : List ℕ) → found_at cs n ≡ cond (bytes_eq bs cs) w (found_at cs m)
 found_after bs m n w h cs =
     elim (cases_Bool (bytes_eq bs cs)) [
       | inl y ↦ subst (λ l. found_at l n ≡ w) ((bytes_decides bs cs).0 y) h.1 ∙ sym (cond-true (bytes_eq bs cs) w (found_at cs m) y)
       | inr e ↦
-          other_entries _ _ _ _ h.3 _ (λ x y. (eq_by_cmp_equiv nat_list_cmp_total).congr cs x.items y.items) (λ k. apart_in_order bs cs k.items e)
+          other_entries _ _ _ _ h.3 _ (λ x y. nat_list_eq_equiv.congr cs x.items y.items) (λ k. apart bs cs k.items e)
           ∙ sym (cond-false (bytes_eq bs cs) w (found_at cs m) e)
     ]
 
@@ -87,8 +81,6 @@ place_of-again name q names n e =
     ]
 
 -- what stands beside a name is what the map finds at it
-pub found_pairs : (name : List ℕ) (es : List (Vec ℕ Global × ℕ)) → found name (map (λ e. (e.0.items, e.1)) es) ≡ lookup (λ k. is_eq (slice_cmp nat_cmp name k.items)) es
+pub found_pairs : (name : List ℕ) (es : List (Vec ℕ Global × ℕ)) → found name (map (λ e. (e.0.items, e.1)) es) ≡ lookup (λ k. bytes_eq name k.items) es
 found_pairs name [] = refl
-found_pairs name (e ∷ es) =
-    ap (λ b. cond b (Some e.1) (found name (map (λ e. (e.0.items, e.1)) es))) (sym (is_eq-slice_cmp name e.0.items))
-    ∙ ap (cond (is_eq (slice_cmp nat_cmp name e.0.items)) (Some e.1)) (found_pairs name es)
+found_pairs name (e ∷ es) = ap (cond (bytes_eq name e.0.items) (Some e.1)) (found_pairs name es)

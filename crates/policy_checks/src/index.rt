@@ -3,13 +3,13 @@ ghost use Rattle.std.specs.Prelude.{◌≡◌, ℕ, List, [], ◌∷◌, ◌++�
 ghost use Rattle.policy_checks.specs.Index.{IsIndexOf, found, place_of};
 
 use std::alloc::{AllocError, Global};
-use std::collections::BTreeMap;
+use std::collections::HashMap;
 use std::marker::Model;
 
 /// The first place of each name of a list.
 #[derive(Drop)]
 pub struct NameIndex {
-    places: BTreeMap<Vec<u8>, usize>,
+    places: HashMap<Vec<u8>, usize>,
 }
 
 impl Model for NameIndex {
@@ -34,7 +34,7 @@ impl NameIndex {
         ensures { IsIndexOf result [] }
     {
         NameIndex {
-            places: BTreeMap::new(alloc),
+            places: HashMap::new(alloc),
         }
     }
 
