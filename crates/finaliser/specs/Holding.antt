@@ -18,6 +18,11 @@ pub record NodeSetState : Type 0 where
   pub below : ℕ
   pub spare : ℕ
 
+-- the sets are out of the same nodes, and the later one has room for no fewer
+pub record IsOutOfSame (before after : NodeSetState) : Type 0 where
+  pub below : after.below ≡ before.below
+  pub spare : before.spare ≤ after.spare
+
 -- the marks are those of the nodes, each of which is there once
 pub record IsNodeSet (marks : List Bool) (nodes : List ℕ) (room : ℕ) : Type 0 where
   pub says : HasMarks marks (length marks) nodes

@@ -1,5 +1,6 @@
 //! Aims for all nodes that reach a node, so that those that wait for it are known to wait.
 ghost use Rattle.std.specs.Prelude.{◌≡◌, ◌≤◌, ◌<◌, length, vec_capacity};
+ghost use Rattle.finaliser.specs.Holding.{IsOutOfSame};
 ghost use Rattle.finaliser.specs.Watching.{AreWatched, IsAimed};
 
 use crate::node_set::NodeSet;
@@ -13,8 +14,7 @@ fn aim_source(states: &[State], source: u32, aim: u32, watches: &mut Vec<Watch>,
     requires source { source < length states.now }
     requires below { seen.old.below ≡ length states.now }
     requires count { length watches.old.items ≡ length states.now }
-    ensures below { seen.new.below ≡ seen.old.below }
-    ensures spare { seen.old.spare ≤ seen.new.spare }
+    ensures same { IsOutOfSame seen.old seen.new }
     ensures watches { IsAimed watches.old.items watches.new.items source aim }
     ensures capacity { vec_capacity watches.new ≡ vec_capacity watches.old }
 {
@@ -41,8 +41,7 @@ fn aim_sources(
     requires below { seen.old.below ≡ length states.now }
     requires node { node < length states.now }
     requires watched { AreWatched graph.now.edges states.now watches.old.items }
-    ensures below { seen.new.below ≡ seen.old.below }
-    ensures spare { seen.old.spare ≤ seen.new.spare }
+    ensures same { IsOutOfSame seen.old seen.new }
     ensures watched { AreWatched graph.now.edges states.now watches.new.items }
     ensures capacity { vec_capacity watches.new ≡ vec_capacity watches.old }
 {
@@ -68,8 +67,7 @@ pub(crate) fn aim_at(
     requires below { seen.old.below ≡ length states.now }
     requires node { node < length states.now }
     requires watched { AreWatched graph.now.edges states.now watches.old.items }
-    ensures below { seen.new.below ≡ seen.old.below }
-    ensures spare { seen.old.spare ≤ seen.new.spare }
+    ensures same { IsOutOfSame seen.old seen.new }
     ensures watched { AreWatched graph.now.edges states.now watches.new.items }
     ensures capacity { vec_capacity watches.new ≡ vec_capacity watches.old }
 {

@@ -3,7 +3,7 @@ ghost use Rattle.std.specs.Prelude.{◌≡◌, ◌≤◌, ◌<◌, ◌+◌, ◌+
 ghost use Rattle.std.specs.List.Sorted.{IsStrictlyIncreasing};
 ghost use Rattle.std.specs.List.{filter};
 ghost use Rattle.inclusion_graph.specs.Edges.{HasEdge, has};
-ghost use Rattle.finaliser.specs.Holding.{AreFound, AreFreed, AreHeld, Comes, Holds, IsClosed, IsGrown, IsHeldUp, IsSource, is_free};
+ghost use Rattle.finaliser.specs.Holding.{AreFound, AreFreed, AreHeld, Comes, Holds, IsClosed, IsGrown, IsHeldUp, IsOutOfSame, IsSource, is_free};
 ghost use Rattle.finaliser.specs.Marks.{unfinal};
 ghost use Rattle.finaliser.specs.Settling.{IsIn, ReachesActive};
 ghost use Rattle.finaliser.specs.Watching.{AreWatched};
@@ -115,8 +115,7 @@ pub(crate) fn find(
     requires none { found.old.nodes ≡ [] }
     requires watched { AreWatched graph.now.edges states.now watches.old.items }
     ensures found { AreFound graph.now.edges states.now node found.new.nodes }
-    ensures below { found.new.below ≡ found.old.below }
-    ensures spare { found.old.spare ≤ found.new.spare }
+    ensures same { IsOutOfSame found.old found.new }
     ensures watched { AreWatched graph.now.edges states.now watches.new.items }
     ensures capacity { vec_capacity watches.new ≡ vec_capacity watches.old }
 {
@@ -244,8 +243,7 @@ pub(crate) fn hold(
     requires none { held.old.nodes ≡ [] }
     requires watched { AreWatched graph.now.edges states.now watches.now }
     ensures held { AreHeld graph.now.edges states.now found.now.nodes held.new.nodes }
-    ensures below { held.new.below ≡ held.old.below }
-    ensures spare { held.old.spare ≤ held.new.spare }
+    ensures same { IsOutOfSame held.old held.new }
 {
     add_held_up(graph, states, watches, found, held);
     hold_all(graph, found, held);

@@ -1,8 +1,7 @@
 //! The finaliser.
 ghost use Rattle.std.specs.Prelude.{◌≡◌, ◌≤◌, ◌<◌, ◌+◌, ◌++◌, ◌∷◌, ◌↔◌, [], ℕ, List, All, IsTrue, IfOk, IfErr, OnOk, length, slice_set};
-ghost use Rattle.inclusion_graph.specs.Edges.{edges_from};
 ghost use Rattle.inclusion_graph.specs.Plans.{Fits, IsEdgeFault, IsElsewhere, new_targets};
-ghost use Rattle.finaliser.specs.Settling.{IsIn, IsSettled, ReachesActive, Settles};
+ghost use Rattle.finaliser.specs.Settling.{IsIn, IsRoomier, IsSettled, ReachesActive, Settles, Stays, with_edges, with_node};
 
 use crate::aims::aim_at;
 use crate::candidates::{begins_waiting, find, hold, settle_free};
@@ -102,10 +101,7 @@ impl Finaliser {
 
     /// Forgets which nodes are newly final.
     pub fn clear_finals(&mut self)
-        ensures finals { self.new.finals ≡ [] }
-        ensures states { self.new.states ≡ self.old.states }
-        ensures graph { self.new.graph ≡ self.old.graph }
-        ensures spare { self.old.spare ≤ self.new.spare }
+        ensures stays { Stays (record self.old { finals = [] }) self.new }
     {
         self.finals.clear();
     }
@@ -113,12 +109,7 @@ impl Finaliser {
     /// Makes room for one more node, and for any number of retirements. `Err` where there is no
     /// memory.
     pub fn reserve(&mut self, alloc: Global) -> Result<(), AllocError>
-        ensures states { self.new.states ≡ self.old.states }
-        ensures finals { self.new.finals ≡ self.old.finals }
-        ensures edges { self.new.graph.edges ≡ self.old.graph.edges }
-        ensures nodes { self.new.graph.nodes ≡ self.old.graph.nodes }
-        ensures spare { self.old.spare ≤ self.new.spare }
-        ensures spare_edges { self.old.graph.spare_edges ≤ self.new.graph.spare_edges }
+        ensures roomier { IsRoomier self.old self.new }
         ensures room { OnOk result (0 < self.new.spare) }
     {
         self.graph.reserve(alloc, 1, 0)?;
@@ -135,12 +126,7 @@ impl Finaliser {
     pub fn add_active(&mut self) -> u32
         requires { 0 < self.old.spare }
         ensures number { result ≡ length self.old.states }
-        ensures states { self.new.states ≡ self.old.states ++ State.Active ∷ [] }
-        ensures finals { self.new.finals ≡ self.old.finals }
-        ensures edges { self.new.graph.edges ≡ self.old.graph.edges }
-        ensures nodes { self.new.graph.nodes ≡ self.old.graph.nodes + 1 }
-        ensures spare { self.old.spare ≤ self.new.spare + 1 }
-        ensures spare_edges { self.old.graph.spare_edges ≤ self.new.graph.spare_edges }
+        ensures roomier { IsRoomier (with_node self.old) self.new }
     {
         self.states.push_reserved(State::Active);
         self.found.add_node();
@@ -161,12 +147,7 @@ impl Finaliser {
     ) -> Result<EdgePlan, EdgeFault>
         requires from { IsIn State.Active self.old.states from }
         requires targets { All (λ target. target < length self.old.states) targets.now }
-        ensures states { self.new.states ≡ self.old.states }
-        ensures finals { self.new.finals ≡ self.old.finals }
-        ensures nodes { self.new.graph.nodes ≡ self.old.graph.nodes }
-        ensures edges { self.new.graph.edges ≡ self.old.graph.edges }
-        ensures spare { self.old.spare ≤ self.new.spare }
-        ensures spare_edges { self.old.graph.spare_edges ≤ self.new.graph.spare_edges }
+        ensures roomier { IsRoomier self.old self.new }
         ensures fits { IfOk result (Fits self.new.graph) }
         ensures from { IfOk result (λ plan. plan.from ≡ from) }
         ensures targets { IfOk result
@@ -182,14 +163,7 @@ impl Finaliser {
     pub fn add_edges(&mut self, plan: EdgePlan)
         requires fits { Fits self.old.graph plan }
         requires from { IsIn State.Active self.old.states plan.from }
-        ensures states { self.new.states ≡ self.old.states }
-        ensures finals { self.new.finals ≡ self.old.finals }
-        ensures nodes { self.new.graph.nodes ≡ self.old.graph.nodes }
-        ensures edges { self.new.graph.edges ≡
-            self.old.graph.edges ++ edges_from plan.from plan.targets }
-        ensures spare { self.old.spare ≤ self.new.spare }
-        ensures spare_edges { self.old.graph.spare_edges ≤
-            self.new.graph.spare_edges + length plan.targets }
+        ensures roomier { IsRoomier (with_edges plan.from plan.targets self.old) self.new }
     {
         self.graph.add_edges(plan);
     }
@@ -200,10 +174,7 @@ impl Finaliser {
         requires { IsIn State.Active self.old.states node }
         ensures answer { IsTrue result ↔ ¬ ReachesActive self.old.graph.edges
             (slice_set self.old.states node State.Finalizing) node }
-        ensures graph { self.new.graph ≡ self.old.graph }
-        ensures states { self.new.states ≡ self.old.states }
-        ensures finals { self.new.finals ≡ self.old.finals }
-        ensures spare { self.old.spare ≤ self.new.spare }
+        ensures stays { Stays self.old self.new }
     {
         let place = node as usize;
         self.states[place] = State::Finalizing;
@@ -274,10 +245,7 @@ impl Finaliser {
     /// memory, and changes nothing.
     pub fn note(&mut self, node: u32)
         requires { node < length self.old.states }
-        ensures graph { self.new.graph ≡ self.old.graph }
-        ensures states { self.new.states ≡ self.old.states }
-        ensures finals { self.new.finals ≡ self.old.finals }
-        ensures spare { self.old.spare ≤ self.new.spare }
+        ensures stays { Stays self.old self.new }
     {
         aim_at(
             &self.graph,
@@ -290,10 +258,7 @@ impl Finaliser {
 
     /// Clears the notes: all nodes may be noted anew. It takes no memory, and changes nothing.
     pub fn clear_notes(&mut self)
-        ensures graph { self.new.graph ≡ self.old.graph }
-        ensures states { self.new.states ≡ self.old.states }
-        ensures finals { self.new.finals ≡ self.old.finals }
-        ensures spare { self.old.spare ≤ self.new.spare }
+        ensures stays { Stays self.old self.new }
     {
         self.seen.clear();
     }

@@ -3,6 +3,7 @@ ghost use Rattle.std.specs.Prelude.{◌≡◌, ◌+◌, ◌<◌, ◌≤◌, ◌+
 ghost use Rattle.std.specs.List.Sorted.{IsPermutation, IsStrictlyIncreasing};
 ghost use Rattle.inclusion_graph.specs.Edges.{fresh};
 ghost use Rattle.inclusion_graph.specs.Searches.{HasMarks};
+ghost use Rattle.finaliser.specs.Holding.{IsOutOfSame};
 
 use std::alloc::{AllocError, Global};
 use std::marker::Model;
@@ -44,8 +45,7 @@ impl NodeSet {
     /// Makes room for one node more out of which the set may be.
     pub(crate) fn reserve(&mut self) -> Result<(), AllocError>
         ensures nodes { self.new.nodes ≡ self.old.nodes }
-        ensures below { self.new.below ≡ self.old.below }
-        ensures spare { self.old.spare ≤ self.new.spare }
+        ensures same { IsOutOfSame self.old self.new }
         ensures room { OnOk result (0 < self.new.spare) }
     {
         self.marks.reserve(1)?;
@@ -100,8 +100,7 @@ impl NodeSet {
     pub(crate) fn add(&mut self, node: u32)
         requires { node < self.old.below }
         ensures nodes { self.new.nodes ≡ self.old.nodes ++ fresh self.old.nodes (node ∷ []) }
-        ensures below { self.new.below ≡ self.old.below }
-        ensures spare { self.old.spare ≤ self.new.spare }
+        ensures same { IsOutOfSame self.old self.new }
     {
         if !self.marks[node as usize] {
             self.marks[node as usize] = true;
@@ -113,8 +112,7 @@ impl NodeSet {
     pub(crate) fn sort(&mut self)
         ensures permutation { IsPermutation self.old.nodes self.new.nodes }
         ensures rising { IsStrictlyIncreasing self.new.nodes }
-        ensures below { self.new.below ≡ self.old.below }
-        ensures spare { self.old.spare ≤ self.new.spare }
+        ensures same { IsOutOfSame self.old self.new }
     {
         self.nodes.sort_unstable();
     }
@@ -122,8 +120,7 @@ impl NodeSet {
     /// Takes all nodes out of the set.
     pub(crate) fn clear(&mut self)
         ensures nodes { self.new.nodes ≡ [] }
-        ensures below { self.new.below ≡ self.old.below }
-        ensures spare { self.old.spare ≤ self.new.spare }
+        ensures same { IsOutOfSame self.old self.new }
     {
         unmark(&mut self.marks, self.nodes.as_slice());
         self.nodes.clear();

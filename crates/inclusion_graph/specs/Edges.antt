@@ -1,5 +1,5 @@
 -- Edges between numbered nodes.
-use Rattle.std.specs.Prelude.{◌≡◌, ℕ, ◌+◌, ◌≤◌, Bool, List, [], ◌∷◌, ◌++◌, Option, Some, None, drop, map, slice_get, ◌==◌, Contains, if◌then◌else◌}
+use Rattle.std.specs.Prelude.{◌≡◌, ℕ, ◌+◌, ◌-◌, ◌≤◌, Bool, List, [], ◌∷◌, ◌++◌, Option, Some, None, drop, length, map, slice_get, ◌==◌, Contains, if◌then◌else◌}
 use Rattle.std.specs.List.{filter_map, list_any}
 use Rattle.inclusion_graph.specs.declared.edge.Edge.{Edge}
 
@@ -10,6 +10,13 @@ pub record GraphState : Type 0 where
   pub edges : List Edge
   pub spare_nodes : ℕ
   pub spare_edges : ℕ
+
+-- The nodes and the edges stay, and there is room for no fewer.
+pub record IsRoomier (before after : GraphState) : Type 0 where
+  pub nodes : after.nodes ≡ before.nodes
+  pub edges : after.edges ≡ before.edges
+  pub spare_nodes : before.spare_nodes ≤ after.spare_nodes
+  pub spare_edges : before.spare_edges ≤ after.spare_edges
 
 -- There is an edge from a to b.
 abbrev pub HasEdge : List Edge → ℕ → ℕ → Type 0
@@ -52,3 +59,18 @@ fresh seen (n ∷ ns) = if has seen n then fresh seen ns else n ∷ fresh (seen 
 -- edges from a node to each of these
 abbrev pub edges_from : ℕ → List ℕ → List Edge
 edges_from node targets = map (λ target. record { from = node; to = target }) targets
+
+-- The graph with a node more, and with room for one less.
+abbrev pub with_node : GraphState → GraphState
+with_node graph = record graph {
+  nodes = graph.nodes + 1;
+  spare_nodes = graph.spare_nodes - 1;
+}
+
+-- The graph with edges from a node to each of these behind the others, and with room for so many
+-- less.
+abbrev pub with_edges : ℕ → List ℕ → GraphState → GraphState
+with_edges node targets graph = record graph {
+  edges = graph.edges ++ edges_from node targets;
+  spare_edges = graph.spare_edges - length targets;
+}

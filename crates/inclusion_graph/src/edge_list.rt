@@ -2,7 +2,7 @@
 ghost use Rattle.std.specs.Prelude.{◌≡◌, ◌+◌, ◌<◌, ◌≤◌, ◌++◌, ◌∷◌, [], Some, OnOk, IfOk, MatchOption, length, slice_get, slice_set, vec_capacity};
 ghost use Rattle.std.specs.Option.{ForSome};
 ghost use Rattle.inclusion_graph.specs.declared.edge.Edge.{Edge};
-ghost use Rattle.inclusion_graph.specs.Edges.{IsFirstTo};
+ghost use Rattle.inclusion_graph.specs.Edges.{IsFirstTo, IsRoomier, with_edges, with_node};
 ghost use Rattle.inclusion_graph.specs.Links.{ends_with};
 
 use crate::edge::Edge;
@@ -71,10 +71,7 @@ impl EdgeList {
 
     /// Makes room for this many nodes and edges more.
     pub(crate) fn reserve(&mut self, nodes: usize, edges: usize) -> Result<(), AllocError>
-        ensures nodes { self.new.nodes ≡ self.old.nodes }
-        ensures edges { self.new.edges ≡ self.old.edges }
-        ensures spare_nodes { self.old.spare_nodes ≤ self.new.spare_nodes }
-        ensures spare_edges { self.old.spare_edges ≤ self.new.spare_edges }
+        ensures roomier { IsRoomier self.old self.new }
         ensures room_for_nodes { OnOk result (nodes ≤ self.new.spare_nodes) }
         ensures room_for_edges { OnOk result (edges ≤ self.new.spare_edges) }
     {
@@ -87,10 +84,7 @@ impl EdgeList {
     /// Adds a node, to which no edge leads.
     pub(crate) fn add_node(&mut self)
         requires { 0 < self.old.spare_nodes }
-        ensures nodes { self.new.nodes ≡ self.old.nodes + 1 }
-        ensures edges { self.new.edges ≡ self.old.edges }
-        ensures spare_nodes { self.old.spare_nodes ≤ self.new.spare_nodes + 1 }
-        ensures spare_edges { self.old.spare_edges ≤ self.new.spare_edges }
+        ensures roomier { IsRoomier (with_node self.old) self.new }
     {
         self.ends.push_reserved(None);
     }
@@ -100,10 +94,7 @@ impl EdgeList {
         requires to { edge.to < self.old.nodes }
         requires few { length self.old.edges < 4_294_967_295 }
         requires room { 0 < self.old.spare_edges }
-        ensures nodes { self.new.nodes ≡ self.old.nodes }
-        ensures edges { self.new.edges ≡ self.old.edges ++ edge ∷ [] }
-        ensures spare_nodes { self.old.spare_nodes ≤ self.new.spare_nodes }
-        ensures spare_edges { self.old.spare_edges ≤ self.new.spare_edges + 1 }
+        ensures roomier { IsRoomier (with_edges edge.from (edge.to ∷ []) self.old) self.new }
     {
         let place = self.edges.len() as u32;
         let before = self.ends[edge.to as usize];

@@ -2,7 +2,7 @@
 ghost use Rattle.std.specs.Prelude.{◌≡◌, ◌+◌, ◌-◌, ◌<◌, ◌≤◌, ◌^◌, ◌++◌, ◌↔◌, ℕ, ◌∷◌, [], Some, List, IfOk, IfErr, OnOk, MatchOption, All, Contains, length, slice_get, vec_len, vec_capacity};
 ghost use Rattle.std.specs.List.Sorted.{IsStrictlyIncreasing};
 ghost use Rattle.inclusion_graph.specs.declared.edge.Edge.{Edge};
-ghost use Rattle.inclusion_graph.specs.Edges.{IsFirstTo, edges_from, targets_of};
+ghost use Rattle.inclusion_graph.specs.Edges.{IsFirstTo, IsRoomier, targets_of, with_edges, with_node};
 ghost use Rattle.inclusion_graph.specs.Plans.{Fits, IsEdgeFault, IsElsewhere, new_targets};
 ghost use Rattle.inclusion_graph.specs.Searches.{IsListed, IsRooted, IsSearched, nodes_of};
 ghost use Rattle.inclusion_graph.specs.Walks.{IsReached, Leads, Reaches};
@@ -115,10 +115,7 @@ impl Graph {
 
     /// Makes room for this many nodes and edges more. `Err` where there is no memory for them.
     pub fn reserve(&mut self, alloc: Global, nodes: u32, edges: u32) -> Result<(), AllocError>
-        ensures nodes { self.new.nodes ≡ self.old.nodes }
-        ensures edges { self.new.edges ≡ self.old.edges }
-        ensures spare_nodes { self.old.spare_nodes ≤ self.new.spare_nodes }
-        ensures spare_edges { self.old.spare_edges ≤ self.new.spare_edges }
+        ensures roomier { IsRoomier self.old self.new }
         ensures room_for_nodes { OnOk result (nodes ≤ self.new.spare_nodes) }
         ensures room_for_edges { OnOk result (edges ≤ self.new.spare_edges) }
     {
@@ -136,10 +133,7 @@ impl Graph {
     pub fn add_node(&mut self) -> u32
         requires { 0 < self.old.spare_nodes }
         ensures number { result ≡ self.old.nodes }
-        ensures nodes { self.new.nodes ≡ self.old.nodes + 1 }
-        ensures edges { self.new.edges ≡ self.old.edges }
-        ensures spare_nodes { self.old.spare_nodes ≤ self.new.spare_nodes + 1 }
-        ensures spare_edges { self.old.spare_edges ≤ self.new.spare_edges }
+        ensures roomier { IsRoomier (with_node self.old) self.new }
     {
         let number = self.targets.len() as u32;
         let none = Vec::new(*self.targets.allocator());
@@ -160,10 +154,7 @@ impl Graph {
     ) -> Result<EdgePlan, EdgeFault>
         requires from { from < self.old.nodes }
         requires targets { All (λ target. target < self.old.nodes) targets.now }
-        ensures nodes { self.new.nodes ≡ self.old.nodes }
-        ensures edges { self.new.edges ≡ self.old.edges }
-        ensures spare_nodes { self.old.spare_nodes ≤ self.new.spare_nodes }
-        ensures spare_edges { self.old.spare_edges ≤ self.new.spare_edges }
+        ensures roomier { IsRoomier self.old self.new }
         ensures fits { IfOk result (Fits self.new) }
         ensures from { IfOk result (λ plan. plan.from ≡ from) }
         ensures targets { IfOk result
@@ -199,10 +190,7 @@ impl Graph {
         requires from { from < self.old.nodes }
         requires targets { All (λ target. target < self.old.nodes) targets.now }
         requires elsewhere { IsElsewhere from targets.now }
-        ensures nodes { self.new.nodes ≡ self.old.nodes }
-        ensures edges { self.new.edges ≡ self.old.edges }
-        ensures spare_nodes { self.old.spare_nodes ≤ self.new.spare_nodes }
-        ensures spare_edges { self.old.spare_edges ≤ self.new.spare_edges }
+        ensures roomier { IsRoomier self.old self.new }
         ensures fault { IsEdgeFault self.old from targets.now result }
     {
         let held = self.targets[from as usize].as_slice();
@@ -219,10 +207,7 @@ impl Graph {
     /// Adds edges that were prepared. It takes no memory.
     pub fn add_edges(&mut self, plan: EdgePlan)
         requires { Fits self.old plan }
-        ensures nodes { self.new.nodes ≡ self.old.nodes }
-        ensures edges { self.new.edges ≡ self.old.edges ++ edges_from plan.from plan.targets }
-        ensures spare_nodes { self.old.spare_nodes ≤ self.new.spare_nodes }
-        ensures spare_edges { self.old.spare_edges ≤ self.new.spare_edges + length plan.targets }
+        ensures roomier { IsRoomier (with_edges plan.from plan.targets self.old) self.new }
     {
         let EdgePlan { from, held, all } = plan;
         add_from(&mut self.edges, from, &all[held..]);
@@ -314,10 +299,7 @@ fn add_from(edges: &mut EdgeList, from: u32, targets: &[u32])
     requires targets { All (λ target. target < edges.old.nodes) targets.now }
     requires few { length edges.old.edges + length targets.now ≤ 262_144 }
     requires room { length targets.now ≤ edges.old.spare_edges }
-    ensures nodes { edges.new.nodes ≡ edges.old.nodes }
-    ensures edges { edges.new.edges ≡ edges.old.edges ++ edges_from from targets.now }
-    ensures spare_nodes { edges.old.spare_nodes ≤ edges.new.spare_nodes }
-    ensures spare_edges { edges.old.spare_edges ≤ edges.new.spare_edges + length targets.now }
+    ensures roomier { IsRoomier (with_edges from targets.now edges.old) edges.new }
 {
     for to in targets {
         edges.push(Edge { from, to: *to });

@@ -1,5 +1,5 @@
 -- Lists of invocations.
-use Rattle.std.specs.Prelude.{◌≡◌, ℕ, zero, suc, ℤ, ◌≤◌, List, [], ◌∷◌, Some, length, map, slice_get, Contains}
+use Rattle.std.specs.Prelude.{◌≡◌, ℕ, zero, suc, ℤ, ◌-◌, ◌≤◌, List, [], ◌∷◌, ◌++◌, Some, length, map, slice_get, Contains}
 use Rattle.names_realms.specs.declared.pairs.Pair.{Pair}
 use Rattle.names_realms.specs.declared.states.State.{State}
 use Rattle.names_realms.specs.declared.states.State.TheVariants.{Finalizing, Finalized}
@@ -9,6 +9,18 @@ use Rattle.invocations.specs.declared.invocation.Invocation.{Invocation}
 pub record TableState : Type 0 where
   pub rows : List Invocation
   pub spare : ℕ
+
+-- The rows stay, and there is room for no fewer.
+pub record IsRoomier (before after : TableState) : Type 0 where
+  pub rows : after.rows ≡ before.rows
+  pub spare : before.spare ≤ after.spare
+
+-- The table with a row more, and with room for one less.
+abbrev pub with_row : TableState → Invocation → TableState
+with_row table row = record table {
+  rows = table.rows ++ row ∷ [];
+  spare = table.spare - 1;
+}
 
 abbrev pub ids_of : List Invocation → List (List ℕ)
 ids_of rows = map (λ row. row.id) rows
@@ -42,6 +54,11 @@ abbrev pub with_changed : (Invocation → Invocation) → List Invocation → �
 with_changed change [] place = []
 with_changed change (row ∷ rows) zero = change row ∷ rows
 with_changed change (row ∷ rows) (suc place) = row ∷ with_changed change rows place
+
+-- the table with the row at this place changed
+abbrev pub with_row_changed : (Invocation → Invocation) → TableState → ℕ → TableState
+with_row_changed change table place =
+    record table { rows = with_changed change table.rows place }
 
 -- the row with its finalization begun at this moment
 abbrev pub begun : ℤ → Invocation → Invocation

@@ -3,7 +3,7 @@ ghost use Rattle.std.specs.Prelude.{◌≡◌, ◌≤◌, ◌<◌, ◌+◌, ◌+
 ghost use Rattle.invocations.specs.Due.{IsNextPlace};
 ghost use Rattle.invocations.specs.Orders.{IsInTurn};
 ghost use Rattle.invocations.specs.Faults.{CanAdd, IsAddFault};
-ghost use Rattle.invocations.specs.Rows.{HasId, IsInState, IsPlaceOf, IsTable, begun, ended, states_of, with_changed, with_deadline, with_tags};
+ghost use Rattle.invocations.specs.Rows.{HasId, IsInState, IsPlaceOf, IsRoomier, IsTable, begun, ended, states_of, with_deadline, with_row, with_row_changed, with_tags};
 
 use crate::due::{Due, DueIndex};
 use crate::faults::AddFault;
@@ -120,8 +120,7 @@ impl Table {
     /// Makes room for a row with this id. `Taken` where a row has the id, else `Full` where there
     /// are 65,536 rows, else `Memory` where there is no memory for a row more.
     pub fn prepare_add(&mut self, alloc: Global, id: &InvocationId) -> Result<(), AddFault>
-        ensures rows { self.new.rows ≡ self.old.rows }
-        ensures spare { self.old.spare ≤ self.new.spare }
+        ensures roomier { IsRoomier self.old self.new }
         ensures room { OnOk result (0 < self.new.spare) }
         ensures can { OnOk result (CanAdd self.old.rows id.now) }
         ensures fault { IfErr result (IsAddFault self.old.rows id.now) }
@@ -146,8 +145,7 @@ impl Table {
     pub fn add_prepared(&mut self, row: Invocation) -> u32
         requires room { 0 < self.old.spare }
         requires untaken { ¬ HasId self.old.rows row.id }
-        ensures rows { self.new.rows ≡ self.old.rows ++ row ∷ [] }
-        ensures spare { self.old.spare ≤ self.new.spare + 1 }
+        ensures roomier { IsRoomier (with_row self.old row) self.new }
         ensures place { result ≡ length self.old.rows }
     {
         let place = self.rows.len() as u32;
@@ -160,8 +158,7 @@ impl Table {
     /// Begins the finalization of an active row. It takes no memory.
     pub fn begin_final(&mut self, place: u32, moment: Moment)
         requires { IsInState State.Active self.old.rows place }
-        ensures rows { self.new.rows ≡ with_changed (begun moment) self.old.rows place }
-        ensures spare { self.old.spare ≤ self.new.spare }
+        ensures roomier { IsRoomier (with_row_changed (begun moment) self.old place) self.new }
     {
         let row = &mut self.rows[place as usize];
         let due = Due {
@@ -176,8 +173,7 @@ impl Table {
     /// Ends the finalization of a row. It takes no memory.
     pub fn set_final(&mut self, place: u32, moment: Moment)
         requires { IsInState State.Finalizing self.old.rows place }
-        ensures rows { self.new.rows ≡ with_changed (ended moment) self.old.rows place }
-        ensures spare { self.old.spare ≤ self.new.spare }
+        ensures roomier { IsRoomier (with_row_changed (ended moment) self.old place) self.new }
     {
         let row = &mut self.rows[place as usize];
         row.state = State::Finalized;
@@ -187,8 +183,8 @@ impl Table {
     /// Sets the deadline of an active row. It takes no memory.
     pub fn set_deadline(&mut self, place: u32, deadline: Moment)
         requires { IsInState State.Active self.old.rows place }
-        ensures rows { self.new.rows ≡ with_changed (with_deadline deadline) self.old.rows place }
-        ensures spare { self.old.spare ≤ self.new.spare }
+        ensures roomier { IsRoomier
+            (with_row_changed (with_deadline deadline) self.old place) self.new }
     {
         let row = &mut self.rows[place as usize];
         let due = Due {
@@ -202,8 +198,7 @@ impl Table {
     /// Sets the tags of an active row. It takes no memory.
     pub fn set_tags(&mut self, place: u32, tags: Listed<Pair>)
         requires { IsInState State.Active self.old.rows place }
-        ensures rows { self.new.rows ≡ with_changed (with_tags tags) self.old.rows place }
-        ensures spare { self.old.spare ≤ self.new.spare }
+        ensures roomier { IsRoomier (with_row_changed (with_tags tags) self.old place) self.new }
     {
         let row = &mut self.rows[place as usize];
         row.tags = tags;

@@ -1,12 +1,12 @@
-use Rattle.std.proofs.Common.{◌≡◌, ◌≤◌, ◌-◌, vec_capacity}
+use Rattle.std.proofs.Common.{◌≡◌, ◌-◌, vec_capacity}
+use Rattle.finaliser.specs.Holding.{IsOutOfSame}
 use Rattle.finaliser.specs.Watching.{AreWatched}
 use Rattle.finaliser.proofs.aims.aim_at.Given as goal
 
 abbrev pub invariant-nodes : goal.invariant-nodes
 invariant-nodes l = record {
   watched : AreWatched l.graph.edges l.states l.watches.items;
-  below : l.seen.below ≡ l.initial.seen.below;
-  spare : l.initial.seen.spare ≤ l.seen.spare;
+  same : IsOutOfSame l.initial.seen l.seen;
   capacity : vec_capacity l.watches ≡ vec_capacity l.initial.watches;
 }
 

@@ -10,8 +10,7 @@ pub sources-init : goal.sources-init
 sources-init c = record {
   passed = passed_none c.args.graph.now.edges c.args.node c.args.seen.now.nodes c.first_edge_to-next.result c.first_edge_to-next.ensures;
   watched = c.requires.watched;
-  below = refl;
-  spare = omega arith;
+  same = record { below = refl; spare = omega arith };
   capacity = refl;
 }
 
@@ -35,7 +34,9 @@ sources-preserved c =
       passed = passed_on edges node c.sources.seen.nodes c.aim_source.new.seen.nodes place c.next_edge_to-next.result passed c.next_edge_to-next.ensures;
       watched = watched_aimed edges states c.sources.watches.items c.aim_source.new.watches.items (get_or edges place d).from node watch.aim watch
           h.watched aimed (c.requires.watched.each node watch read) refl at.1;
-      below = c.aim_source.ensures.below ∙ h.below;
-      spare = omega (arith, h.spare, c.aim_source.ensures.spare);
+      same = record {
+        below = c.aim_source.ensures.same.below ∙ h.same.below;
+        spare = omega (arith, h.same.spare, c.aim_source.ensures.same.spare);
+      };
       capacity = c.aim_source.ensures.capacity ∙ h.capacity;
     }

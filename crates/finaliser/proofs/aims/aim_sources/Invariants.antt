@@ -1,5 +1,5 @@
-use Rattle.std.proofs.Common.{◌≡◌, ◌≤◌, vec_capacity}
-use Rattle.finaliser.specs.Holding.{ArePassed, edges_left}
+use Rattle.std.proofs.Common.{◌≡◌, vec_capacity}
+use Rattle.finaliser.specs.Holding.{ArePassed, IsOutOfSame, edges_left}
 use Rattle.finaliser.specs.Watching.{AreWatched}
 use Rattle.finaliser.proofs.aims.aim_sources.Given as goal
 
@@ -7,8 +7,7 @@ abbrev pub invariant-sources : goal.invariant-sources
 invariant-sources l = record {
   passed : ArePassed l.graph.edges (λ n. ⊥) (λ n. ⊥) l.node l.seen.nodes l.next;
   watched : AreWatched l.graph.edges l.states l.watches.items;
-  below : l.seen.below ≡ l.initial.seen.below;
-  spare : l.initial.seen.spare ≤ l.seen.spare;
+  same : IsOutOfSame l.initial.seen l.seen;
   capacity : vec_capacity l.watches ≡ vec_capacity l.initial.watches;
 }
 

@@ -25,12 +25,12 @@ invariant_of-self c =
     (watched_node f.graph.edges states f.watches.items c.self.invariant.1) in (
       subst (λ (ss : List State). IsKept graph ss c.add_node.new.self c.add_node-2.new.self f.finals.items f.finals.cap) (sym c.push_reserved.ensures.items)
           (kept_node f.graph graph states f.found f.held c.add_node.new.self c.add_node-2.new.self f.finals.items f.finals.cap kept
-          c.add_node-aim.ensures.nodes c.add_node-aim.ensures.edges
+          c.add_node-aim.ensures.roomier.nodes c.add_node-aim.ensures.roomier.edges
           (record { nodes = c.add_node.ensures.nodes ∙ kept.found_none; is_below = c.add_node.ensures.below })
           (record { nodes = c.add_node-2.ensures.nodes ∙ kept.held_none; is_below = c.add_node-2.ensures.below })
           (omega (arith, room, f.states.ok.0))),
       subst (λ (ws : List Watch). AreWatched graph.edges c.push_reserved.new.self.items ws) (sym c.push_reserved-2.ensures.items)
           (subst (λ (ss : List State). AreWatched graph.edges ss ws) (sym c.push_reserved.ensures.items)
-          (subst (λ (es : List Edge). AreWatched es (states ++ Active ∷ []) ws) (sym c.add_node-aim.ensures.edges) watched)),
+          (subst (λ (es : List Edge). AreWatched es (states ++ Active ∷ []) ws) (sym c.add_node-aim.ensures.roomier.edges) watched)),
       omega (arith, c.add_node-3.ensures.below, c.self.invariant.2, length_push states Active, ap (λ (ss : List State). length ss) c.push_reserved.ensures.items),
     )

@@ -57,8 +57,8 @@ invariant_of-self-2 c =
           (subst (λ (ns : List ℕ). IsKept f.graph new c.clear.new.self c.clear-2.new.self ns f.finals.cap) (sym c.settle_free.ensures.finals)
           (kept_retired f.graph f.states.items new f.found f.held c.clear.new.self c.clear-2.new.self f.finals.items found held f.finals.cap node
           c.self.invariant.0 retires c.sort.ensures.rising c.settle_free.ensures.freed
-          (record { nodes = c.clear.ensures.nodes; is_below = c.clear.ensures.below ∙ c.sort.ensures.below ∙ c.find.ensures.below })
-          (record { nodes = c.clear-2.ensures.nodes; is_below = c.clear-2.ensures.below ∙ c.hold.ensures.below }))),
+          (record { nodes = c.clear.ensures.nodes; is_below = c.clear.ensures.same.below ∙ c.sort.ensures.same.below ∙ c.find.ensures.same.below })
+          (record { nodes = c.clear-2.ensures.nodes; is_below = c.clear-2.ensures.same.below ∙ c.hold.ensures.same.below }))),
       watched_freed f.graph.edges old new c.find.new.watches.items (filter (is_free held) found) c.settle_free.ensures.freed watched,
       omega (arith, c.self.invariant.2, c.settle_free.ensures.freed.count, length-set f.states.items node Finalizing),
     )

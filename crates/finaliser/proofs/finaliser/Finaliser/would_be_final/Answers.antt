@@ -1,4 +1,5 @@
-use Rattle.std.proofs.Common.{◌≡◌, ◌↔◌, true, false, not, IsTrue, List, length, set, refl, sym, ap, ◌∙◌, subst}
+use Rattle.std.proofs.Common.{◌≡◌, ◌↔◌, true, false, not, IsTrue, List, length, set, refl, sym, ap, ◌∙◌, subst, arith}
+use Rattle.std.proofs.lemmas.Grind.{common_steps}
 use Rattle.names_realms.specs.declared.states.State.{State}
 use Rattle.names_realms.specs.declared.states.State.TheVariants.{Active, Finalizing}
 use Rattle.finaliser.specs.Settling.{FinaliserState, IsIn, ReachesActive}
@@ -33,9 +34,9 @@ invariant_of-self-2 c =
             joined = kept.joined;
             settled = kept.settled;
             found_none = c.clear.ensures.nodes;
-            found_below = c.clear.ensures.below ∙ c.find.ensures.below ∙ kept.found_below;
+            found_below = c.clear.ensures.same.below ∙ c.find.ensures.same.below ∙ kept.found_below;
             held_none = c.clear-2.ensures.nodes;
-            held_below = c.clear-2.ensures.below ∙ c.hold.ensures.below ∙ kept.held_below;
+            held_below = c.clear-2.ensures.same.below ∙ c.hold.ensures.same.below ∙ kept.held_below;
             left = kept.left;
             room_left = kept.room_left;
             within = kept.within;
@@ -59,10 +60,15 @@ returns-clause-answer c =
     subst (λ (s : FinaliserState). IsTrue (not c.has-waits.result) ↔ (¬ ReachesActive s.graph.edges (set s.states node Finalizing) node)) c.self.view_is
     (not_held f.graph.edges f.states.items node found held c.has-waits.result retires c.has-waits.ensures)
 
-pub returns-clause-states : goal.returns-clause-states
-returns-clause-states c =
+pub returns-clause-stays : goal.returns-clause-stays
+returns-clause-stays c =
     let active = subst (λ (s : FinaliserState). IsIn Active s.states c.args.node) (sym c.self.view_is) c.requires in
-    set_back c.self.inside.states.items c.args.node Finalizing Active active ∙ ap (λ (s : FinaliserState). s.states) c.self.view_is
+    record {
+      graph = ap (λ (s : FinaliserState). s.graph) c.self.view_is;
+      states = set_back c.self.inside.states.items c.args.node Finalizing Active active ∙ ap (λ (s : FinaliserState). s.states) c.self.view_is;
+      finals = ap (λ (s : FinaliserState). s.finals) c.self.view_is;
+      spare = grind (arith, common_steps);
+    }
 
 pub find-requires-clause-node : goal.find-requires-clause-node
 find-requires-clause-node c =
@@ -79,10 +85,15 @@ returns-then-begins_waiting-clause-answer c =
     let reaches = subst (λ (s : FinaliserState). ReachesActive s.graph.edges (set s.states node Finalizing) node) c.self.view_is is in
     (λ no. let never : false ≡ true = no in cc, λ none. absurd (none reaches))
 
-pub returns-then-begins_waiting-clause-states : goal.returns-then-begins_waiting-clause-states
-returns-then-begins_waiting-clause-states c =
+pub returns-then-begins_waiting-clause-stays : goal.returns-then-begins_waiting-clause-stays
+returns-then-begins_waiting-clause-stays c =
     let active = subst (λ (s : FinaliserState). IsIn Active s.states c.args.node) (sym c.self.view_is) c.requires in
-    set_back c.self.inside.states.items c.args.node Finalizing Active active ∙ ap (λ (s : FinaliserState). s.states) c.self.view_is
+    record {
+      graph = ap (λ (s : FinaliserState). s.graph) c.self.view_is;
+      states = set_back c.self.inside.states.items c.args.node Finalizing Active active ∙ ap (λ (s : FinaliserState). s.states) c.self.view_is;
+      finals = ap (λ (s : FinaliserState). s.finals) c.self.view_is;
+      spare = grind (arith, common_steps);
+    }
 
 pub invariant_of-self : goal.invariant_of-self
 invariant_of-self c =

@@ -18,10 +18,10 @@ invariant_of-self c =
     let plan_is : PlanState = record { from = plan.from; held = take plan.held all; targets = drop plan.held all } in
     let fits = subst (λ (g : GraphState). Fits g plan_is) (sym c.self.view_is) planned in
     let targets = take_rest c.deref.result.now plan.held ∙ ap (drop plan.held) c.deref.ensures.value in
-    let is = c.add_from.ensures.edges ∙ ap (λ (ts : List ℕ). edges ++ edges_from plan.from ts) targets in (
+    let is = c.add_from.ensures.roomier.edges ∙ ap (λ (ts : List ℕ). edges ++ edges_from plan.from ts) targets in (
       subst (λ (es : List Edge). IsListed es (slice_set lists plan.from plan.all)) (sym is)
           (listed_edges edges lists plan.from (drop plan.held all) plan.all c.self.invariant.0 fits.from
           (sym (take-append-drop plan.held all) ∙ ap (λ front. front ++ drop plan.held all) fits.held) fits.targets fits.few),
-      c.add_from.ensures.nodes ∙ c.self.invariant.1 ∙ sym (length-set lists plan.from plan.all),
+      c.add_from.ensures.roomier.nodes ∙ c.self.invariant.1 ∙ sym (length-set lists plan.from plan.all),
       subst (λ n. HasMarks c.self.inside.marks.items n []) (sym (length-set lists plan.from plan.all)) c.self.invariant.2,
     )

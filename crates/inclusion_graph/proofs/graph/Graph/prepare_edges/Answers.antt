@@ -26,8 +26,8 @@ returns-clause-fits c =
     record {
       from = subst (λ n. c.args.from < n) (sym nodes) c.requires.from;
       held = front ∙ c.targets-held.ensures.targets
-          ∙ ap (λ (es : List Edge). targets_of es c.args.from) (sym edges_are ∙ sym c.reserve.ensures.edges);
+          ∙ ap (λ (es : List Edge). targets_of es c.args.from) (sym edges_are ∙ sym c.reserve.ensures.roomier.edges);
       targets = subst (All (λ t. t < length lists)) (sym back) (fresh_within (λ t. t < length lists) held c.args.targets.now targets);
-      few = rw c.reserve.ensures.edges (omega arith);
+      few = rw c.reserve.ensures.roomier.edges (omega arith);
       room = omega (arith, length-drop (length held) all, c.in_ok-reserve.ensures.room_for_edges, c.append_new.new.all.ok.0);
     }

@@ -1,4 +1,5 @@
 use Rattle.std.proofs.Common.{◌≡◌, ◌+◌, ℤ, List, Option, length, refl, sym, ap, ◌∙◌, subst, arith}
+use Rattle.std.proofs.lemmas.Grind.{common_steps}
 use Rattle.names_realms.specs.declared.states.State.TheVariants.{Active}
 use Rattle.invocations.specs.declared.due.Due.{Due}
 use Rattle.invocations.specs.Rows.{TableState, IsInState, begun, with_changed}
@@ -31,8 +32,12 @@ invariant_of-self c =
     (due_removed (deadlines_of rows) entries new due c.self.invariant.due
     (deadline_of rows c.args.place row at c.index_mut-row.ensures.value) c.remove.ensures.rising c.remove.ensures.entries fewer))
 
-pub returns-clause-rows : goal.returns-clause-rows
-returns-clause-rows c =
-    changed_is (begun c.args.moment) c.self.inside.rows.items c.args.place c.index_mut-row.result.now
-    c.index_mut-row.ensures.value
-    ∙ ap (λ (t : TableState). with_changed (begun c.args.moment) t.rows c.args.place) c.self.view_is
+pub returns : goal.returns
+returns c = record {
+  roomier = record {
+    rows = changed_is (begun c.args.moment) c.self.inside.rows.items c.args.place c.index_mut-row.result.now
+        c.index_mut-row.ensures.value
+        ∙ ap (λ (t : TableState). with_changed (begun c.args.moment) t.rows c.args.place) c.self.view_is;
+    spare = grind (arith, common_steps);
+  };
+}

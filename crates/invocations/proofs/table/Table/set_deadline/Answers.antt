@@ -1,4 +1,5 @@
 use Rattle.std.proofs.Common.{◌≡◌, ℤ, List, Option, length, refl, sym, ap, ◌∙◌, subst, arith}
+use Rattle.std.proofs.lemmas.Grind.{common_steps}
 use Rattle.names_realms.specs.declared.states.State.{State}
 use Rattle.names_realms.specs.declared.states.State.TheVariants.{Active}
 use Rattle.invocations.specs.declared.due.Due.{Due}
@@ -46,8 +47,12 @@ invariant_of-self c =
     (due_moved (deadlines_of rows) entries replaced.between new due to c.self.invariant.due
     (deadline_of rows c.args.place row at c.index_mut-row.ensures.value) refl replaced.fewer replaced.rising replaced.more count))
 
-pub returns-clause-rows : goal.returns-clause-rows
-returns-clause-rows c =
-    changed_is (with_deadline c.args.deadline) c.self.inside.rows.items c.args.place c.index_mut-row.result.now
-    c.index_mut-row.ensures.value
-    ∙ ap (λ (t : TableState). with_changed (with_deadline c.args.deadline) t.rows c.args.place) c.self.view_is
+pub returns : goal.returns
+returns c = record {
+  roomier = record {
+    rows = changed_is (with_deadline c.args.deadline) c.self.inside.rows.items c.args.place c.index_mut-row.result.now
+        c.index_mut-row.ensures.value
+        ∙ ap (λ (t : TableState). with_changed (with_deadline c.args.deadline) t.rows c.args.place) c.self.view_is;
+    spare = grind (arith, common_steps);
+  };
+}

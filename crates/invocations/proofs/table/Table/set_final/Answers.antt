@@ -1,4 +1,5 @@
-use Rattle.std.proofs.Common.{refl, sym, ap, ◌∙◌, subst}
+use Rattle.std.proofs.Common.{refl, sym, ap, ◌∙◌, subst, arith}
+use Rattle.std.proofs.lemmas.Grind.{common_steps}
 use Rattle.names_realms.specs.declared.states.State.{State}
 use Rattle.names_realms.specs.declared.states.State.TheVariants.{Finalizing}
 use Rattle.invocations.specs.Rows.{TableState, IsInState, ended, with_changed}
@@ -16,8 +17,12 @@ invariant_of-self c =
     indexed_beside (ended c.args.moment) (λ _. refl) rows c.self.inside.by_id.places.items c.self.inside.by_deadline.entries.items c.args.place row
     c.index_mut-row.ensures.value (ap (λ (s : State). deadline_in s row.deadline) (sym state)) c.self.invariant
 
-pub returns-clause-rows : goal.returns-clause-rows
-returns-clause-rows c =
-    changed_is (ended c.args.moment) c.self.inside.rows.items c.args.place c.index_mut-row.result.now
-    c.index_mut-row.ensures.value
-    ∙ ap (λ (t : TableState). with_changed (ended c.args.moment) t.rows c.args.place) c.self.view_is
+pub returns : goal.returns
+returns c = record {
+  roomier = record {
+    rows = changed_is (ended c.args.moment) c.self.inside.rows.items c.args.place c.index_mut-row.result.now
+        c.index_mut-row.ensures.value
+        ∙ ap (λ (t : TableState). with_changed (ended c.args.moment) t.rows c.args.place) c.self.view_is;
+    spare = grind (arith, common_steps);
+  };
+}
