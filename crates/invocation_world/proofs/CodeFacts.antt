@@ -204,7 +204,7 @@ pub record IsPlanned (state : WorldState) (graph : GraphState) (place : ℕ) (ta
   pub active : IsInState Active state.world.invocations place
   pub there : All (λ target. target < length state.world.invocations) targets
   pub edges : graph.edges ≡ state.world.inclusions
-  pub room : graph.spare_edges ≡ state.spare_inclusions
+  pub room : graph.spare_edges ≡ state.room.inclusions
   pub fits : plans.Fits graph plan
   pub from : plan.from ≡ place
   pub targets_are : plan.targets ≡ fresh (targets_of state.world.inclusions place) targets
@@ -232,7 +232,7 @@ fits_world state graph place targets plan h =
 
 pub fits_result : (state : WorldState) (graph : GraphState) (place : ℕ) (targets : List ℕ) (result : Result PlanState EdgeFault)
     → IsInState Active state.world.invocations place → All (λ target. target < length state.world.invocations) targets
-    → graph.edges ≡ state.world.inclusions → graph.spare_edges ≡ state.spare_inclusions
+    → graph.edges ≡ state.world.inclusions → graph.spare_edges ≡ state.room.inclusions
     → IfOk result (plans.Fits graph) → IfOk result (λ plan. plan.from ≡ place)
     → IfOk result (λ plan. plan.targets ≡ fresh (targets_of state.world.inclusions place) targets)
     → OnOk result (IsElsewhere place targets) → IfOk result (Fits state)

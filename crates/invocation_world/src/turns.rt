@@ -2,7 +2,7 @@
 ghost use Rattle.std.specs.Prelude.{◌≡◌, ◌≤◌, All};
 ghost use Rattle.std.specs.List.Sorted.{IsStrictlyIncreasing};
 ghost use Rattle.invocations.specs.Rows.{IsInState, begun, with_changed};
-ghost use Rattle.invocation_world.specs.Parts.{AreLinked};
+ghost use Rattle.invocation_world.specs.Parts.{AreLinked, StayLinked};
 ghost use Rattle.invocation_world.specs.Settling.{AreEnded, SettlesRows};
 ghost use Rattle.invocation_world.specs.Turns.{RunsTo};
 
@@ -31,10 +31,7 @@ pub(crate) fn retire_row(table: &mut Table, finaliser: &mut Finaliser, place: u3
     requires active { IsInState State.Active table.old.rows place }
     ensures rows { SettlesRows moment finaliser.old.graph.edges
         (with_changed (begun moment) table.old.rows place) table.new.rows }
-    ensures linked { AreLinked table.new finaliser.new }
-    ensures graph { finaliser.new.graph ≡ finaliser.old.graph }
-    ensures spare_rows { table.old.spare ≤ table.new.spare }
-    ensures spare_nodes { finaliser.old.spare ≤ finaliser.new.spare }
+    ensures parts { StayLinked table.old finaliser.old table.new finaliser.new }
 {
     table.begin_final(place, moment);
     finaliser.retire(place);
@@ -54,9 +51,7 @@ fn are_many(table: &Table, moment: Moment) -> bool {
 /// It goes over all rows and inclusions once.
 fn note_all(table: &Table, finaliser: &mut Finaliser)
     requires { AreLinked table.now finaliser.old }
-    ensures linked { AreLinked table.now finaliser.new }
-    ensures graph { finaliser.new.graph ≡ finaliser.old.graph }
-    ensures spare { finaliser.old.spare ≤ finaliser.new.spare }
+    ensures parts { StayLinked table.now finaliser.old table.now finaliser.new }
 {
     for turn in (0..table.count()).rev() {
         note_turn(table, finaliser, turn);
@@ -67,9 +62,7 @@ fn note_all(table: &Table, finaliser: &mut Finaliser)
 /// Notes which rows wait for the active one before which so many others are due.
 fn note_turn(table: &Table, finaliser: &mut Finaliser, turn: u32)
     requires { AreLinked table.now finaliser.old }
-    ensures linked { AreLinked table.now finaliser.new }
-    ensures graph { finaliser.new.graph ≡ finaliser.old.graph }
-    ensures spare { finaliser.old.spare ≤ finaliser.new.spare }
+    ensures parts { StayLinked table.now finaliser.old table.now finaliser.new }
 {
     if let Some(place) = table.in_turn(turn) {
         finaliser.note(place);
@@ -79,9 +72,7 @@ fn note_turn(table: &Table, finaliser: &mut Finaliser, turn: u32)
 /// Notes for which rows all others wait, where many are due.
 fn note_if_many(table: &Table, finaliser: &mut Finaliser, moment: Moment)
     requires { AreLinked table.now finaliser.old }
-    ensures linked { AreLinked table.now finaliser.new }
-    ensures graph { finaliser.new.graph ≡ finaliser.old.graph }
-    ensures spare { finaliser.old.spare ≤ finaliser.new.spare }
+    ensures parts { StayLinked table.now finaliser.old table.now finaliser.new }
 {
     if are_many(table, moment) {
         note_all(table, finaliser);
@@ -92,10 +83,7 @@ fn note_if_many(table: &Table, finaliser: &mut Finaliser, moment: Moment)
 fn take_turns(table: &mut Table, finaliser: &mut Finaliser, moment: Moment)
     requires { AreLinked table.old finaliser.old }
     ensures rows { RunsTo finaliser.old.graph.edges moment table.old.rows table.new.rows }
-    ensures linked { AreLinked table.new finaliser.new }
-    ensures graph { finaliser.new.graph ≡ finaliser.old.graph }
-    ensures spare_rows { table.old.spare ≤ table.new.spare }
-    ensures spare_nodes { finaliser.old.spare ≤ finaliser.new.spare }
+    ensures parts { StayLinked table.old finaliser.old table.new finaliser.new }
 {
     'turns: while let Some(place) = table.next_due(moment) {
         let deadline = table.row(place).deadline;
@@ -109,10 +97,7 @@ fn take_turns(table: &mut Table, finaliser: &mut Finaliser, moment: Moment)
 pub(crate) fn carry_out(table: &mut Table, finaliser: &mut Finaliser, moment: Moment)
     requires { AreLinked table.old finaliser.old }
     ensures rows { RunsTo finaliser.old.graph.edges moment table.old.rows table.new.rows }
-    ensures linked { AreLinked table.new finaliser.new }
-    ensures graph { finaliser.new.graph ≡ finaliser.old.graph }
-    ensures spare_rows { table.old.spare ≤ table.new.spare }
-    ensures spare_nodes { finaliser.old.spare ≤ finaliser.new.spare }
+    ensures parts { StayLinked table.old finaliser.old table.new finaliser.new }
 {
     note_if_many(table, finaliser, moment);
     take_turns(table, finaliser, moment);

@@ -1,7 +1,7 @@
 //! Updates of a row.
-ghost use Rattle.std.specs.Prelude.{◌≡◌, ◌≤◌, None};
+ghost use Rattle.std.specs.Prelude.{◌≡◌, None};
 ghost use Rattle.std.specs.Cmp.Lexicographic.{pointwise};
-ghost use Rattle.invocations.specs.Rows.{IsInState, with_changed};
+ghost use Rattle.invocations.specs.Rows.{IsInState, IsRoomier, with_row_changed};
 ghost use Rattle.invocation_world.specs.Changes as changes;
 ghost use Rattle.invocation_world.specs.Changes.{updated};
 
@@ -65,8 +65,7 @@ pub(crate) fn is_update(
 /// Sets the deadline of an active row, where one is given.
 pub(crate) fn set_deadline(table: &mut Table, place: u32, deadline: Option<Moment>)
     requires { IsInState State.Active table.old.rows place }
-    ensures rows { table.new.rows ≡ with_changed (updated deadline None) table.old.rows place }
-    ensures spare { table.old.spare ≤ table.new.spare }
+    ensures { IsRoomier (with_row_changed (updated deadline None) table.old place) table.new }
 {
     match deadline {
         Some(deadline) => table.set_deadline(place, deadline),
@@ -77,8 +76,7 @@ pub(crate) fn set_deadline(table: &mut Table, place: u32, deadline: Option<Momen
 /// Sets the tags of an active row, where some are given.
 pub(crate) fn set_tags(table: &mut Table, place: u32, tags: Option<Listed<Pair>>)
     requires { IsInState State.Active table.old.rows place }
-    ensures rows { table.new.rows ≡ with_changed (updated None tags) table.old.rows place }
-    ensures spare { table.old.spare ≤ table.new.spare }
+    ensures { IsRoomier (with_row_changed (updated None tags) table.old place) table.new }
 {
     match tags {
         Some(tags) => table.set_tags(place, tags),

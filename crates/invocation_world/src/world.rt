@@ -10,7 +10,7 @@ ghost use Rattle.invocation_world.specs.Advancing.{Advances, IsDueAt, IsQuiet};
 ghost use Rattle.invocation_world.specs.Changes.{with_begun, with_edges, with_update};
 ghost use Rattle.invocation_world.specs.Changes as changes;
 ghost use Rattle.invocation_world.specs.Settling.{Settles};
-ghost use Rattle.invocation_world.specs.States.{Fits, graph_of};
+ghost use Rattle.invocation_world.specs.States.{Fits, IsNoLess, IsRoomier, graph_of, without_inclusions, without_row};
 ghost use Rattle.invocation_world.specs.World.{IsCallMoment, IsPair, IsRow, IsValid, ReachesActive, empty_world, latest_deadline, with_row};
 
 use crate::turns::{carry_out, retire_row};
@@ -40,8 +40,10 @@ impl Model for InvocationWorld {
 
     ghost view = { λ w. record {
       world = world_of w.table w.finaliser w.last;
-      spare_rows = min w.table.spare w.finaliser.spare;
-      spare_inclusions = w.finaliser.graph.spare_edges;
+      room = record {
+        rows = min w.table.spare w.finaliser.spare;
+        inclusions = w.finaliser.graph.spare_edges;
+      };
     } };
 
     ghost invariant = { λ w. IsKept w.table w.finaliser w.last };
@@ -143,8 +145,7 @@ impl InvocationWorld {
         ensures world { Advances self.old.world moment self.new.world }
         ensures quiet { IsQuiet self.new.world moment }
         ensures valid { IsValid self.new.world }
-        ensures spare_rows { self.old.spare_rows ≤ self.new.spare_rows }
-        ensures spare_inclusions { self.old.spare_inclusions ≤ self.new.spare_inclusions }
+        ensures room { IsNoLess self.old.room self.new.room }
     {
         if self.table.next_due(moment).is_some() {
             carry_out(&mut self.table, &mut self.finaliser, moment);
@@ -155,10 +156,8 @@ impl InvocationWorld {
     /// Makes room for a row with this id. `Taken` where a row has the id, else `Full` where there
     /// are 65,536 rows, else `Memory` where there is no memory for a row more.
     pub fn prepare_add(&mut self, alloc: Global, id: &InvocationId) -> Result<(), AddFault>
-        ensures world { self.new.world ≡ self.old.world }
-        ensures spare_rows { self.old.spare_rows ≤ self.new.spare_rows }
-        ensures spare_inclusions { self.old.spare_inclusions ≤ self.new.spare_inclusions }
-        ensures room { OnOk result (0 < self.new.spare_rows) }
+        ensures roomier { IsRoomier self.old self.new }
+        ensures room { OnOk result (0 < self.new.room.rows) }
         ensures can { OnOk result (CanAdd self.old.world.invocations id.now) }
         ensures fault { IfErr result (IsAddFault self.old.world.invocations id.now) }
     {
@@ -172,7 +171,7 @@ impl InvocationWorld {
     /// Appends an active row, which was made at its create time, and gives its place. It takes no
     /// memory.
     pub fn add_prepared(&mut self, row: Invocation) -> u32
-        requires room { 0 < self.old.spare_rows }
+        requires room { 0 < self.old.room.rows }
         requires can { CanAdd self.old.world.invocations row.id }
         requires is_row { IsRow row.created row }
         requires active { row.state ≡ State.Active }
@@ -181,8 +180,7 @@ impl InvocationWorld {
         requires quiet { IsQuiet self.old.world row.created }
         ensures world { self.new.world ≡ with_row self.old.world row }
         ensures place { result ≡ length self.old.world.invocations }
-        ensures spare_rows { self.old.spare_rows ≤ self.new.spare_rows + 1 }
-        ensures spare_inclusions { self.old.spare_inclusions ≤ self.new.spare_inclusions }
+        ensures room { IsNoLess (without_row self.old.room) self.new.room }
     {
         self.last = row.created;
         self.finaliser.add_active();
@@ -200,9 +198,7 @@ impl InvocationWorld {
     ) -> Result<EdgePlan, EdgeFault>
         requires active { IsInState State.Active self.old.world.invocations place }
         requires there { All (λ target. target < length self.old.world.invocations) targets.now }
-        ensures world { self.new.world ≡ self.old.world }
-        ensures spare_rows { self.old.spare_rows ≤ self.new.spare_rows }
-        ensures spare_inclusions { self.old.spare_inclusions ≤ self.new.spare_inclusions }
+        ensures roomier { IsRoomier self.old self.new }
         ensures fits { IfOk result (Fits self.new) }
         ensures from { IfOk result (λ plan. plan.from ≡ place) }
         ensures targets { IfOk result
@@ -221,9 +217,8 @@ impl InvocationWorld {
         requires quiet { IsQuiet self.old.world moment }
         ensures world { self.new.world ≡
             with_edges moment (edges_from plan.from plan.targets) self.old.world }
-        ensures spare_rows { self.old.spare_rows ≤ self.new.spare_rows }
-        ensures spare_inclusions { self.old.spare_inclusions ≤
-            self.new.spare_inclusions + length plan.targets }
+        ensures room { IsNoLess (without_inclusions (length plan.targets) self.old.room)
+            self.new.room }
     {
         let before = self.finaliser.graph().edges().len();
         self.finaliser.add_edges(plan);
@@ -238,9 +233,7 @@ impl InvocationWorld {
         requires { IsInState State.Active self.old.world.invocations place }
         ensures answer { (moment : ℤ) → IsTrue result
             ↔ ¬ ReachesActive (with_begun moment place self.old.world) place }
-        ensures world { self.new.world ≡ self.old.world }
-        ensures spare_rows { self.old.spare_rows ≤ self.new.spare_rows }
-        ensures spare_inclusions { self.old.spare_inclusions ≤ self.new.spare_inclusions }
+        ensures roomier { IsRoomier self.old self.new }
     {
         self.finaliser.would_be_final(place)
     }
@@ -253,8 +246,7 @@ impl InvocationWorld {
         requires later { self.old.world.last ≤ℤ moment }
         requires quiet { IsQuiet self.old.world moment }
         ensures world { Settles moment (with_begun moment place self.old.world) self.new.world }
-        ensures spare_rows { self.old.spare_rows ≤ self.new.spare_rows }
-        ensures spare_inclusions { self.old.spare_inclusions ≤ self.new.spare_inclusions }
+        ensures room { IsNoLess self.old.room self.new.room }
     {
         retire_row(&mut self.table, &mut self.finaliser, place, moment);
         self.last = moment;
@@ -291,8 +283,7 @@ impl InvocationWorld {
         requires later { self.old.world.last ≤ℤ moment }
         requires quiet { IsQuiet self.old.world moment }
         ensures world { self.new.world ≡ with_update moment place deadline tags self.old.world }
-        ensures spare_rows { self.old.spare_rows ≤ self.new.spare_rows }
-        ensures spare_inclusions { self.old.spare_inclusions ≤ self.new.spare_inclusions }
+        ensures room { IsNoLess self.old.room self.new.room }
     {
         if !is_update(self.table.row(place), &deadline, &tags) {
             return;

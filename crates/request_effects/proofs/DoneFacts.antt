@@ -88,7 +88,7 @@ fits_as w new moment effect e same timely may is room = (
 pub row_ready : (w : World) (new : WorldState) (moment : ℤ) (name : List ℕ) (q : CreateInvocation) (row : Invocation) → new.world ≡ w
     → IsTimely w moment → IsSafe w moment name (asks.CreateInvocation q)
     → row ≡ new_row moment name q.id q.invocation.realm q.invocation.deadline q.invocation.tags → CanAdd w.invocations row.id
-    → 0 < new.spare_rows
+    → 0 < new.room.rows
     → (does.Add row ≡ effect_of w moment name (asks.CreateInvocation q)) × Fits new moment (does.Add row)
 row_ready w new moment name q row same timely safe is can room =
     fits_as w new moment (effect_of w moment name (asks.CreateInvocation q)) (does.Add row) same timely

@@ -60,12 +60,12 @@ Suits w moment (does.Include plan) = IsIncludable w plan
 abbrev pub HasRoom : WorldState → Effect → Type 0
 HasRoom held does.Nothing = ⊤
 HasRoom held (does.Add row) =
-    (length held.world.invocations < 65_536) × (0 < held.spare_rows)
+    (length held.world.invocations < 65_536) × (0 < held.room.rows)
 HasRoom held (does.Update place deadline tags) = ⊤
 HasRoom held (does.End place) = ⊤
 HasRoom held (does.Include plan) =
     (length held.world.inclusions + length plan.targets ≤ 262_144)
-    × (length plan.targets ≤ held.spare_inclusions)
+    × (length plan.targets ≤ held.room.inclusions)
 
 -- The effect can be done at this moment, without memory.
 pub record Fits (held : WorldState) (moment : ℤ) (effect : Effect) : Type 0 where

@@ -42,8 +42,8 @@ IsOwn w effect shows.Empty = ⊤
 IsOwn w effect (shows.Row place) = IsHere w effect place
 IsOwn w effect (shows.Made place) = IsHere w effect place
 
--- What is seen ahead is what a change will leave: it suits the world, and it is told whether what it
--- ends is final at once.
+-- What is seen ahead is what a change will leave: it suits the world, and it is told whether what
+-- it ends is final at once.
 pub record Foresees (a : Ahead) : Type 0 where
   pub timely : IsTimely a.world.now.world a.moment
   pub suits : Suits a.world.now.world a.moment a.effect.now

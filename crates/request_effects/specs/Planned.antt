@@ -1,5 +1,5 @@
 -- What a request is planned to, and what planning asks of it.
-use Rattle.std.specs.Prelude.{◌≡◌, ◌≤◌, ℕ, ℤ, true, List, codes}
+use Rattle.std.specs.Prelude.{◌≡◌, ℕ, ℤ, true, List, codes}
 use Rattle.call_forms.specs.declared.forms.Refusal.{Refusal}
 use Rattle.message_forms.specs.declared.requests.Request.{Request}
 use Rattle.message_forms.specs.Forms.{IsOfForm}
@@ -28,12 +28,6 @@ pub record IsSafe (w : World) (moment : ℤ) (name : List ℕ) (request : Reques
   pub free : IsUnbroken (Taken w.invocations (demand_of request))
   pub forms : IsOfForm request
   pub name_is : is_name name ≡ true
-
--- The world stays, and there is room for no less.
-pub record IsRoomier (before after : WorldState) : Type 0 where
-  pub world : after.world ≡ before.world
-  pub rows : before.spare_rows ≤ after.spare_rows
-  pub inclusions : before.spare_inclusions ≤ after.spare_inclusions
 
 abbrev pub refusal_of : FullTable → Refusal
 refusal_of (Invocations count) = table_full (codes "invocations") count

@@ -6,7 +6,7 @@ ghost use Rattle.invocation_world.specs.World.{World};
 ghost use Rattle.invocation_world.specs.Changes.{updated};
 ghost use Rattle.request_effects.specs.Fitting.{Suits};
 ghost use Rattle.request_effects.specs.Foreseen.{Foresees, IsFinalTold, IsFormed, IsHere, Leaves, ended_if};
-ghost use Rattle.request_effects.specs.Planned.{IsRoomier};
+ghost use Rattle.invocation_world.specs.States.{IsRoomier};
 ghost use Rattle.request_effects.specs.Shows.{ids_at};
 
 use crate::effect::Effect;

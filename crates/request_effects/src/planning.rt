@@ -5,7 +5,8 @@ ghost use Rattle.invocation_world.specs.World.{IsValid};
 ghost use Rattle.request_rules.specs.Named.{place_named};
 ghost use Rattle.request_effects.specs.Effects.{effect_of, end_at, include_of, update_at};
 ghost use Rattle.request_effects.specs.Fitting.{IsTimely};
-ghost use Rattle.request_effects.specs.Planned.{AreEdgesPlanned, IsPlanned, IsRoomier, IsSafe};
+ghost use Rattle.invocation_world.specs.States.{IsRoomier};
+ghost use Rattle.request_effects.specs.Planned.{AreEdgesPlanned, IsPlanned, IsSafe};
 
 use crate::effect::Effect;
 use crate::full::FullTable;

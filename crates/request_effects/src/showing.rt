@@ -5,7 +5,7 @@ ghost use Rattle.message_forms.specs.Replies.{IsShowable};
 ghost use Rattle.request_effects.specs.Effects.{Does};
 ghost use Rattle.request_effects.specs.Fitting.{IsTimely, Suits};
 ghost use Rattle.request_effects.specs.Foreseen.{Foresees, IsHere, IsOwn, Leaves};
-ghost use Rattle.request_effects.specs.Planned.{IsRoomier};
+ghost use Rattle.invocation_world.specs.States.{IsRoomier};
 ghost use Rattle.request_effects.specs.Shows.{answer_of, done, ids_at, reply_at, shown_with, token_at};
 
 use crate::ahead::{Ahead, Seen, ends_at_once};

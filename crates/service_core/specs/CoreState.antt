@@ -1,8 +1,8 @@
 -- What the core and its plans show of themselves.
 use Rattle.std.specs.Prelude.{◌≡◌, ℕ, ◌+◌, Option, min}
 use Rattle.call_forms.specs.declared.forms.Answer.{Answer}
+use Rattle.invocation_world.specs.States as worlds
 use Rattle.invocation_world.specs.States.{WorldState}
-use Rattle.request_effects.specs.Planned as effects
 use Rattle.service_core.specs.declared.plan.Work.{Work}
 
 -- A core: its world with its room, and how many changes were made in it, counted as far as the
@@ -17,7 +17,7 @@ more_changes changes = min (changes + 1) 18_446_744_073_709_551_615
 
 -- The world stays, no change was made, and there is room for no less.
 pub record IsRoomier (before after : CoreState) : Type 0 where
-  pub held : effects.IsRoomier before.held after.held
+  pub held : worlds.IsRoomier before.held after.held
   pub changes : after.changes ≡ before.changes
 
 -- A plan: what is to be done, the answer that it gives, and how many changes there were when it was

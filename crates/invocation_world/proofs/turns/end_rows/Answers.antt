@@ -23,7 +23,7 @@ loop-place-preserved c =
     let place = get_or places i 0 in
     let not = not_taken places i c.requires.rising (omega arith) in
     let more = ended_more c.args.moment (take i places) c.args.table.now.rows c.loop-place.table.rows place c.loop-place.invariant.0 not in
-    let rows = subst (λ (rs : List Invocation). AreEnded c.args.moment (take i places ++ place ∷ []) c.args.table.now.rows rs) (sym c.set_final.ensures.rows) more in (
+    let rows = subst (λ (rs : List Invocation). AreEnded c.args.moment (take i places ++ place ∷ []) c.args.table.now.rows rs) (sym c.set_final.ensures.roomier.rows) more in (
       subst (λ (ps : List ℕ). AreEnded c.args.moment ps c.args.table.now.rows c.set_final.new.self.rows) (sym (take_more places i 0 (omega arith))) rows,
-      omega arith,
+      omega (arith, c.set_final.ensures.roomier.spare, c.loop-place.invariant.1),
     )

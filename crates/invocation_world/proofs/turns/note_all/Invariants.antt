@@ -1,10 +1,5 @@
-use Rattle.std.proofs.Common.{◌≡◌, ◌≤◌}
-use Rattle.invocation_world.specs.Parts.{AreLinked}
+use Rattle.invocation_world.specs.Parts.{StayLinked}
 use Rattle.invocation_world.proofs.turns.note_all.Given as goal
 
 abbrev pub invariant-loop-turn : goal.invariant-loop-turn
-invariant-loop-turn l = record {
-  linked : AreLinked l.table l.finaliser;
-  graph : l.finaliser.graph ≡ l.initial.finaliser.graph;
-  spare : l.initial.finaliser.spare ≤ l.finaliser.spare;
-}
+invariant-loop-turn l = StayLinked l.table l.initial.finaliser l.table l.finaliser

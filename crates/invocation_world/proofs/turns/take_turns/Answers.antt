@@ -23,12 +23,14 @@ turns-preserved c =
     let new = c.retire_row.new.table.rows in
     let same : c.row.result.now ≡ next.0 = same_Some c.row.result.now next.0 (sym c.row.ensures ∙ next.1.stands) in
     let settled = subst (λ (g : GraphState). SettlesRows c.row.result.now.deadline g.edges (with_changed (begun c.row.result.now.deadline) rows place) new)
-    c.turns.invariant.graph c.retire_row.ensures.rows in
+    c.turns.invariant.parts.graph c.retire_row.ensures.rows in
     let at = subst (λ (r : Invocation). SettlesRows r.deadline c.args.finaliser.now.graph.edges (with_changed (begun r.deadline) rows place) new) same settled in
     record {
-      linked = c.retire_row.ensures.linked;
-      graph = c.retire_row.ensures.graph ∙ c.turns.invariant.graph;
+      parts = record {
+        linked = c.retire_row.ensures.parts.linked;
+        graph = c.retire_row.ensures.parts.graph ∙ c.turns.invariant.parts.graph;
+        rows = omega (arith, c.retire_row.ensures.parts.rows, c.turns.invariant.parts.rows);
+        nodes = omega (arith, c.retire_row.ensures.parts.nodes, c.turns.invariant.parts.nodes);
+      };
       runs = λ after h. c.turns.invariant.runs after (place ∷ h.0, (next.0, next.1, (new, at, h.1)));
-      rows = omega arith;
-      nodes = omega arith;
     }

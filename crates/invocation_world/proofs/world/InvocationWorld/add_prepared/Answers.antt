@@ -24,13 +24,13 @@ invariant_of-self c =
     c.requires.active c.requires.moment later quiet in
     record {
       valid = subst (λ (rs : List Invocation). IsValid (record { invocations = rs; inclusions = c.add_active.new.self.graph.edges; last = row.created }))
-          (sym c.add_prepared.ensures.rows)
-          (subst (λ (es : List Edge). IsValid (record { invocations = table.rows ++ row ∷ []; inclusions = es; last = row.created })) (sym c.add_active.ensures.edges) valid);
+          (sym c.add_prepared.ensures.roomier.rows)
+          (subst (λ (es : List Edge). IsValid (record { invocations = table.rows ++ row ∷ []; inclusions = es; last = row.created })) (sym c.add_active.ensures.roomier.graph.edges) valid);
       linked = record {
-        states = c.add_active.ensures.states ∙ ap (λ (ss : List State). ss ++ _ ∷ []) c.self.invariant.linked.states
+        states = c.add_active.ensures.roomier.states ∙ ap (λ (ss : List State). ss ++ _ ∷ []) c.self.invariant.linked.states
             ∙ ap (λ (s : State). states_of table.rows ++ s ∷ []) (sym c.requires.active)
             ∙ sym (map_push (λ (r : Invocation). r.state) table.rows row)
-            ∙ ap states_of (sym c.add_prepared.ensures.rows);
-        finals = c.add_active.ensures.finals ∙ c.self.invariant.linked.finals;
+            ∙ ap states_of (sym c.add_prepared.ensures.roomier.rows);
+        finals = c.add_active.ensures.roomier.finals ∙ c.self.invariant.linked.finals;
       };
     }

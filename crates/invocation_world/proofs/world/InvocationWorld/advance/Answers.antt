@@ -14,8 +14,8 @@ invariant_of-self c =
       call = c.requires.moment;
       later = later;
       runs = c.carry_out.ensures.rows;
-      linked = c.carry_out.ensures.linked;
-      graph = c.carry_out.ensures.graph;
+      linked = c.carry_out.ensures.parts.linked;
+      graph = c.carry_out.ensures.parts.graph;
     })
 
 pub returns-then-is_some-clause-quiet : goal.returns-then-is_some-clause-quiet
@@ -27,8 +27,8 @@ returns-then-is_some-clause-quiet c =
       call = c.requires.moment;
       later = later;
       runs = c.carry_out.ensures.rows;
-      linked = c.carry_out.ensures.linked;
-      graph = c.carry_out.ensures.graph;
+      linked = c.carry_out.ensures.parts.linked;
+      graph = c.carry_out.ensures.parts.graph;
     })
 
 pub returns-then-is_some-clause-world : goal.returns-then-is_some-clause-world
@@ -42,8 +42,8 @@ returns-then-is_some-clause-world c =
       call = c.requires.moment;
       later = later;
       runs = c.carry_out.ensures.rows;
-      linked = c.carry_out.ensures.linked;
-      graph = c.carry_out.ensures.graph;
+      linked = c.carry_out.ensures.parts.linked;
+      graph = c.carry_out.ensures.parts.graph;
     })
     c.next_due.result some c.next_due.ensures in
     subst (λ (s : WorldState). Advances s.world c.args.moment (world_of c.carry_out.new.table c.carry_out.new.finaliser c.args.moment))
@@ -58,6 +58,6 @@ returns-then-is_some-clause-valid c =
       call = c.requires.moment;
       later = later;
       runs = c.carry_out.ensures.rows;
-      linked = c.carry_out.ensures.linked;
-      graph = c.carry_out.ensures.graph;
+      linked = c.carry_out.ensures.parts.linked;
+      graph = c.carry_out.ensures.parts.graph;
     })).valid

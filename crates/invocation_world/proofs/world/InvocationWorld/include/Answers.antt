@@ -22,9 +22,9 @@ invariant_of-self c =
     c.self.invariant.valid fits.active new fits.there fits.elsewhere fits.few c.requires.moment later quiet in
     record {
       valid = subst (λ (es : List Edge). IsValid (record { invocations = rows; inclusions = es; last = moment }))
-          (sym c.add_edges.ensures.edges) valid;
+          (sym c.add_edges.ensures.roomier.graph.edges) valid;
       linked = record {
-        states = c.add_edges.ensures.states ∙ c.self.invariant.linked.states;
-        finals = c.add_edges.ensures.finals ∙ c.self.invariant.linked.finals;
+        states = c.add_edges.ensures.roomier.states ∙ c.self.invariant.linked.states;
+        finals = c.add_edges.ensures.roomier.finals ∙ c.self.invariant.linked.finals;
       };
     }

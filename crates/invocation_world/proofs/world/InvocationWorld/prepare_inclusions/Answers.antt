@@ -16,13 +16,12 @@ returns-clause-fits c =
     let new = c.prepare_edges.new.self in
     let state : WorldState = record {
       world = world_of table new c.self.inside.last;
-      spare_rows = min table.spare new.spare;
-      spare_inclusions = new.graph.spare_edges;
+      room = record { rows = min table.spare new.spare; inclusions = new.graph.spare_edges };
     } in
     let view = sym c.self.view_is in
     let active = subst (λ (s : WorldState). IsInState Active s.world.invocations c.args.place) view c.requires.active in
     let there = subst (λ (s : WorldState). All (λ t. t < length s.world.invocations) c.args.targets.now) view c.requires.there in
     let targets = subst (λ (es : List Edge). IfOk c.prepare_edges.result (λ (plan : PlanState). plan.targets ≡ fresh (targets_of es c.args.place) c.args.targets.now))
-    (sym c.prepare_edges.ensures.edges) c.prepare_edges.ensures.targets in
+    (sym c.prepare_edges.ensures.roomier.graph.edges) c.prepare_edges.ensures.targets in
     fits_result state new.graph c.args.place c.args.targets.now c.prepare_edges.result active there refl refl c.prepare_edges.ensures.fits
     c.prepare_edges.ensures.from targets c.prepare_edges.ensures.elsewhere

@@ -21,6 +21,6 @@ invariant_of-self c =
     c.self.invariant.valid c.requires.moment later quiet active c.retire_row.ensures.rows in
     record {
       valid = subst (λ (g : GraphState). IsValid (record { invocations = c.retire_row.new.table.rows; inclusions = g.edges; last = moment }))
-          (sym c.retire_row.ensures.graph) valid;
-      linked = c.retire_row.ensures.linked;
+          (sym c.retire_row.ensures.parts.graph) valid;
+      linked = c.retire_row.ensures.parts.linked;
     }
