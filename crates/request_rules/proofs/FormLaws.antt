@@ -2,7 +2,7 @@
 use Rattle.std.proofs.Common.{◌≡◌, ◌≢◌, ℕ, List, Option, Some, None, sym, ap, ◌∙◌}
 use Rattle.call_forms.specs.declared.asked.Asked.{Asked}
 use Rattle.call_forms.specs.declared.forms.Refusal.{Refusal}
-use Rattle.message_forms.specs.declared.methods.Method.{Method}
+use Rattle.message_forms.specs.declared.requests.Method.{Method}
 use Rattle.message_forms.specs.declared.reading.FormFault.{FormFault}
 use Rattle.message_forms.specs.declared.reading.FormFault.TheVariants.{NoMethod, NotJson, Memory}
 use Rattle.json_fields.specs.declared.faults.FaultKind.{FaultKind}
