@@ -1,8 +1,8 @@
 -- Requests that an invocation include others.
-use Rattle.std.proofs.Common.{◌≡◌, ℕ, false, List, Some, None, refl, ◌∙◌, All}
+use Rattle.std.proofs.Common.{◌≡◌, ℕ, false, List, Some, None, refl, ◌∙◌}
 use Rattle.serde_json.specs.Data.{Data, object, Members, no_members, put}
 use Rattle.names_realms.specs.Names.{invocation_name, IsInvocationId}
-use Rattle.json_fields.specs.Fields.{member, required, optional, filled_at, set_at}
+use Rattle.json_fields.specs.Fields.{member, required, filled_at, set_at}
 use Rattle.json_fields.specs.Kinds.{an_object, a_list, an_unbuilt_list, empty_text}
 use Rattle.json_fields.specs.Writing.{IsWritten, AllWritten, put_list}
 use Rattle.json_fields.proofs.FormLaws.{optional_list_form, required_form}

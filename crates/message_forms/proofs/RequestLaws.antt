@@ -2,7 +2,7 @@
 use Rattle.std.proofs.Common.{◌≡◌, ℕ, ℤ, List, Option, Some, None, refl, sym, ap, subst, ◌∙◌}
 use Rattle.serde_json.specs.Data.{Data}
 use Rattle.json_fields.specs.Fields.{IsJson}
-use Rattle.message_forms.specs.Methods.{row_of, by_request, method_asked, said_in, request_fault, AsksFor, CanBeAsked, Means}
+use Rattle.message_forms.specs.Methods.{row_of, by_request, method_asked, said_in, request_fault, AsksFor, Means}
 use Rattle.message_forms.specs.Laws.{OneRequestAsked, AskedCanBeWritten, UpdateChangesSomething}
 use Rattle.message_forms.specs.Reading.{Asks}
 use Rattle.message_forms.specs.Updates.{ChangesSomething}
