@@ -29,7 +29,6 @@ LISTED = {
     "lines": {
         "http_wire": 1525,
         "json_fields": 1557,
-        "message_forms": 1519,
         "tap_reader": 1593,
     },
     "functions": {

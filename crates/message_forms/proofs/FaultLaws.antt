@@ -17,7 +17,7 @@ use Rattle.message_forms.specs.Reading.{HasFault, IsFieldFault, no_method, not_j
 use Rattle.message_forms.specs.Refusals.{refusal_of}
 use Rattle.call_forms.specs.declared.forms.Refusal.{Refusal}
 use Rattle.message_forms.specs.Laws.{AsksOrHasFault, FaultIsRefused, IsAskedOrFaulty, IsRefusedByForm, NeverBoth, OneFault}
-use Rattle.message_forms.specs.declared.methods.Method.{Method}
+use Rattle.message_forms.specs.declared.requests.Method.{Method}
 use Rattle.message_forms.specs.declared.reading.FormFault.{FormFault}
 use Rattle.message_forms.specs.declared.reading.FormFault.TheVariants.{NoMethod, NotJson, Memory}
 use Rattle.message_forms.proofs.RequestLaws.{asked_there, one_json}

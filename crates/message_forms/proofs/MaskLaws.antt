@@ -1,11 +1,11 @@
 -- A mask's text is read piece by piece.
-use Rattle.std.proofs.Common.{◌≡◌, ◌+◌, ◌≤◌, ◌==◌, not, cond, ℕ, Bool, true, false, List, [], ◌∷◌, length, codes, Option, Some, None, refl, sym, arith}
+use Rattle.std.proofs.Common.{◌≡◌, ◌+◌, ◌≤◌, ◌==◌, not, cond, ℕ, Bool, true, false, List, [], ◌∷◌, length, codes, Option, Some, None, refl, arith}
 use Rattle.std.specs.List.{position_or_len, onto_first}
 use Rattle.serde_json.specs.Data.{Data, null, boolean, number, string, array, object}
 use Rattle.json_fields.specs.Fields.{filled_at, Holds}
 use Rattle.json_fields.specs.Kinds.{empty_text}
 use Rattle.json_fields.specs.Texts.{IsText}
-use Rattle.message_forms.specs.Masks.{pieces, IsMask, named_by, is_named}
+use Rattle.message_forms.specs.Masks.{pieces, IsMask, named_by, is_named, mask_in}
 use Rattle.message_forms.specs.Names as name
 use Rattle.message_forms.specs.declared.masks.UpdateMask.{UpdateMask}
 
@@ -30,10 +30,8 @@ mask_names (Some (string s)) mask h = (h.deadline_is, h.tags_is)
 mask_names (Some (array ds)) mask h = absurd h
 mask_names (Some (object ms)) mask h = absurd h
 
-pub deadline_named : (d : Data) (mask : UpdateMask) → Holds (IsText IsMask) (filled_at name.update_mask empty_text d) mask → is_named name.deadline d ≡ mask.deadline
+pub mask_is : (d : Data) (mask : UpdateMask) → Holds (IsText IsMask) (filled_at name.update_mask empty_text d) mask → mask ≡ mask_in d
 unfolding is_named
-deadline_named d mask h = sym (mask_names (filled_at name.update_mask empty_text d) mask h).0
-
-pub tags_named : (d : Data) (mask : UpdateMask) → Holds (IsText IsMask) (filled_at name.update_mask empty_text d) mask → is_named name.tags d ≡ mask.tags
-unfolding is_named
-tags_named d mask h = sym (mask_names (filled_at name.update_mask empty_text d) mask h).1
+mask_is d mask h =
+    let same = mask_names (filled_at name.update_mask empty_text d) mask h in
+    λ i. record { deadline = same.0 i; tags = same.1 i }

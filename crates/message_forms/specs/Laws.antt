@@ -3,6 +3,7 @@
 use Rattle.std.specs.Prelude.{◌≡◌, ◌⊎◌, ◌≤◌, ◌≢◌, ℕ, true, List, All, Some, None}
 use Rattle.json_fields.specs.Tags.{IsPairOfGrammar}
 use Rattle.message_forms.specs.Forms.{IsOfForm}
+use Rattle.message_forms.specs.Methods.{CanBeAsked}
 use Rattle.message_forms.specs.Replies.{IsShowable}
 use Rattle.message_forms.specs.Shown.{InvocationShown}
 use Rattle.message_forms.specs.Users.{is_user_name}
@@ -56,6 +57,11 @@ FaultIsRefused =
 abbrev pub AskedIsOfForm : Type 0
 AskedIsOfForm =
     (service method body : List ℕ) (q : Request) → Asks service method body q → IsOfForm q
+
+-- What is asked for is written so that it is read again.
+abbrev pub AskedCanBeWritten : Type 0
+AskedCanBeWritten =
+    (service method body : List ℕ) (q : Request) → Asks service method body q → CanBeAsked q
 
 -- No body asks for an update that changes nothing.
 abbrev pub UpdateChangesSomething : Type 0

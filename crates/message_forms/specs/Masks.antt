@@ -57,14 +57,14 @@ named_by field (Some d) = named_in field d
 unfoldable pub is_named : NameForm → Data → Bool
 is_named n d = named_by n.camel (filled_at name.update_mask empty_text d)
 
--- a fault that counts only where this is so
+-- a fault that counts only where a mask names the field
 abbrev pub only_where : Bool → Option FieldFault → Option FieldFault
 only_where true fault = fault
 only_where false fault = None
 
--- a field that is looked at only where the request's mask names it
-unfoldable pub where_named : NameForm → (Data → Option FieldFault) → Data → Option FieldFault
-where_named n fault d = only_where (is_named n d) (fault d)
+-- the fields that the request's mask names
+abbrev pub mask_in : Data → UpdateMask
+mask_in d = record { deadline = is_named name.deadline d; tags = is_named name.tags d }
 
 -- its value, which is there exactly where the mask names it
 abbrev pub HoldsWhere : {A : Type 0} → Bool → (A → Type 0) → Option A → Type 0

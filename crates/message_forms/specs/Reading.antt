@@ -9,7 +9,7 @@ use Rattle.json_fields.specs.declared.faults.ReadFault.{ReadFault}
 use Rattle.json_fields.specs.declared.faults.ReadFault.TheVariants as read
 use Rattle.json_fields.specs.declared.names.Step.{Step}
 use Rattle.message_forms.specs.Methods.{method_of, request_fault, Means}
-use Rattle.message_forms.specs.declared.methods.Method.{Method}
+use Rattle.message_forms.specs.declared.requests.Method.{Method}
 use Rattle.message_forms.specs.declared.reading.FormFault.{FormFault}
 use Rattle.message_forms.specs.declared.reading.FormFault.TheVariants.{NoMethod, NotJson, WrongKind, Missing, BadValue, Memory}
 use Rattle.message_forms.specs.declared.requests.Request.{Request}

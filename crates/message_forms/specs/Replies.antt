@@ -7,13 +7,12 @@ use Rattle.moments_spans.specs.Moments.{moment_text}
 use Rattle.names_realms.specs.Names.{invocation_name}
 use Rattle.names_realms.specs.declared.states.State.{State}
 use Rattle.names_realms.specs.declared.states.State.TheVariants.{Active, Finalizing, Finalized}
-use Rattle.json_fields.specs.Tags.{tag_data}
 use Rattle.json_fields.specs.Writing.{put_required, put_optional, put_list}
 use Rattle.message_forms.specs.Names as name
-use Rattle.message_forms.specs.Writing.{name_data}
+use Rattle.message_forms.specs.Named.{name_data}
 use Rattle.message_forms.specs.declared.replies.Reply.{Reply}
 use Rattle.message_forms.specs.declared.replies.Reply.TheVariants.{Empty, Invocation}
-use Rattle.message_forms.specs.Shown.{InvocationShown, IsShowableInvocation}
+use Rattle.message_forms.specs.Shown.{InvocationShown, IsShowableInvocation, as_text, pair_data}
 
 abbrev pub state_text : State → List ℕ
 state_text Active = codes "ACTIVE"
@@ -28,7 +27,7 @@ moment_data moment = string (moment_text moment)
 
 -- a user, as who made an invocation
 abbrev pub user_text : List ℕ → List ℕ
-user_text name = codes "user:" ++ name
+user_text name = codes "user:" ++ as_text name
 
 -- what an invocation is
 abbrev pub what_members : InvocationShown → Members
@@ -37,7 +36,7 @@ what_members s =
     (put_required name.name text_data (invocation_name s.id)
     (put_required name.realm text_data s.realm
     (put_required name.state text_data (state_text s.state)
-    (put_list name.tags tag_data s.tags no_members))))
+    (put_list name.tags pair_data s.tags no_members))))
 
 -- and when it ends
 abbrev pub ends_members : InvocationShown → Members
@@ -58,7 +57,7 @@ abbrev pub reply_data : Reply → Data
 reply_data Empty = object no_members
 reply_data (Invocation s) = object (invocation_members s)
 
--- its texts are UTF-8
+-- It is shown as it stands: its texts are UTF-8.
 abbrev pub IsShowable : Reply → Type 0
 IsShowable Empty = ⊤
 IsShowable (Invocation s) = IsShowableInvocation s

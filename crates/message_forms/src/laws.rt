@@ -1,6 +1,6 @@
 //! Laws of the definitions that the contracts cite. These functions do nothing: what each of them
 //! ensures is the law.
-ghost use Rattle.message_forms.specs.Laws.{OneRequestAsked, OneFault, NeverBoth, AsksOrHasFault, FaultIsRefused, AskedIsOfForm, UpdateChangesSomething, RowIsShowable};
+ghost use Rattle.message_forms.specs.Laws.{OneRequestAsked, OneFault, NeverBoth, AsksOrHasFault, FaultIsRefused, AskedIsOfForm, AskedCanBeWritten, UpdateChangesSomething, RowIsShowable};
 
 /// One body asks for one request.
 pub fn one_request_asked()
@@ -31,6 +31,11 @@ pub fn fault_is_refused()
 /// in the years 1 to 9999.
 pub fn asked_is_of_form()
     ensures { AskedIsOfForm }
+{}
+
+/// Each request that a body asks for is one of those that are written so that they are read again.
+pub fn asked_can_be_written()
+    ensures { AskedCanBeWritten }
 {}
 
 /// No body asks for an update that changes nothing.

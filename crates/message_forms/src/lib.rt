@@ -1,10 +1,14 @@
 //! Requests as they are read from JSON, and replies as they are written: the messages of the
-//! service, by one table of methods.
+//! service, by one table of methods. Each method has a file of its own.
 #![tactic(auto)]
 
+mod create;
+mod finalize;
+mod get;
+mod included;
 pub mod laws;
 mod masks;
-mod methods;
+mod named;
 mod names;
 mod reading;
 mod refusals;
@@ -14,17 +18,15 @@ mod shown;
 #[cfg(test)]
 mod tests;
 mod updates;
-mod writing;
 
 pub use call_forms::{Answer, Asked, Refusal, Standin, Told, write_refusal};
+pub use create::{CreateInvocation, NewInvocation};
+pub use finalize::FinalizeInvocation;
+pub use get::GetInvocation;
+pub use included::UpdateIncludedInvocations;
 pub use json_fields::{FaultKind, FieldFault, Step, Tag, Why, pairs_from};
-pub use methods::Method;
 pub use reading::{FormFault, read_request};
 pub use refusals::refusal_of;
 pub use replies::{Reply, ShownInvocation, state_name, write_reply};
-pub use requests::{
-    CreateInvocation, FinalizeInvocation, GetInvocation, NewInvocation, Request,
-    UpdateIncludedInvocations,
-};
+pub use requests::{Method, Request, write_request};
 pub use updates::UpdateInvocation;
-pub use writing::write_request;

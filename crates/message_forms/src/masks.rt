@@ -1,15 +1,10 @@
-//! Update masks, and fields that are looked at only where a mask names them.
-ghost use Rattle.std.specs.Prelude.{◌≡◌, ◌||◌, ◌∷◌, ◌<◌, List, ℕ, [], true, false, length, codes, option_map, None, IfOk, IfErr, IfSome, MatchOption};
+//! Update masks: which fields a request changes.
+ghost use Rattle.std.specs.Prelude.{◌≡◌, ◌||◌, ◌∷◌, ◌<◌, [], true, false, length, codes, IfSome, MatchOption};
 ghost use Rattle.std.specs.List.{list_all};
 ghost use Rattle.std.specs.Str.{bytes_eq};
-ghost use Rattle.serde_json.specs.View.{view};
-ghost use Rattle.json_fields.specs.Faults.{Says};
-ghost use Rattle.json_fields.specs.Fields.{required, filled_at, Holds};
-ghost use Rattle.message_forms.specs.Masks.{pieces, can_be_updated, only_where, HoldsWhere, IsMask};
-ghost use Rattle.message_forms.specs.Names.{invocation};
+ghost use Rattle.message_forms.specs.Masks.{pieces, can_be_updated, IsMask};
 
-use crate::names::invocation;
-use json_fields::{FaultKind, Form, ReadFault, Why, is_empty_text, required};
+use json_fields::{FaultKind, Form, ReadFault, Why, is_empty_text};
 use name_parts::len_before;
 use serde_json::Value;
 use std::alloc::Global;
@@ -103,26 +98,5 @@ impl Form for UpdateMask {
             },
             _ => Err(ReadFault::here(alloc, FaultKind::WrongKind)),
         }
-    }
-}
-
-/// What a request says of its invocation, where the mask names it.
-pub(crate) fn where_named<T: Form>(
-    alloc: Global,
-    value: &Value,
-    named: bool,
-) -> Result<Option<T>, ReadFault>
-    ensures ok { IfOk result (λ o. (only_where named
-        (required invocation T.empty T.fault (view value.now)) ≡ None)
-        × HoldsWhere named (Holds T.means (filled_at invocation T.empty (view value.now))) o) }
-    ensures err { IfErr result (λ e. Says e (only_where named
-        (required invocation T.empty T.fault (view value.now)))) }
-{
-    if !named {
-        return Ok(None);
-    }
-    match required(alloc, value, invocation()) {
-        Ok(said) => Ok(Some(said)),
-        Err(fault) => Err(fault),
     }
 }

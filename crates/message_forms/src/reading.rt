@@ -7,8 +7,7 @@ ghost use Rattle.message_forms.specs.Methods.{request_fault, Means};
 ghost use Rattle.message_forms.specs.Reading.{Asks, HasFault, IsFieldFault};
 ghost use Rattle.message_forms.specs.declared.reading.FormFault.{FormFault};
 
-use crate::methods::Method;
-use crate::requests::Request;
+use crate::requests::{Method, Request};
 use json_fields::{BodyFault, FaultKind, FieldFault, ReadFault, Step, Why, read_json};
 use lists::Listed;
 use serde_json::Value;

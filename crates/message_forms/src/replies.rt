@@ -1,11 +1,9 @@
 //! Replies and their texts.
 ghost use Rattle.std.specs.Prelude.{◌≡◌, ◌++◌, IfOk, OnOk, string_bytes};
-ghost use Rattle.std.specs.Str.{IsUtf8};
 ghost use Rattle.serde_json.specs.Data.{object};
 ghost use Rattle.serde_json.specs.View.{view, members_view};
 ghost use Rattle.json_fields.specs.Writing.{put_required};
-ghost use Rattle.message_forms.specs.Replies.{state_text, text_data, what_members, ends_members, invocation_members, reply_data, reply_text, user_text, IsShowable};
-ghost use Rattle.message_forms.specs.Shown.{IsShowableInvocation};
+ghost use Rattle.message_forms.specs.Replies.{state_text, text_data, what_members, ends_members, invocation_members, reply_data, reply_text, user_text};
 
 use crate::names::{
     create_time, created_by, deadline, finalize_start_time, finalize_time, included_invocations,
@@ -94,7 +92,6 @@ fn put_text(
 
 /// The members that say what an invocation is.
 fn what_members(alloc: Global, shown: &ShownInvocation) -> Result<Map<String, Value>, AllocError>
-    requires { IsShowableInvocation shown.now }
     ensures { IfOk result (λ map. members_view map.entries ≡ what_members shown.now) }
 {
     let mut map = Map::new(alloc);
@@ -110,7 +107,6 @@ fn what_members(alloc: Global, shown: &ShownInvocation) -> Result<Map<String, Va
 
 /// The members that say what an invocation is, and when it ends.
 fn ends_members(alloc: Global, shown: &ShownInvocation) -> Result<Map<String, Value>, AllocError>
-    requires { IsShowableInvocation shown.now }
     ensures { IfOk result (λ map. members_view map.entries ≡ ends_members shown.now) }
 {
     let mut map = what_members(alloc, shown)?;
@@ -122,7 +118,6 @@ fn ends_members(alloc: Global, shown: &ShownInvocation) -> Result<Map<String, Va
 
 /// A user, as who made an invocation.
 fn user_text(alloc: Global, user: &[u8]) -> Result<String, AllocError>
-    requires { IsUtf8 user.now }
     ensures { IfOk result (λ text. string_bytes text ≡ user_text user.now) }
 {
     let user = text_of(user);
@@ -131,7 +126,6 @@ fn user_text(alloc: Global, user: &[u8]) -> Result<String, AllocError>
 
 /// The JSON object of an invocation.
 fn invocation_value(alloc: Global, shown: &ShownInvocation) -> Result<Value, AllocError>
-    requires { IsShowableInvocation shown.now }
     ensures { IfOk result (λ v. view v ≡ object (invocation_members shown.now)) }
 {
     let mut map = ends_members(alloc, shown)?;
@@ -143,7 +137,6 @@ fn invocation_value(alloc: Global, shown: &ShownInvocation) -> Result<Value, All
 
 /// The JSON object of a reply.
 fn reply_value(alloc: Global, reply: &Reply) -> Result<Value, AllocError>
-    requires { IsShowable reply.now }
     ensures { IfOk result (λ v. view v ≡ reply_data reply.now) }
 {
     match reply {
@@ -152,9 +145,9 @@ fn reply_value(alloc: Global, reply: &Reply) -> Result<Value, AllocError>
     }
 }
 
-/// The text of a reply: the prefix and compact JSON. `Err` where there is no memory for it.
+/// The text of a reply: the prefix and compact JSON. A creator and texts of tags that aren't UTF-8,
+/// as no row has them, are shown as empty. `Err` where there is no memory for it.
 pub fn write_reply(alloc: Global, reply: &Reply) -> Result<Bytes, AllocError>
-    requires { IsShowable reply.now }
     ensures { IfOk result (λ text. text ≡ reply_text reply.now) }
 {
     let value = reply_value(alloc, reply)?;

@@ -1,26 +1,38 @@
-//! What a request asks for. Each method has a struct of its own, whose fields are read by name.
-ghost use Rattle.std.specs.Prelude.{◌≡◌, None, IfOk, IfErr};
+//! The table of methods: each has a pRPC service, a name, and requests of its own form, which are
+//! read and written by it.
+ghost use Rattle.std.specs.Prelude.{◌≡◌, None, IfOk, IfErr, OnOk};
+ghost use Rattle.std.specs.List.{find};
 ghost use Rattle.serde_json.specs.View.{view};
+ghost use Rattle.serde_json.specs.Written.{compact_text};
 ghost use Rattle.json_fields.specs.Faults.{Says};
-ghost use Rattle.json_fields.specs.Fields.{optional, set_at};
-ghost use Rattle.json_fields.specs.Kinds.{a_list, HoldsList};
-ghost use Rattle.message_forms.specs.Names.{add_invocations};
-ghost use Rattle.message_forms.specs.Requests.{an_invocation_name, IsNameOf, method_asked};
+ghost use Rattle.message_forms.specs.Reading.{Asks};
+ghost use Rattle.message_forms.specs.Methods.{is_called, method_of, service_of, name_of, request_fault, method_asked, request_data, Means, CanBeAsked, IsReadAgain};
 
-use crate::methods::Method;
-use crate::names::{
-    add_invocations, deadline, including_invocation, invocation, invocation_id, realm,
-    remove_invocations, request_id, tags,
-};
+use crate::create::CreateInvocation;
+use crate::finalize::FinalizeInvocation;
+use crate::get::GetInvocation;
+use crate::included::UpdateIncludedInvocations;
+use crate::named::named_value;
 use crate::updates::UpdateInvocation;
-use json_fields::{
-    Form, InvocationName, ReadFault, Tag, UnbuiltList, UnbuiltText, ids_from, object, optional,
-    optional_list, required,
-};
-use lists::Listed;
-use names_realms::{InvocationId, Moment, Realm};
+use json_fields::{Form, ReadFault};
+use lists::Bytes;
 use serde_json::Value;
-use std::alloc::Global;
+use std::alloc::{AllocError, Global};
+
+/// A method.
+#[derive(Clone, Copy, Debug, PartialEq, Eq)]
+pub enum Method {
+    /// `luci.resultdb.v1.Recorder.CreateInvocation`.
+    CreateInvocation,
+    /// `luci.resultdb.v1.Recorder.UpdateInvocation`.
+    UpdateInvocation,
+    /// `luci.resultdb.v1.Recorder.FinalizeInvocation`.
+    FinalizeInvocation,
+    /// `luci.resultdb.v1.Recorder.UpdateIncludedInvocations`.
+    UpdateIncludedInvocations,
+    /// `luci.resultdb.v1.ResultDB.GetInvocation`.
+    GetInvocation,
+}
 
 /// What a request asks for.
 #[derive(Debug, Drop)]
@@ -37,6 +49,96 @@ pub enum Request {
     GetInvocation(GetInvocation),
 }
 
+/// Every method.
+const EVERY: [Method; 5] = [
+    Method::CreateInvocation,
+    Method::UpdateInvocation,
+    Method::FinalizeInvocation,
+    Method::UpdateIncludedInvocations,
+    Method::GetInvocation,
+];
+
+/// The services, as pRPC names them.
+const RECORDER: &str = "luci.resultdb.v1.Recorder";
+
+const READER: &str = "luci.resultdb.v1.ResultDB";
+
+/// The first of these methods that has this name at this service.
+fn find_method(methods: &[Method], service: &[u8], name: &[u8]) -> Option<Method>
+    ensures { result ≡ find (is_called service.now name.now) methods.now }
+{
+    for method in methods {
+        if method.service().as_bytes() == service && method.name().as_bytes() == name {
+            return Some(*method);
+        }
+    }
+    None
+}
+
+impl Method {
+    /// The method of this name of this service, where there is one.
+    pub fn of(service: &[u8], name: &[u8]) -> Option<Method>
+        ensures { result ≡ method_of service.now name.now }
+    {
+        find_method(EVERY.as_slice(), service, name)
+    }
+
+    /// The service that has the method, and the method's name there.
+    fn names(self) -> (&'static str, &'static str)
+        ensures service { result.0.now ≡ service_of self }
+        ensures name { result.1.now ≡ name_of self }
+    {
+        match self {
+            Method::CreateInvocation => (RECORDER, "CreateInvocation"),
+            Method::UpdateInvocation => (RECORDER, "UpdateInvocation"),
+            Method::FinalizeInvocation => (RECORDER, "FinalizeInvocation"),
+            Method::UpdateIncludedInvocations => (RECORDER, "UpdateIncludedInvocations"),
+            Method::GetInvocation => (READER, "GetInvocation"),
+        }
+    }
+
+    /// The service that has the method.
+    pub fn service(self) -> &'static str
+        ensures { result.now ≡ service_of self }
+    {
+        self.names().0
+    }
+
+    /// The method's name.
+    pub fn name(self) -> &'static str
+        ensures { result.now ≡ name_of self }
+    {
+        self.names().1
+    }
+
+    /// Reads the request that a value is by the method's fields.
+    pub(crate) fn read(self, alloc: Global, value: &Value) -> Result<Request, ReadFault>
+        ensures ok { IfOk result (λ q. (request_fault self (view value.now) ≡ None)
+            × Means self (view value.now) q) }
+        ensures err { IfErr result (λ e. Says e (request_fault self (view value.now))) }
+    {
+        match self {
+            Method::CreateInvocation => {
+                let request = CreateInvocation::read(alloc, value)?;
+                Ok(Request::CreateInvocation(request))
+            }
+            Method::UpdateInvocation => {
+                let request = UpdateInvocation::read(alloc, value)?;
+                Ok(Request::UpdateInvocation(request))
+            }
+            Method::FinalizeInvocation => {
+                let request = FinalizeInvocation::read(alloc, value)?;
+                Ok(Request::FinalizeInvocation(request))
+            }
+            Method::UpdateIncludedInvocations => {
+                let request = UpdateIncludedInvocations::read(alloc, value)?;
+                Ok(Request::UpdateIncludedInvocations(request))
+            }
+            Method::GetInvocation => Ok(Request::GetInvocation(GetInvocation::read(alloc, value)?)),
+        }
+    }
+}
+
 impl Request {
     /// The method that the request is one of.
     pub fn method(&self) -> Method
@@ -50,139 +152,33 @@ impl Request {
             Request::GetInvocation(_) => Method::GetInvocation,
         }
     }
-}
 
-/// What a request says of the invocation that it makes.
-#[derive(Debug, Drop)]
-pub struct NewInvocation {
-    pub realm: Realm,
-    /// When it ends by itself, where the request says it.
-    pub deadline: Option<Moment>,
-    pub tags: Listed<Tag>,
-}
-
-impl Form for NewInvocation {
-    ghost use Rattle.json_fields.specs.Kinds.{never_empty};
-    ghost use Rattle.message_forms.specs.Requests.{a_new_invocation, IsNewInvocation};
-
-    ghost fault = { a_new_invocation };
-
-    ghost means = { IsNewInvocation };
-
-    ghost empty = { never_empty };
-
-    fn is_empty(_value: &Value) -> bool {
-        false
-    }
-
-    #[tactic(auto, unfolding(crate::proofs::Opened::request_fields))]
-    fn read(alloc: Global, value: &Value) -> Result<NewInvocation, ReadFault> {
-        object(alloc, value)?;
-        let realm = required(alloc, value, realm())?;
-        let deadline = optional(alloc, value, deadline())?;
-        match optional_list(alloc, value, tags()) {
-            Ok(tags) => Ok(NewInvocation {
-                realm,
-                deadline,
-                tags,
-            }),
-            Err(fault) => Err(fault),
+    /// What is written of the request, which is read again by its method.
+    pub(crate) fn write(&self, alloc: Global) -> Result<Value, AllocError>
+        ensures value { IfOk result (λ v. view v ≡ request_data self.now) }
+        ensures again { OnOk result (CanBeAsked self.now
+            → IsReadAgain (request_data self.now) self.now) }
+    {
+        match self {
+            Request::CreateInvocation(request) => request.write(alloc),
+            Request::UpdateInvocation(request) => request.write(alloc),
+            Request::FinalizeInvocation(request) => named_value(alloc, &request.id),
+            Request::UpdateIncludedInvocations(request) => request.write(alloc),
+            Request::GetInvocation(request) => named_value(alloc, &request.id),
         }
     }
 }
 
-/// A request for a new invocation with this id.
-#[derive(Debug, Drop)]
-pub struct CreateInvocation {
-    pub id: InvocationId,
-    pub invocation: NewInvocation,
-}
-
-impl Form for CreateInvocation {
-    ghost use Rattle.json_fields.specs.Kinds.{never_empty};
-    ghost use Rattle.message_forms.specs.Requests.{a_create_request, IsCreate};
-
-    ghost fault = { a_create_request };
-
-    ghost means = { IsCreate };
-
-    ghost empty = { never_empty };
-
-    fn is_empty(_value: &Value) -> bool {
-        false
-    }
-
-    #[tactic(auto, unfolding(crate::proofs::Opened::request_fields))]
-    fn read(alloc: Global, value: &Value) -> Result<CreateInvocation, ReadFault> {
-        object(alloc, value)?;
-        optional::<UnbuiltText>(alloc, value, request_id())?;
-        let id = required(alloc, value, invocation_id())?;
-        match required(alloc, value, invocation()) {
-            Ok(invocation) => Ok(CreateInvocation { id, invocation }),
-            Err(fault) => Err(fault),
-        }
-    }
-}
-
-/// A request to end the invocation with this id.
-#[derive(Debug, Drop)]
-pub struct FinalizeInvocation {
-    pub id: InvocationId,
-}
-
-/// A request to show the invocation with this id.
-#[derive(Debug, Drop)]
-pub struct GetInvocation {
-    pub id: InvocationId,
-}
-
-/// A request that the invocation with this id include others.
-#[derive(Debug, Drop)]
-pub struct UpdateIncludedInvocations {
-    pub including: InvocationId,
-    pub add: Listed<InvocationId>,
-}
-
-/// Reads the ids of the invocations to add.
-fn read_added(alloc: Global, value: &Value) -> Result<Listed<InvocationId>, ReadFault>
-    ensures ok { IfOk result (λ add. (optional add_invocations
-        (a_list an_invocation_name) (view value.now) ≡ None)
-        × HoldsList IsNameOf (set_at add_invocations (view value.now)) add) }
-    ensures err { IfErr result (λ e. Says e (optional add_invocations
-        (a_list an_invocation_name) (view value.now))) }
+/// The text of a request: compact JSON, the members by their lowerCamelCase names in byte order,
+/// unset ones left out. It is read again as the same request by its method, but for an update that
+/// gives nothing, for which no body asks. `Err` for want of memory alone.
+pub fn write_request(alloc: Global, request: &Request) -> Result<Bytes, AllocError>
+    ensures text { IfOk result (λ text. text ≡ compact_text (request_data request.now)) }
+    ensures reads_back { IfOk result (λ text. CanBeAsked request.now
+        → Asks (service_of (method_asked request.now)) (name_of (method_asked request.now))
+        text request.now) }
 {
-    match optional_list::<InvocationName>(alloc, value, add_invocations()) {
-        Ok(names) => match ids_from(alloc, names) {
-            Ok(ids) => Ok(ids),
-            Err(_) => Err(ReadFault::Memory),
-        },
-        Err(fault) => Err(fault),
-    }
-}
-
-impl Form for UpdateIncludedInvocations {
-    ghost use Rattle.json_fields.specs.Kinds.{never_empty};
-    ghost use Rattle.message_forms.specs.Requests.{an_include_request, IsInclude};
-
-    ghost fault = { an_include_request };
-
-    ghost means = { IsInclude };
-
-    ghost empty = { never_empty };
-
-    fn is_empty(_value: &Value) -> bool {
-        false
-    }
-
-    #[tactic(auto, unfolding(crate::proofs::Opened::request_fields))]
-    fn read(alloc: Global, value: &Value) -> Result<UpdateIncludedInvocations, ReadFault> {
-        object(alloc, value)?;
-        let including: InvocationName = required(alloc, value, including_invocation())?;
-        let add = read_added(alloc, value)?;
-        optional::<UnbuiltList>(alloc, value, remove_invocations())?;
-        Ok(UpdateIncludedInvocations {
-            including: including.into_id(),
-            add,
-        })
-    }
+    let value = request.write(alloc)?;
+    let text = value.to_vec(alloc)?;
+    Ok(Bytes::new(text))
 }

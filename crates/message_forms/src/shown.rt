@@ -1,14 +1,11 @@
 //! The lists of replies and requests, as JSON.
-ghost use Rattle.std.specs.Prelude.{◌≡◌, ◌++◌, ◌∷◌, [], All, IfOk, OnOk, false, map};
-ghost use Rattle.std.specs.Str.{IsUtf8};
+ghost use Rattle.std.specs.Prelude.{◌≡◌, ◌++◌, ◌∷◌, [], IfOk, OnOk, false, map};
 ghost use Rattle.serde_json.specs.Data.{array};
 ghost use Rattle.serde_json.specs.View.{view, members_view, items_of};
 ghost use Rattle.json_fields.specs.Kinds.{empty_text};
-ghost use Rattle.json_fields.specs.Tags.{tag_data};
 ghost use Rattle.json_fields.specs.Writing.{IsWritten, AllWritten, put_list};
-ghost use Rattle.message_forms.specs.Requests.{an_invocation_name, IsNameOf};
-ghost use Rattle.message_forms.specs.Shown.{IsUtf8Pair};
-ghost use Rattle.message_forms.specs.Writing.{name_data};
+ghost use Rattle.message_forms.specs.Named.{an_invocation_name, IsNameOf, name_data};
+ghost use Rattle.message_forms.specs.Shown.{as_text, pair_data};
 
 use json_fields::{Name, put, tag_value};
 use lists::Listed;
@@ -17,14 +14,13 @@ use serde_json::{Map, Value};
 use std::alloc::{AllocError, Global};
 use std::str::from_utf8;
 
-/// The text of bytes that are UTF-8.
+/// The text of bytes, as a reply shows it: none where they aren't UTF-8.
 pub(crate) fn text_of(bytes: &[u8]) -> &str
-    requires { IsUtf8 bytes.now }
-    ensures { result.now ≡ bytes.now }
+    ensures { result.now ≡ as_text bytes.now }
 {
     match from_utf8(bytes) {
         Ok(text) => text,
-        Err(_) => unreachable!(),
+        Err(_) => "",
     }
 }
 
@@ -115,9 +111,8 @@ pub(crate) fn put_included(
 
 /// Appends the value of a pair.
 fn add_pair(alloc: Global, list: &mut Vec<Value>, pair: &Pair) -> Result<(), AllocError>
-    requires { IsUtf8Pair pair.now }
     ensures { OnOk result (map view list.new.items
-        ≡ map view list.old.items ++ tag_data pair.now ∷ []) }
+        ≡ map view list.old.items ++ pair_data pair.now ∷ []) }
 {
     let key = text_of(pair.key.as_slice());
     let text = text_of(pair.value.as_slice());
@@ -128,8 +123,7 @@ fn add_pair(alloc: Global, list: &mut Vec<Value>, pair: &Pair) -> Result<(), All
 
 /// The list of pairs.
 fn pairs_value(alloc: Global, pairs: &[Pair]) -> Result<Value, AllocError>
-    requires { All IsUtf8Pair pairs.now }
-    ensures { IfOk result (λ v. view v ≡ array (items_of (map tag_data pairs.now))) }
+    ensures { IfOk result (λ v. view v ≡ array (items_of (map pair_data pairs.now))) }
 {
     let mut list = Vec::with_capacity(alloc, pairs.len())?;
     for pair in pairs {
@@ -145,9 +139,8 @@ pub(crate) fn put_pairs(
     name: Name,
     pairs: &[Pair],
 ) -> Result<(), AllocError>
-    requires { All IsUtf8Pair pairs.now }
     ensures { OnOk result (members_view members.new.entries
-        ≡ put_list name tag_data pairs.now (members_view members.old.entries)) }
+        ≡ put_list name pair_data pairs.now (members_view members.old.entries)) }
 {
     if pairs.is_empty() {
         return Ok(());

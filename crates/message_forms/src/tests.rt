@@ -1,8 +1,5 @@
 //! Requests and replies, byte for byte, and one refusal of each kind. The tables of refusals are
 //! for `core_trial`.
-ghost use Rattle.std.specs.Prelude.{◌≡◌, true, All};
-ghost use Rattle.std.specs.Str.{IsUtf8};
-ghost use Rattle.message_forms.specs.Shown.{IsUtf8Pair};
 
 use crate::{
     FormFault, Reply, Request, ShownInvocation, UpdateInvocation, laws, read_request, refusal_of,
@@ -12,7 +9,6 @@ use lists::Bytes;
 use names_realms::{InvocationId, Moment, Pair, Realm, State};
 use std::alloc::{AllocError, Global};
 use std::process::Abort;
-use std::str::from_utf8;
 use std::test::Fail;
 
 /// Methods, bodies, and the texts of their refusals.
@@ -211,33 +207,10 @@ fn reads_refuses_and_writes_requests(rt: HostRuntime) -> Result<(), Fail> {
         deadline: None,
         tags: None,
     });
-    assert!(rt; write_request(rt.alloc(), &nothing).is_err());
+    let text = write_request(rt.alloc(), &nothing)?;
+    let want = r#"{"invocation":{"name":"invocations/u-a"},"updateMask":""}"#;
+    assert!(rt; text.as_slice() == want.as_bytes());
     Ok(())
-}
-
-fn is_utf8(bytes: &[u8]) -> bool
-    ensures { result ≡ true → IsUtf8 bytes.now }
-{
-    from_utf8(bytes).is_ok()
-}
-
-fn is_utf8_pair(pair: &Pair) -> bool
-    ensures { result ≡ true → IsUtf8Pair pair.now }
-{
-    is_utf8(pair.key.as_slice()) && is_utf8(pair.value.as_slice())
-}
-
-/// Whether the texts of pairs are UTF-8.
-fn are_utf8(pairs: &[Pair]) -> bool
-    ensures { result ≡ true → All IsUtf8Pair pairs.now }
-{
-    for pair in pairs {
-        let good = is_utf8_pair(pair);
-        if !good {
-            return false;
-        }
-    }
-    true
 }
 
 /// What a reply shows of an invocation that lies elsewhere.
@@ -264,9 +237,6 @@ fn shown_text<'t>(
     tags: &'t [Pair],
     included: &'t [&'t InvocationId],
 ) -> Result<Bytes, AllocError> {
-    if !is_utf8(held.creator.as_slice()) || !are_utf8(tags) {
-        return Err(AllocError);
-    }
     let (started, finished, state) = ends;
     let shown = ShownInvocation {
         id: &held.id,
@@ -320,6 +290,7 @@ fn replies_have_their_texts(rt: HostRuntime) -> Result<(), Fail> {
     laws::asks_or_has_fault();
     laws::fault_is_refused();
     laws::asked_is_of_form();
+    laws::asked_can_be_written();
     laws::update_changes_something();
     laws::row_is_showable();
     Ok(())

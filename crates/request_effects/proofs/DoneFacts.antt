@@ -15,8 +15,8 @@ use Rattle.invocations.specs.declared.faults.AddFault.TheVariants as add_fault
 use Rattle.invocations.specs.Faults.{CanAdd, IsAddFault}
 use Rattle.invocations.specs.Rows.{HasId, states_of}
 use Rattle.request_rules.proofs.PlaceLaws.{place_of-has}
-use Rattle.message_forms.specs.declared.requests.CreateInvocation.{CreateInvocation}
-use Rattle.message_forms.specs.declared.requests.FinalizeInvocation.{FinalizeInvocation}
+use Rattle.message_forms.specs.declared.create.CreateInvocation.{CreateInvocation}
+use Rattle.message_forms.specs.declared.finalize.FinalizeInvocation.{FinalizeInvocation}
 use Rattle.message_forms.specs.declared.requests.Request.{Request}
 use Rattle.message_forms.specs.declared.requests.Request.TheVariants as asks
 use Rattle.message_forms.specs.declared.updates.UpdateInvocation.{UpdateInvocation}

@@ -16,7 +16,7 @@ use Rattle.invocations.specs.declared.invocation.Invocation.{Invocation}
 use Rattle.invocations.specs.Rows.{HasId, IsInState, states_of}
 use Rattle.message_forms.specs.declared.requests.Request.{Request}
 use Rattle.message_forms.specs.declared.requests.Request.TheVariants as asks
-use Rattle.message_forms.specs.declared.requests.CreateInvocation.{CreateInvocation}
+use Rattle.message_forms.specs.declared.create.CreateInvocation.{CreateInvocation}
 use Rattle.message_forms.specs.Replies.{state_text}
 use Rattle.invocation_world.specs.World.{World, IsCallMoment, IsPair, IsRow, default_lifetime, latest_deadline, new_row}
 use Rattle.invocation_world.specs.Changes.{is_update}

@@ -17,7 +17,7 @@ use Rattle.inclusion_graph.proofs.ListLemmas.{in_one}
 use Rattle.invocations.specs.declared.invocation.Invocation.{Invocation}
 use Rattle.call_forms.specs.declared.asked.Asked.{Asked}
 use Rattle.call_forms.specs.declared.forms.Refusal.{Refusal}
-use Rattle.message_forms.specs.declared.methods.Method.{Method}
+use Rattle.message_forms.specs.declared.requests.Method.{Method}
 use Rattle.message_forms.specs.declared.requests.Request.{Request}
 use Rattle.message_forms.specs.Methods.{method_of}
 use Rattle.message_forms.specs.Replies.{state_text}

@@ -4,7 +4,7 @@ use Rattle.call_forms.specs.declared.asked.Asked.{Asked}
 use Rattle.call_forms.specs.declared.forms.Answer.{Answer}
 use Rattle.call_forms.specs.declared.forms.Refusal.{Refusal}
 use Rattle.call_forms.specs.Rules.{refusal_answer}
-use Rattle.message_forms.specs.declared.methods.Method.{Method}
+use Rattle.message_forms.specs.declared.requests.Method.{Method}
 use Rattle.message_forms.specs.declared.reading.FormFault.{FormFault}
 use Rattle.message_forms.specs.declared.reading.FormFault.TheVariants.{Memory}
 use Rattle.message_forms.specs.Methods.{method_of}

@@ -1,4 +1,4 @@
-use Rattle.message_forms.proofs.UpdateLaws.{update_changes_something}
+use Rattle.message_forms.proofs.RequestLaws.{update_changes_something}
 use Rattle.message_forms.proofs.laws.update_changes_something.Goals as goal
 
 pub returns : goal.returns

@@ -4,7 +4,7 @@ use Rattle.std.proofs.lemmas.List.{take_all}
 use Rattle.serde_json.specs.Data.{Data, array}
 use Rattle.serde_json.specs.View.{items_of}
 use Rattle.serde_json.proofs.Views.{view-Array}
-use Rattle.message_forms.specs.Writing.{name_data}
+use Rattle.message_forms.specs.Named.{name_data}
 use Rattle.message_forms.proofs.ListLaws.{seen_more}
 use Rattle.message_forms.proofs.shown.included_value.Goals as goal
 

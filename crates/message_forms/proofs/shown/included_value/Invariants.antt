@@ -1,6 +1,6 @@
 use Rattle.std.proofs.Common.{◌≡◌, map, take}
 use Rattle.serde_json.specs.View.{view}
-use Rattle.message_forms.specs.Writing.{name_data}
+use Rattle.message_forms.specs.Named.{name_data}
 use Rattle.message_forms.proofs.shown.included_value.Given as goal
 
 abbrev pub invariant-loop-id : goal.invariant-loop-id

@@ -1,4 +1,4 @@
-use Rattle.message_forms.proofs.WriteLaws.{name_written}
+use Rattle.message_forms.proofs.NamedLaws.{name_written}
 use Rattle.message_forms.proofs.shown.name_value.Goals as goal
 
 pub returns-clause-again : goal.returns-clause-again

@@ -6,8 +6,7 @@ use Rattle.serde_json.proofs.Views.{view-Array}
 use Rattle.json_fields.specs.Kinds.{empty_text}
 use Rattle.json_fields.specs.Writing.{IsWritten}
 use Rattle.json_fields.proofs.WriteLaws.{written_more, values_more}
-use Rattle.message_forms.specs.Requests.{an_invocation_name, IsNameOf}
-use Rattle.message_forms.specs.Writing.{name_data}
+use Rattle.message_forms.specs.Named.{an_invocation_name, IsNameOf, name_data}
 use Rattle.message_forms.proofs.shown.names_value.Goals as goal
 
 pub loop-id-preserved : goal.loop-id-preserved

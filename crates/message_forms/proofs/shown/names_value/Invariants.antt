@@ -2,8 +2,7 @@ use Rattle.std.proofs.Common.{◌≡◌, false, map, take}
 use Rattle.serde_json.specs.View.{view}
 use Rattle.json_fields.specs.Kinds.{empty_text}
 use Rattle.json_fields.specs.Writing.{AllWritten}
-use Rattle.message_forms.specs.Requests.{an_invocation_name, IsNameOf}
-use Rattle.message_forms.specs.Writing.{name_data}
+use Rattle.message_forms.specs.Named.{an_invocation_name, IsNameOf, name_data}
 use Rattle.message_forms.proofs.shown.names_value.Given as goal
 
 abbrev pub invariant-loop-id : goal.invariant-loop-id
