@@ -146,7 +146,7 @@ fn push_entry<E: Entry>(
 }
 
 /// Reads the bindings in a list that stands at a path.
-#[tactic(auto, using(crate::proofs::PathLemmas::front_of_joined))]
+#[tactic(auto, using(policy_tables::proofs::PathLemmas::front_of_joined))]
 fn read_binding_items(notes: &mut Notes, array: &Array) -> Result<Vec<Binding>, AllocError>
     ensures bindings { IfOk result
         (λ bindings. bindings.items ≡ item_bindings (array_view array.now)) }
@@ -165,7 +165,7 @@ fn read_binding_items(notes: &mut Notes, array: &Array) -> Result<Vec<Binding>, 
 }
 
 /// Reads the bindings at a key that may be absent. Notes where something else stands.
-#[tactic(auto, using(crate::proofs::PathLemmas::front_of_joined))]
+#[tactic(auto, using(policy_tables::proofs::PathLemmas::front_of_joined))]
 fn read_bindings(notes: &mut Notes, table: &Table, key: &str) -> Result<Listed<Binding>, AllocError>
     ensures bindings { IfOk result
         (λ bindings. bindings ≡ bindings_of key.now (table_view table.now)) }
@@ -189,7 +189,7 @@ fn read_bindings(notes: &mut Notes, table: &Table, key: &str) -> Result<Listed<B
 }
 
 /// Reads the entry of a key of the table at the path.
-#[tactic(auto, using(crate::proofs::PathLemmas::front_of_joined))]
+#[tactic(auto, using(policy_tables::proofs::PathLemmas::front_of_joined))]
 fn read_keyed<E: Entry>(
     notes: &mut Notes,
     key: &[u8],
@@ -227,7 +227,7 @@ fn read_entries<E: Entry>(notes: &mut Notes, table: &Table) -> Result<Vec<E>, Al
 }
 
 /// Reads the entries at a key of the document, which may be absent.
-#[tactic(auto, using(crate::proofs::PathLemmas::front_of_joined))]
+#[tactic(auto, using(policy_tables::proofs::PathLemmas::front_of_joined))]
 fn read_section<E: Entry>(
     notes: &mut Notes,
     document: &Table,

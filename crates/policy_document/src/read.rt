@@ -111,7 +111,7 @@ fn read_items(notes: &mut Notes, array: &Array) -> Result<Vec<Bytes>, AllocError
 }
 
 /// Reads the list of texts at a key. Notes where there is none.
-#[tactic(auto, using(crate::proofs::PathLemmas::front_of_joined))]
+#[tactic(auto, using(policy_tables::proofs::PathLemmas::front_of_joined))]
 pub(crate) fn read_texts(
     notes: &mut Notes,
     table: &Table,
@@ -151,7 +151,7 @@ pub(crate) fn note_if_there(notes: &mut Notes, table: &Table, key: &str) -> Resu
 }
 
 /// Reads the list of texts at a key that may be absent. Notes where something else stands.
-#[tactic(auto, using(crate::proofs::PathLemmas::front_of_joined))]
+#[tactic(auto, using(policy_tables::proofs::PathLemmas::front_of_joined))]
 pub(crate) fn read_texts_if_there(
     notes: &mut Notes,
     table: &Table,
