@@ -22,11 +22,12 @@ fn result(alloc: Global, test: &str, id: &str) -> Result<TestResult, Fail> {
     })
 }
 
-/// Results whose ids are the numbers from one on, before another.
+/// Results whose ids are the numbers from one on, before another, all as long, in order.
 fn numbered(alloc: Global, from: u32, to: u32) -> Result<Vec<TestResult>, Fail> {
     let mut rows = Vec::new(alloc);
     for number in from..to {
-        let row = result(alloc, "t", format!(in alloc; "r{number}")?.as_str())?;
+        let digits = 100_000 + u64::from(number);
+        let row = result(alloc, "t", format!(in alloc; "r{digits}")?.as_str())?;
         rows.push(row).ok().ok_or("no memory")?;
     }
     Ok(rows)
@@ -104,6 +105,7 @@ fn batches_come_in_whole_or_not_at_all(rt: HostRuntime) -> Result<(), Fail> {
         let id = ResultId::parse(alloc, id.as_bytes())?;
         assert_eq!(rt; table.find(holder, &test, &id), place);
     }
+    assert_eq!(rt; table.count(), 6);
     assert_eq!(rt; table.row(5).holder, 2);
     assert_eq!(rt; table.rows().len(), 6);
     Ok(())

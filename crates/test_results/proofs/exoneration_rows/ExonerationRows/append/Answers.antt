@@ -1,4 +1,4 @@
-use Rattle.std.proofs.Common.{◌≡◌, ◌<◌, ◌≤◌, ◌-◌, List, [], ◌∷◌, ◌++◌, length, min, refl, sym, ap, ◌∙◌, subst, arith}
+use Rattle.std.proofs.Common.{ℕ, ◌≡◌, ◌<◌, ◌≤◌, ◌-◌, List, [], ◌∷◌, ◌++◌, length, min, refl, sym, ap, ◌∙◌, subst, arith}
 use Rattle.std.specs.Prelude.{vec_len, vec_capacity}
 use Rattle.std.specs.List.{insert}
 use Rattle.std.proofs.lemmas.List.{length_push}
@@ -36,8 +36,7 @@ invariant_of-self c =
     let before = subst (λ (t : ExonerationsState). 0 < room_for t holder) (sym c.self.view_is) c.requires.room in
     let least = capped_room spare lists.rooms holder in
     let place : c.len-place.result ≡ length rows = omega (arith, c.len-place.ensures, c.self.inside.rows.ok.0) in
-    let end : c.len-end.result ≡ length (list_of lists holder) = c.len-end.ensures ∙ ap (λ ps. length ps) c.list.ensures in
-    let own = c.insert.ensures.list ∙ ap (λ e. insert (list_of lists holder) e c.len-place.result) end
+    let own = c.insert.ensures.list ∙ ap (λ (ps : List ℕ). insert (list_of lists holder) (length ps) c.len-place.result) c.list-end.ensures
     ∙ ap (λ p. insert (list_of lists holder) (length (list_of lists holder)) p) place in (
       subst (λ (rs : List TestExoneration). IsIndexed rs new.lists) (sym c.push_reserved.ensures.items)
           (indexed_push rows row lists.lists new.lists c.self.invariant.0 few placed own c.insert.ensures.others),

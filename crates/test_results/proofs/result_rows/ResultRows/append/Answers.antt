@@ -32,15 +32,14 @@ insert-requires c =
       room = omega (arith, before, least);
     }
 
-pub insert-2-requires : goal.insert-2-requires
-insert-2-requires c =
+pub insert-requires-2 : goal.insert-requires-2
+insert-requires-2 c =
     let holder = c.args.row.holder in
     let spare = min (vec_capacity c.self.inside.rows) 4_294_967_295 - vec_len c.self.inside.rows in
     let before = subst (λ (t : ResultsState). 0 < room_for t holder) (sym c.self.view_is) c.requires.room in
     let least = least_room spare c.self.inside.by_holder.rooms c.self.inside.by_key.rooms holder in
-    let end : c.len-end.result ≡ length (list_of c.self.inside.by_holder holder) = c.len-end.ensures ∙ ap (λ (ps : List ℕ). length ps) c.list-2.ensures in
     record {
-      within = omega (arith, end);
+      within = let e = ap (λ (ps : List ℕ). length ps) c.list-end.ensures in omega (arith, e);
       room = omega (arith, before, least);
     }
 
@@ -64,8 +63,7 @@ invariant_of-self c =
     let before = subst (λ (t : ResultsState). 0 < room_for t holder) (sym c.self.view_is) c.requires.room in
     let least = least_room spare arrived.rooms named.rooms holder in
     let place : c.len-place.result ≡ length rows = omega (arith, c.len-place.ensures, c.self.inside.rows.ok.0) in
-    let end : c.len-end.result ≡ length (list_of arrived holder) = c.len-end.ensures ∙ ap (λ (ps : List ℕ). length ps) c.list-2.ensures in
-    let own = c.insert-2.ensures.list ∙ ap (λ e. insert (list_of arrived holder) e c.len-place.result) end
+    let own = c.insert-2.ensures.list ∙ ap (λ (ps : List ℕ). insert (list_of arrived holder) (length ps) c.len-place.result) c.list-end.ensures
     ∙ ap (λ p. insert (list_of arrived holder) (length (list_of arrived holder)) p) place in
     let within = subst (λ (ps : List ℕ). c.slot_of-slot.result ≤ length ps) c.list.ensures c.slot_of-slot.ensures.within in
     let parts = subst (λ (rs : List TestResult).

@@ -33,3 +33,18 @@ returns-clause-enough c =
     on_ok c.reserve-3.result (c.args.additional ≤ room_of named holder)
     (c.args.additional ≤ slice_index_or (least_rooms left arrived.rooms named.rooms) holder 0)
     c.reserve-3.ensures.enough (λ ok. omega (arith, ok, room, first, least_room left arrived.rooms named.rooms holder))
+
+pub returns-in_err-reserve-2-clause-rooms : goal.returns-in_err-reserve-2-clause-rooms
+returns-in_err-reserve-2-clause-rooms c other =
+    let spare = min (vec_capacity c.self.inside.rows) 4_294_967_295 - vec_len c.self.inside.rows in
+    let left = min (vec_capacity c.reserve.new.self) 4_294_967_295 - vec_len c.reserve.new.self in
+    let e = ap (λ (t : ResultsState). room_for t other) c.self.view_is in
+    omega (
+      arith,
+      e,
+      least_room spare c.self.inside.by_holder.rooms c.self.inside.by_key.rooms other,
+      least_room left c.reserve-2.new.self.rooms c.self.inside.by_key.rooms other,
+      c.reserve-2.ensures.room other,
+      c.reserve.ensures.len,
+      c.reserve.ensures.capacity,
+    )
