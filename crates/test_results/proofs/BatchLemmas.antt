@@ -1,13 +1,14 @@
 -- The first rows of a batch, of which no two have the same key.
-use Rattle.std.proofs.Common.{◌≡◌, ◌⊎◌, ◌<◌, ◌≤◌, ◌+◌, ℕ, List, length, get_or, Contains, Some, Less, Equal, Greater, refl, sym, ap, ◌∙◌, subst, inl, inr, arith}
-use Rattle.std.specs.List.{slice_get, insert}
+use Rattle.std.proofs.Common.{◌≡◌, ◌⊎◌, ◌<◌, ◌≤◌, ◌+◌, ℕ, List, [], ◌∷◌, length, get_or, Contains, Some, Less, Equal, Greater, refl, sym, ap, ◌∙◌, subst, inl, inr, arith}
+use Rattle.std.specs.List.{All, AllByRecursion, slice_get, insert}
+use Rattle.std.proofs.lemmas.List.Elements.{All-from_recursion}
 use Rattle.std.specs.List.Sorted.{IsPartitionPoint}
 use Rattle.std.proofs.lemmas.Bool.{cases_lt}
 use Rattle.std.proofs.lemmas.List.{get_or-map, length-map}
 use Rattle.std.proofs.lemmas.Option.{same_Some, slice_get-get_or, slice_get_within}
 use Rattle.test_results.specs.declared.result.TestResult.{TestResult}
 use Rattle.test_results.specs.Results.{Key, IsPlaceOf, key_of, keys_of}
-use Rattle.test_results.specs.Batches.{AreOnce, IsRepeat}
+use Rattle.test_results.specs.Batches.{AreOnce, IsRepeat, given}
 use Rattle.test_results.specs.Orders.{IsFrontIndex, key_at, no_key, order_at}
 use Rattle.test_results.proofs.KeyLemmas.{front_added, front_found, front_free}
 
@@ -65,3 +66,11 @@ front_more rows next row places i index within is low parts =
     front_added (keys_of rows) next places i index low
     (subst (λ k. IsPartitionPoint (λ y. order_at (keys_of rows) k y ≡ Less) (λ y. order_at (keys_of rows) k y ≡ Greater) places i)
     (sym (key_at_is rows next row within is)) parts)
+
+given_recursion : (holder : ℕ) (rows : List TestResult) → AllByRecursion (λ (r : TestResult). r.holder ≡ holder) (given holder rows)
+given_recursion holder [] = tt
+given_recursion holder (x ∷ rows) = (refl, given_recursion holder rows)
+
+-- the rows of a request have the holder that they were given
+pub given_held : (holder : ℕ) (rows : List TestResult) → All (λ (r : TestResult). r.holder ≡ holder) (given holder rows)
+given_held holder rows = All-from_recursion (λ (r : TestResult). r.holder ≡ holder) (given holder rows) (given_recursion holder rows)
