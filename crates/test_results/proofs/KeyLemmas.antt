@@ -167,7 +167,7 @@ front_found keys count places key i first index few within equal is =
     let there : first < length keys = omega (arith, below, few) in (
       below,
       slice_get-get_or keys first no_key there
-      ∙ ap Some (same_key (key_at keys first) key (subst (λ p. order_at keys key p ≡ Equal) (sym is) (equal first))),
+          ∙ ap Some (same_key (key_at keys first) key (subst (λ p. order_at keys key p ≡ Equal) (sym is) (equal first))),
     )
 
 -- none of the places so far has the key of the next one

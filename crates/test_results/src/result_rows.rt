@@ -121,12 +121,7 @@ impl ResultRows {
     }
 
     /// Makes room for this many rows more of a holder.
-    fn reserve(
-        &mut self,
-        alloc: Global,
-        holder: u32,
-        additional: usize,
-    ) -> Result<(), AllocError>
+    fn reserve(&mut self, alloc: Global, holder: u32, additional: usize) -> Result<(), AllocError>
         ensures rows { self.new.rows ≡ self.old.rows }
         ensures rooms { (other : ℕ) → room_for self.old other ≤ room_for self.new other }
         ensures enough { OnOk result (additional ≤ room_for self.new holder) }

@@ -66,17 +66,28 @@ fn batches_come_in_whole_or_not_at_all(rt: HostRuntime) -> Result<(), Fail> {
     let batches: [(u32, &[(&str, &str)], Option<BatchFault>, u32); 7] = [
         (2, &[("t", "r"), ("t", "s")], None, 2),
         (0, &[("t", "r"), ("a", "r"), ("m", "r")], None, 5),
-        (2, &[("u", "r"), ("t", "s")], Some(BatchFault::Taken { index: 1 }), 5),
+        (
+            2,
+            &[("u", "r"), ("t", "s")],
+            Some(BatchFault::Taken { index: 1 }),
+            5,
+        ),
         (
             2,
             &[("a", "r"), ("t", "r"), ("a", "r"), ("t", "r")],
-            Some(BatchFault::Repeated { first: 0, second: 2 }),
+            Some(BatchFault::Repeated {
+                first: 0,
+                second: 2,
+            }),
             5,
         ),
         (
             0,
             &[("z", "1"), ("y", "1"), ("y", "1")],
-            Some(BatchFault::Repeated { first: 1, second: 2 }),
+            Some(BatchFault::Repeated {
+                first: 1,
+                second: 2,
+            }),
             5,
         ),
         (2, &[("u", "r")], None, 6),
