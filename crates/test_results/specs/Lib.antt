@@ -1,0 +1,7 @@
+pub mod Batches
+pub mod Exonerations
+pub mod Laws
+pub mod Lists
+pub mod Orders
+pub mod Places
+pub mod Results

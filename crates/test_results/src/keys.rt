@@ -1,0 +1,137 @@
+//! The places of results, kept in the order of their keys.
+ghost use Rattle.std.specs.Prelude.{◌≡◌, ◌≤◌, ◌<◌, ◌+◌, MatchOption, IfSome, length, vec_len, vec_capacity};
+ghost use Rattle.std.specs.List.Sorted.{IsPartitionPoint};
+ghost use Rattle.std.specs.declared.cmp.Ordering.TheVariants.{Less, Greater};
+ghost use Rattle.test_results.specs.Batches.{AreOnce, IsRepeat};
+ghost use Rattle.test_results.specs.Orders.{IsFrontIndex, IsKeyIndex, IsRising, IsSlot, order_at, places_order};
+ghost use Rattle.test_results.specs.Results.{HasKey, IsPlaceOf, key_of, keys_of, named};
+
+use crate::result::TestResult;
+use std::cmp::Ordering;
+
+/// Two rows of a request with the same key.
+#[derive(Clone, Copy)]
+pub(crate) struct Repeat {
+    pub(crate) first: usize,
+    pub(crate) second: usize,
+}
+
+/// The key of the row at a place, compared with a key. Where there is no row it has the holder 0
+/// and empty texts.
+fn compare(rows: &[TestResult], place: u32, holder: u32, test: &str, id: &str) -> Ordering
+    ensures { result ≡ order_at (keys_of rows.now) (named holder test.now id.now) place }
+{
+    match rows.get(place as usize) {
+        Some(row) => row
+            .holder
+            .cmp(&holder)
+            .then(row.test.as_str().cmp(test))
+            .then(row.result.as_str().cmp(id)),
+        None => 0u32.cmp(&holder).then("".cmp(test)).then("".cmp(id)),
+    }
+}
+
+/// Where the place of a key stands, or where it would go.
+fn search(
+    places: &[u32],
+    rows: &[TestResult],
+    holder: u32,
+    test: &str,
+    id: &str,
+) -> Result<usize, usize>
+    requires { IsRising (places_order (keys_of rows.now)) places.now }
+    ensures { IsSlot (order_at (keys_of rows.now) (named holder test.now id.now)) places.now
+        result }
+{
+    places.binary_search_by(|place| compare(rows, *place, holder, test, id))
+}
+
+/// The place of the row with a key, among those of its holder.
+pub(crate) fn place_of(
+    places: &[u32],
+    rows: &[TestResult],
+    holder: u32,
+    test: &str,
+    id: &str,
+) -> Option<u32>
+    requires { IsKeyIndex (keys_of rows.now) holder places.now }
+    ensures { MatchOption result (¬ HasKey rows.now (named holder test.now id.now))
+        (IsPlaceOf rows.now (named holder test.now id.now)) }
+{
+    match search(places, rows, holder, test, id) {
+        Ok(at) => Some(places[at]),
+        Err(_) => None,
+    }
+}
+
+/// Where the place of a row goes, among those of its holder. No row has its key.
+pub(crate) fn slot_of(places: &[u32], rows: &[TestResult], row: &TestResult) -> usize
+    requires index { IsKeyIndex (keys_of rows.now) row.now.holder places.now }
+    requires free { ¬ HasKey rows.now (key_of row.now) }
+    ensures within { result ≤ length places.now }
+    ensures parts { IsPartitionPoint
+        (λ place. order_at (keys_of rows.now) (key_of row.now) place ≡ Less)
+        (λ place. order_at (keys_of rows.now) (key_of row.now) place ≡ Greater)
+        places.now result }
+{
+    match search(
+        places,
+        rows,
+        row.holder,
+        row.test.as_str(),
+        row.result.as_str(),
+    ) {
+        Ok(at) => at,
+        Err(at) => at,
+    }
+}
+
+/// Adds the next place of a batch to those before it, or else gives the earlier one with its key.
+fn add_next(order: &mut Vec<u32>, rows: &[TestResult], next: usize) -> Option<u32>
+    requires index { IsFrontIndex (keys_of rows.now) next order.old.items }
+    requires once { AreOnce rows.now next }
+    requires within { next < length rows.now }
+    requires few { length rows.now ≤ 500 }
+    requires room { vec_len order.old < vec_capacity order.old }
+    ensures index { MatchOption result
+        (IsFrontIndex (keys_of rows.now) (next + 1) order.new.items)
+        (λ first. IsRepeat rows.now first next) }
+    ensures once { MatchOption result (AreOnce rows.now (next + 1)) (λ first. first < next) }
+    ensures capacity { vec_capacity order.old ≤ vec_capacity order.new }
+{
+    let row = &rows[next];
+    match search(
+        order.as_slice(),
+        rows,
+        row.holder,
+        row.test.as_str(),
+        row.result.as_str(),
+    ) {
+        Ok(at) => Some(order[at]),
+        Err(at) => {
+            let _ = order.insert(at, next as u32);
+            None
+        }
+    }
+}
+
+/// The first two rows with the same key: the least second one, and the one before it that has its
+/// key. `order` has room for as many places as there are rows.
+pub(crate) fn first_repeat(order: &mut Vec<u32>, rows: &[TestResult]) -> Option<Repeat>
+    requires few { length rows.now ≤ 500 }
+    requires room { 500 ≤ vec_capacity order.old }
+    ensures repeat { MatchOption result (AreOnce rows.now (length rows.now))
+        (λ repeat. IsRepeat rows.now repeat.first repeat.second) }
+    ensures capacity { vec_capacity order.old ≤ vec_capacity order.new }
+{
+    order.clear();
+    for next in 0..rows.len() {
+        if let Some(first) = add_next(order, rows, next) {
+            return Some(Repeat {
+                first: first as usize,
+                second: next,
+            });
+        }
+    }
+    None
+}
