@@ -8,11 +8,12 @@
 mod script;
 mod telling;
 
+use call_forms::Told;
 use outside::StdIn;
 use permissions::{Policy, PolicyFault};
 use policy_reading::from_toml;
 use request_rules::understand;
-use script::Line;
+use script::{Line, Turn};
 use service_core::Core;
 use standard_files::{DevNull, hold_standard};
 use std::alloc::{AllocError, Global};
@@ -48,27 +49,39 @@ fn policy_of(alloc: Global, config: &str) -> Result<Policy, Stop> {
     }
 }
 
-/// A core that is told lines under a policy.
-struct Told<'p> {
-    alloc: Global,
-    policy: &'p Policy,
-    core: Core,
+/// What a core is told for a line under a policy.
+fn told(alloc: Global, policy: &Policy, core: &mut Core, turn: &Turn) -> Told {
+    let understood = understand(alloc, policy, &turn.asked);
+    core.serve(alloc, policy, turn.now, understood)
 }
 
-impl<'p> Told<'p> {
-    /// Tells a line.
-    fn tell_line(&mut self, line: &str, out: &mut Vec<u8>) -> Result<(), AllocError> {
-        let alloc = self.alloc;
-        match Line::read(alloc, self.policy.secret(), line)? {
-            Line::Comment => put_line("", line, out),
-            Line::Request(turn) => {
-                let understood = understand(alloc, self.policy, &turn.asked);
-                let told = self.core.serve(alloc, self.policy, turn.now, understood);
-                put_told(alloc, &told, out)
-            }
-            Line::Odd => put_line("no request: ", line, out),
-        }
+/// Tells a line.
+fn tell_line(
+    alloc: Global,
+    policy: &Policy,
+    core: &mut Core,
+    line: &str,
+    out: &mut Vec<u8>,
+) -> Result<(), AllocError> {
+    match Line::read(alloc, policy.secret(), line)? {
+        Line::Comment => put_line("", line, out),
+        Line::Request(turn) => put_told(alloc, &told(alloc, policy, core, &turn), out),
+        Line::Odd => put_line("no request: ", line, out),
     }
+}
+
+/// Tells the lines of a block in turn.
+fn tell_lines(
+    alloc: Global,
+    policy: &Policy,
+    core: &mut Core,
+    block: &str,
+    out: &mut Vec<u8>,
+) -> Result<(), AllocError> {
+    for line in block.lines() {
+        tell_line(alloc, policy, core, line, out)?;
+    }
+    Ok(())
 }
 
 /// Tells a block to a core of its own.
@@ -78,16 +91,8 @@ fn tell_block(
     block: &str,
     out: &mut Vec<u8>,
 ) -> Result<(), AllocError> {
-    let core = Core::new(alloc)?;
-    let mut told = Told {
-        alloc,
-        policy,
-        core,
-    };
-    for line in block.lines() {
-        told.tell_line(line, out)?;
-    }
-    Ok(())
+    let mut core = Core::new(alloc)?;
+    tell_lines(alloc, policy, &mut core, block, out)
 }
 
 /// Tells all blocks, with a line `----` between two of them.
