@@ -10,8 +10,6 @@ mod keys;
 pub mod laws;
 mod result;
 mod result_rows;
-#[cfg(test)]
-mod tests;
 
 pub use exoneration::{ExonerationBatch, TestExoneration};
 pub use exoneration_rows::ExonerationRows;
