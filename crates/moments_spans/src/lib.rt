@@ -9,8 +9,6 @@ pub mod laws;
 mod moment_reading;
 mod moments;
 mod spans;
-#[cfg(test)]
-mod tests;
 
 pub use moments::{Moment, is_of_years};
 pub use spans::Span;

@@ -10,8 +10,6 @@ mod faults;
 pub mod laws;
 mod parts;
 mod sequences;
-#[cfg(test)]
-mod tests;
 mod texts;
 
 pub use alphabets::Alphabet;

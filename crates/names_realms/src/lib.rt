@@ -12,8 +12,6 @@ mod parents;
 mod realms;
 mod result_names;
 mod states;
-#[cfg(test)]
-mod tests;
 mod variants;
 
 pub use artifact_names::ArtifactName;
