@@ -28,7 +28,7 @@ LIMITS = {
 LISTED = {
     "lines": {
         "http_wire": 1525,
-        "json_fields": 1557,
+        "json_fields": 1555,
         "tap_reader": 1593,
     },
     "functions": {
