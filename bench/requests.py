@@ -26,6 +26,7 @@ from moments import moment_in  # noqa: E402
 MOST_BYTES = 4 * 1024 * 1024
 NAMES = 500  # the most that one call may include
 REALMS = 60_000
+BINDING_REALMS = 32_000  # each counts twice towards the entries that a configuration may have
 FINAL = b'"state":"FINALIZED"'
 ALL_RIGHTS = ["create", "createWithReservedID", "get", "include"]
 slow = []
@@ -144,25 +145,30 @@ def large_bodies(folder):
 # Rights
 
 
-def realm(number, extends, bound):
+def realm(number, extends, principal):
     lines = f'[realm."p:{number}"]\n' + (f'extends = ["p:{extends}"]\n' if extends is not None else "")
-    return lines + ('bindings = [{role="r",principals=["user:u0"]}]\n' if bound else "")
+    return lines + (f'bindings = [{{role="r",principals=["{principal}"]}}]\n' if principal else "")
 
 
-def configured(folder, realms, extending):
-    """A configuration of a user who may do all: by one binding that all realms reach, or by one in each."""
+def configured(folder, realms, extending, principal):
+    """A configuration of a user who may do all, by a binding of the first realm. Each other realm extends the one
+    before it, or none, and binds a principal, or none. The user isn't in the group."""
     rights = json.dumps([f"resultdb.invocations.{right}" for right in ALL_RIGHTS])
-    rows = (realm(n, n - 1 if n and extending else None, not n or not extending) for n in range(realms))
+    rows = (realm(n, n - 1 if n and extending else None, principal if n else "user:u0") for n in range(realms))
     path = pathlib.Path(folder) / "realms.toml"
-    path.write_text(f'secret = "{harness.SECRET.hex()}"\n[user.u0]\ntoken = "tok-a"\n[role.r]\npermissions = {rights}\n'
-                    + "".join(rows))
+    path.write_text(f'secret = "{harness.SECRET.hex()}"\n[user.u0]\ntoken = "tok-a"\n[user.u1]\ntoken = "tok-b"\n'
+                    f'[group.g]\nmembers = ["u1"]\n[role.r]\npermissions = {rights}\n' + "".join(rows))
     return path
 
 
 def rights(folder):
-    for what, count, extending in (("three realms", 3, True), (f"a chain of {REALMS:,} realms", REALMS, True),
-                                   (f"{REALMS // 2:,} realms apart", REALMS // 2, False)):
-        program = Program(folder, configured(folder, count, extending))
+    for what, count, extending, principal in (
+        ("three realms", 3, True, None),
+        (f"a chain of {REALMS:,} realms", REALMS, True, None),
+        (f"a chain of {BINDING_REALMS:,} realms with bindings", BINDING_REALMS, True, "group:g"),
+        (f"{REALMS // 2:,} realms apart", REALMS // 2, False, "user:u0"),
+    ):
+        program = Program(folder, configured(folder, count, extending, principal))
         rows = [{"invocationId": f"u-{n}", "invocation": {"realm": f"p:{n * 7919 % count}"}} for n in range(NAMES + 1)]
         accepted(program.ask(b"".join(request("CreateInvocation", row) for row in rows))[1], NAMES + 1)
         names = [f"u-{n}" for n in range(1, NAMES + 1)]

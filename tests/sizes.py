@@ -28,7 +28,7 @@ LIMITS = {
 LISTED = {
     "lines": {
         "http_wire": 1525,
-        "json_fields": 1557,
+        "json_fields": 1555,
         "tap_reader": 1593,
     },
     "functions": {
@@ -52,7 +52,7 @@ LISTED = {
         "record_desk": 2,
         "request_rules": 1,
         "result_journal": 28,
-        "service_core": 5,
+        "service_core": 4,
         "tellers": 3,
         "turnstile": 1,
         "turnstile_trial": 1,

@@ -14,8 +14,6 @@ mod limited_lists;
 mod numbers;
 mod outside_profile;
 mod properties;
-#[cfg(test)]
-mod tests;
 mod trees;
 mod variants;
 

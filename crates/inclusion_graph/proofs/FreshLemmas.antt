@@ -1,5 +1,5 @@
 -- The targets that a node hasn't yet, one by one.
-use Rattle.std.proofs.Common.{◌≡◌, ◌≢◌, ◌↔◌, ◌<◌, ◌≤◌, ◌+◌, ℕ, Bool, true, false, List, [], ◌∷◌, ◌++◌, Option, Some, None, length, drop, get_or, set, Contains, IsTrue, refl, sym, ap, ◌∙◌, subst, inl, inr, arith}
+use Rattle.std.proofs.Common.{◌≡◌, ◌≢◌, ◌↔◌, ◌<◌, ◌≤◌, ◌+◌, ℕ, Bool, true, false, List, [], ◌∷◌, ◌++◌, Option, Some, length, drop, get_or, set, Contains, IsTrue, refl, sym, ap, ◌∙◌, subst, inl, inr, arith}
 use Rattle.std.specs.List.{slice_get}
 use Rattle.std.proofs.lemmas.Bool.{cases_Bool, cases_lt}
 use Rattle.std.proofs.lemmas.List.{append-nil, get_or_append_left, get_or_past, get_or_push, length_push}
@@ -33,11 +33,6 @@ pub sought_found : (edges : List Edge) (from to place : ℕ) (d : Edge) → IsSo
 sought_found edges from to place d h e =
     contained edges place (record { from = from; to = to })
     (subst (λ m. slice_get edges place ≡ Some (record { from = m; to = to })) e (sought_at edges from to place d h))
-
-pub sought_none : (edges : List Edge) (from to : ℕ) → IsSought edges from to None → HasEdge edges from to → ⊥
-sought_none edges from to h edge =
-    let held = subst (λ ss. Contains ss from) h.first (h.left edge) in
-    omega (arith, held.1)
 
 pub sought_more : (edges : List Edge) (from to place : ℕ) (d : Edge) (next : Option ℕ) → IsSought edges from to (Some place)
     → (get_or edges place d).from ≢ from

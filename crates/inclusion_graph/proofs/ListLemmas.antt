@@ -1,10 +1,10 @@
 -- Numbers that a list has, marks for them, and places in lists.
-use Rattle.std.proofs.Common.{◌≡◌, ◌≢◌, ◌⊎◌, ◌<◌, ◌≤◌, ℕ, zero, suc, Bool, true, false, List, [], ◌∷◌, ◌++◌, length, get_or, set, replicate, Contains, Some, refl, sym, ap, ◌∙◌, subst, inl, inr, arith, append_assoc}
+use Rattle.std.proofs.Common.{◌≡◌, ◌≢◌, ◌⊎◌, ◌<◌, ◌≤◌, ℕ, zero, suc, Bool, true, false, List, [], ◌∷◌, ◌++◌, length, get_or, set, Contains, Some, refl, sym, ap, ◌∙◌, subst, inl, inr, arith, append_assoc}
 use Rattle.std.specs.List.{slice_get, All}
 use Rattle.std.proofs.lemmas.Bool.{cases_Bool, cases_eq, cond-true, cond-false}
 use Rattle.std.proofs.lemmas.Bool.Decides.{Decides-eqb}
 use Rattle.std.proofs.lemmas.Cmp.{nat_eq_equiv}
-use Rattle.std.proofs.lemmas.List.{get_or-set_same, get_or-set_other, length-set, get_or-replicate, length-replicate, append-nil}
+use Rattle.std.proofs.lemmas.List.{get_or-set_same, get_or-set_other, length-set, append-nil}
 use Rattle.std.proofs.lemmas.List.Elements.{All-cons, All-head, All-tail, Contains-append_cases, Contains-append_left, Contains-push}
 use Rattle.std.proofs.lemmas.Map.Views.{list_any-from_Contains, Contains-from_any}
 use Rattle.std.proofs.lemmas.Option.{slice_get_within, get_or_from_slice_get, slice_get-get_or}
@@ -60,9 +60,6 @@ marks_more marks below xs n lt h =
       λ m within. says_more marks xs n at (λ k low. h.1 k (omega (arith, h.0))) m (omega (arith, h.0)),
     )
 
-pub marks_none : (below : ℕ) → HasMarks (replicate below false) below []
-marks_none below = (length-replicate below false, λ m within. get_or-replicate below m false false within)
-
 -- the new numbers, one by one
 pub fresh_held : (xs ns : List ℕ) (n : ℕ) → has xs n ≡ true → fresh xs (n ∷ ns) ≡ fresh xs ns
 fresh_held xs ns n e = cond-true (has xs n) (fresh xs ns) (n ∷ fresh (xs ++ n ∷ []) ns) e
@@ -88,6 +85,10 @@ pub at_left : {X : Type 0} (xs ys : List X) (i : ℕ) → i < length xs → slic
 at_left [] ys i within = absurd (omega arith)
 at_left (x ∷ xs) ys zero within = refl
 at_left (x ∷ xs) ys (suc i) within = at_left xs ys i (omega arith)
+
+pub at_end : {X : Type 0} (xs : List X) (x : X) → slice_get (xs ++ x ∷ []) (length xs) ≡ Some x
+at_end [] x = refl
+at_end (y ∷ ys) x = at_end ys x
 
 pub at_either : {X : Type 0} (xs ys : List X) (i : ℕ) (x : X) → slice_get (xs ++ ys) i ≡ Some x
     → (slice_get xs i ≡ Some x) ⊎ ((length xs ≤ i) × Contains ys x)

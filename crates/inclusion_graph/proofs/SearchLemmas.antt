@@ -1,54 +1,117 @@
 -- A search, step by step.
-use Rattle.std.proofs.Common.{◌≡◌, ◌↔◌, ◌<◌, ◌≤◌, ◌+◌, ℕ, zero, suc, nat_eq, Bool, true, false, List, [], ◌∷◌, ◌++◌, length, get_or, set, replicate, Contains, Option, Some, None, MatchOption, cond, option_map, refl, sym, ap, ◌∙◌, subst, inl, inr, arith, append_assoc}
+use Rattle.std.proofs.Common.{◌≡◌, ◌↔◌, ◌<◌, ◌≤◌, ◌+◌, ℕ, zero, suc, nat_eq, true, false, List, [], ◌∷◌, ◌++◌, length, get_or, Contains, Option, Some, None, MatchOption, cond, option_map, refl, sym, ap, ◌∙◌, subst, inl, inr, arith, append_assoc}
 use Rattle.std.specs.List.{slice_get, All, IsDistinct}
-use Rattle.std.proofs.lemmas.Bool.{cases_lt}
-use Rattle.std.proofs.lemmas.List.{length-set, length-replicate, get_or-replicate, get_or_append_left, get_or_push, length_push, map_push, map-append, append-nil, length-map}
+use Rattle.std.specs.Map.{lookup}
+use Rattle.std.proofs.lemmas.Bool.{cases_Bool, cases_lt, cond-true, cond-false}
+use Rattle.std.proofs.lemmas.Bool.Decides.{Decides-eqb}
+use Rattle.std.proofs.lemmas.List.{length_push, map_push, map-append, append-nil, length-map}
 use Rattle.std.proofs.lemmas.List.Elements.{All-nil, All-map, All-push, All-append, All-contains, All-weaker, Contains-append_left, Contains-append_right, Contains-append_cases, Contains-push}
-use Rattle.std.proofs.lemmas.Cmp.{nat_eq_equiv}
-use Rattle.std.proofs.lemmas.Map.Keys.{IsDistinct-push}
-use Rattle.std.proofs.lemmas.Option.{same_Some, slice_get-map, slice_get_read, slice_get_within}
+use Rattle.std.proofs.lemmas.Map.Keys.{IsDistinct-from_apart}
+use Rattle.std.proofs.lemmas.Map.Steps.{length-le_from_distinct_below}
+use Rattle.std.proofs.lemmas.Option.{same_Some, slice_get-get_or, slice_get-map, slice_get_read, slice_get_within}
 use Rattle.inclusion_graph.specs.declared.edge.Edge.{Edge}
 use Rattle.inclusion_graph.specs.declared.search.Step.{Step}
-use Rattle.inclusion_graph.specs.Edges.{HasEdge, has, targets_of}
-use Rattle.inclusion_graph.specs.Searches.{IsGrown, IsMarked, IsRooted, IsSearched, IsTakenBelow, nodes_of, unmarked}
+use Rattle.inclusion_graph.specs.Edges.{HasEdge, targets_of}
+use Rattle.inclusion_graph.specs.Searches.{IsGrown, IsPlaced, IsRooted, IsSearched, nodes_of}
 use Rattle.inclusion_graph.specs.Walks.{IsReached}
-use Rattle.inclusion_graph.proofs.ListLemmas.{at_either, at_left, contained, has_from, held_from, in_one, place_held, says_more}
+use Rattle.inclusion_graph.proofs.ListLemmas.{at_either, at_end, at_left, contained, held_from, in_one, place_held}
 use Rattle.inclusion_graph.proofs.WalkLemmas.{along, reaches_itself, reaches_more}
 
-unmarked_set : (marks : List Bool) (n : ℕ) → n < length marks → get_or marks n false ≡ false
-    → unmarked marks ≡ suc (unmarked (set marks n true))
-unmarked_set [] n within e = absurd (omega arith)
-unmarked_set (true ∷ marks) zero within e = let no : true ≡ false = e in cc
-unmarked_set (false ∷ marks) zero within e = refl
-unmarked_set (true ∷ marks) (suc n) within e = unmarked_set marks n (omega arith) e
-unmarked_set (false ∷ marks) (suc n) within e = ap suc (unmarked_set marks n (omega arith) e)
+pub placed_none : (places : List (ℕ × ℕ)) (steps : List Step) → places ≡ [] → steps ≡ [] → IsPlaced places steps
+placed_none places steps no_places no_steps = λ node place. (
+  λ e. let no : None ≡ Some place = subst (λ ps. lookup (nat_eq node) ps ≡ Some place) no_places e in cc,
+  λ e. let no : None ≡ Some node = subst (λ (ss : List Step). slice_get (nodes_of ss) place ≡ Some node) no_steps e in cc,
+)
 
-unmarked_all : (n : ℕ) → unmarked (replicate n false) ≡ n
-unmarked_all zero = refl
-unmarked_all (suc n) = ap suc (unmarked_all n)
+placed_push : (places new : List (ℕ × ℕ)) (nodes : List ℕ) (last : ℕ)
+    → ((node place : ℕ) → (lookup (nat_eq node) places ≡ Some place) ↔ (slice_get nodes place ≡ Some node))
+    → lookup (nat_eq last) places ≡ None
+    → ((node : ℕ) → lookup (nat_eq node) new ≡ cond (nat_eq last node) (Some (length nodes)) (lookup (nat_eq node) places))
+    → (node place : ℕ) → (lookup (nat_eq node) new ≡ Some place) ↔ (slice_get (nodes ++ last ∷ []) place ≡ Some node)
+placed_push places new nodes last h none is node place =
+    let all = nodes ++ last ∷ [] in
+    elim (cases_Bool (nat_eq last node)) [
+      | inl yes_ ↦
+          let same : last ≡ node = (Decides-eqb last node).0 yes_ in
+          let here : lookup (nat_eq node) new ≡ Some (length nodes) =
+          is node ∙ cond-true (nat_eq last node) (Some (length nodes)) (lookup (nat_eq node) places) yes_ in (
+            λ e.
+                let at : length nodes ≡ place = same_Some (length nodes) place (sym here ∙ e) in
+                subst (λ i. slice_get all i ≡ Some node) at (at_end nodes last ∙ ap Some same),
+            λ e. elim (at_either nodes (last ∷ []) place node e) [
+              | inl old ↦
+                  let there = subst (λ n. lookup (nat_eq n) places ≡ Some place) (sym same) ((h node place).1 old) in
+                  let no : None ≡ Some place = sym none ∙ there in cc
+              | inr fresh ↦
+                  let within = slice_get_within all place node e in
+                  let at : length nodes ≡ place = omega (arith, fresh.0, within, length_push nodes last) in
+                  here ∙ ap Some at
+            ],
+          )
+      | inr no_ ↦
+          let here : lookup (nat_eq node) new ≡ lookup (nat_eq node) places =
+          is node ∙ cond-false (nat_eq last node) (Some (length nodes)) (lookup (nat_eq node) places) no_ in (
+            λ e.
+                let old = (h node place).0 (sym here ∙ e) in
+                at_left nodes (last ∷ []) place (slice_get_within nodes place node old) ∙ old,
+            λ e. elim (at_either nodes (last ∷ []) place node e) [
+              | inl old ↦ here ∙ (h node place).1 old
+              | inr fresh ↦
+                  let no : false ≡ true = sym no_ ∙ (Decides-eqb last node).1 (in_one last node fresh.1) in cc
+            ],
+          )
+    ]
 
-pub marked_none : (n : ℕ) → IsMarked (replicate n false) []
-unfolding IsDistinct
-marked_none n = record {
-  says = λ m within. get_or-replicate n m false false (omega (arith, length-replicate n false));
-  within = All-nil (λ (step : Step). step.node < length (replicate n false));
-  count = let all = unmarked_all n in omega (arith, length-replicate n false);
-  distinct = tt;
-}
+pub placed_more : (places new : List (ℕ × ℕ)) (steps : List Step) (step : Step) → IsPlaced places steps
+    → lookup (nat_eq step.node) places ≡ None
+    → ((node : ℕ) → lookup (nat_eq node) new ≡ cond (nat_eq step.node node) (Some (length steps)) (lookup (nat_eq node) places))
+    → IsPlaced new (steps ++ step ∷ [])
+placed_more places new steps step h none is =
+    let count = length-map steps (λ (s : Step). s.node) in
+    subst (λ ns. (node place : ℕ) → (lookup (nat_eq node) new ≡ Some place) ↔ (slice_get ns place ≡ Some node))
+    (sym (map_push (λ (s : Step). s.node) steps step))
+    (placed_push places new (nodes_of steps) step.node h none
+    (λ node. is node ∙ ap (λ n. cond (nat_eq step.node node) (Some n) (lookup (nat_eq node) places)) (sym count)))
 
-pub marked_more : (marks : List Bool) (steps : List Step) (step : Step) → IsMarked marks steps → step.node < length marks
-    → get_or marks step.node false ≡ false → IsMarked (set marks step.node true) (steps ++ step ∷ [])
-marked_more marks steps step h within e =
-    let same = length-set marks step.node true in
-    record {
-      says = λ m low. says_more marks (nodes_of steps) step.node within h.says m (omega (arith, same))
-          ∙ ap (λ ns. has ns m) (sym (map_push (λ (s : Step). s.node) steps step));
-      within = subst (λ n. All (λ (s : Step). s.node < n) (steps ++ step ∷ [])) (sym same)
-          (All-push (λ (s : Step). s.node < length marks) steps step h.within within);
-      count = omega (arith, h.count, same, unmarked_set marks step.node within e, length_push steps step);
-      distinct = subst (IsDistinct nat_eq) (sym (map_push (λ (s : Step). s.node) steps step))
-          (IsDistinct-push nat_eq_equiv (nodes_of steps) step.node h.distinct (sym (h.says step.node within) ∙ e));
-    }
+pub found_contained : (places : List (ℕ × ℕ)) (steps : List Step) (node : ℕ) (at : Option ℕ) → IsPlaced places steps
+    → lookup (nat_eq node) places ≡ at → (at ≡ None → ⊥) → Contains (nodes_of steps) node
+found_contained places steps node None h e some = absurd (some refl)
+found_contained places steps node (Some place) h e some = contained (nodes_of steps) place node ((h node place).0 e)
+
+pub placed_distinct : (places : List (ℕ × ℕ)) (steps : List Step) → IsPlaced places steps → IsDistinct nat_eq (nodes_of steps)
+placed_distinct places steps h =
+    let nodes = nodes_of steps in
+    IsDistinct-from_apart nat_eq nodes
+    (λ i j d low within. elim (cases_Bool (nat_eq (get_or nodes i d) (get_or nodes j d))) [
+      | inl yes_ ↦
+          let same : get_or nodes i d ≡ get_or nodes j d = (Decides-eqb (get_or nodes i d) (get_or nodes j d)).0 yes_ in
+          let first = (h (get_or nodes i d) i).1 (slice_get-get_or nodes i d (omega arith)) in
+          let second = (h (get_or nodes i d) j).1 (slice_get-get_or nodes j d within ∙ ap Some (sym same)) in
+          absurd (omega (arith, low, same_Some i j (sym first ∙ second)))
+      | inr no_ ↦ no_
+    ])
+
+-- no more are found than there are
+pub found_few : (places : List (ℕ × ℕ)) (steps : List Step) (nodes : ℕ) → IsPlaced places steps → All (λ step. step.node < nodes) steps
+    → length steps ≤ nodes
+found_few places steps nodes h within =
+    let count = length-map steps (λ (s : Step). s.node) in
+    omega (
+      arith,
+      count,
+      length-le_from_distinct_below (nodes_of steps) nodes (placed_distinct places steps h)
+          (λ n e. All-contains (λ m. m < nodes) (nodes_of steps) n (All-map (λ m. m < nodes) (λ (s : Step). s.node) steps within)
+          (held_from (nodes_of steps) n e)),
+    )
+
+-- the nodes that are found are those of targets
+pub grown_within : (P : ℕ → Type 0) (targets : List ℕ) (back : Option ℕ) (old new : List Step) → All P targets
+    → All (λ (step : Step). P step.node) old → IsGrown targets back old new → All (λ (step : Step). P step.node) new
+grown_within P targets back old new within before grown =
+    subst (All (λ (s : Step). P s.node)) (sym grown.is)
+    (All-append (λ (s : Step). P s.node) old grown.more before
+    (All-weaker (λ s. Contains targets s.node × (s.back ≡ back)) (λ (s : Step). P s.node)
+    (λ s h. All-contains P targets s.node within h.0) grown.more grown.steps))
 
 pub grown_new : (steps : List Step) (step : Step) → IsGrown (step.node ∷ []) step.back steps (steps ++ step ∷ [])
 grown_new steps step = record {
@@ -60,20 +123,12 @@ grown_new steps step = record {
       (subst (λ ns. Contains ns step.node) (sym (map_push (λ (s : Step). s.node) steps step)) (Contains-push (nodes_of steps) step.node));
 }
 
-pub grown_old : (steps : List Step) (node : ℕ) (back : Option ℕ) → has (nodes_of steps) node ≡ true → IsGrown (node ∷ []) back steps steps
-grown_old steps node back e = record {
+pub grown_old : (steps : List Step) (node : ℕ) (back : Option ℕ) → Contains (nodes_of steps) node → IsGrown (node ∷ []) back steps steps
+grown_old steps node back found = record {
   more = [];
   is = sym (append-nil steps);
   steps = All-nil (λ (s : Step). Contains (node ∷ []) s.node × (s.back ≡ back));
-  all = λ target held. subst (Contains (nodes_of steps)) (in_one node target held) (held_from (nodes_of steps) node e);
-}
-
-pub grown_none : (steps : List Step) (back : Option ℕ) → IsGrown [] back steps steps
-grown_none steps back = record {
-  more = [];
-  is = sym (append-nil steps);
-  steps = All-nil (λ (s : Step). Contains [] s.node × (s.back ≡ back));
-  all = λ target held. absurd (omega (arith, held.1));
+  all = λ target held. subst (Contains (nodes_of steps)) (in_one node target held) found;
 }
 
 nodes_stay : (old more : List Step) (n : ℕ) → Contains (nodes_of old) n → Contains (nodes_of (old ++ more)) n
@@ -96,12 +151,11 @@ grown_more targets target back a b c first next =
       ];
     }
 
-pub searched_start : (edges : List Edge) (roots : List ℕ) (marks : List Bool) (none steps : List Step) → none ≡ [] → IsMarked marks steps
-    → IsGrown roots None none steps → IsSearched edges roots marks steps 0
-searched_start edges roots marks none steps empty marked grown =
+pub searched_start : (edges : List Edge) (roots : List ℕ) (none steps : List Step) → none ≡ []
+    → IsGrown roots None none steps → IsSearched edges roots steps 0
+searched_start edges roots none steps empty grown =
     let is : steps ≡ grown.more = grown.is ∙ ap (λ xs. xs ++ grown.more) empty in
     record {
-      marked = marked;
       rooted = λ place step at.
           let said = All-contains (λ (s : Step). Contains roots s.node × (s.back ≡ None)) grown.more step grown.steps
           (subst (λ xs. Contains xs step) is (contained steps place step at)) in
@@ -130,16 +184,15 @@ rooted_stays : (edges : List Edge) (roots : List ℕ) (steps more : List Step) (
 rooted_stays edges roots steps more place step None h = h
 rooted_stays edges roots steps more place step (Some b) h = (h.0, (h.1.0, node_left steps more b h.1.0 h.1.1, h.1.2))
 
-pub searched_more : (edges : List Edge) (roots : List ℕ) (marks new_marks : List Bool) (steps new : List Step) (at node : ℕ)
-    → IsSearched edges roots marks steps at → slice_get (nodes_of steps) at ≡ Some node
+pub searched_more : (edges : List Edge) (roots : List ℕ) (steps new : List Step) (at node : ℕ)
+    → IsSearched edges roots steps at → slice_get (nodes_of steps) at ≡ Some node
     → ((target : ℕ) → Contains (targets_of edges node) target ↔ HasEdge edges node target)
-    → IsMarked new_marks new → IsGrown (targets_of edges node) (Some at) steps new → IsSearched edges roots new_marks new (at + 1)
-searched_more edges roots marks new_marks steps new at node h here lists marked grown =
+    → IsGrown (targets_of edges node) (Some at) steps new → IsSearched edges roots new (at + 1)
+searched_more edges roots steps new at node h here lists grown =
     let more = grown.more in
     let low : at < length steps = omega (arith, slice_get_within (nodes_of steps) at node here, length-map steps (λ (s : Step). s.node)) in
-    subst (λ (ss : List Step). IsSearched edges roots new_marks ss (at + 1)) (sym grown.is)
+    subst (λ (ss : List Step). IsSearched edges roots ss (at + 1)) (sym grown.is)
     (record {
-      marked = subst (IsMarked new_marks) grown.is marked;
       rooted = λ place step e. elim (at_either steps more place step e) [
         | inl old ↦ rooted_stays edges roots steps more place step step.back (h.rooted place step old)
         | inr fresh ↦
@@ -185,16 +238,16 @@ reached_by edges roots steps rooted (suc bound) place n low e =
     (reached_step edges roots steps bound place found.0 found.0.back (omega arith) (rooted place found.0 found.1)
     (λ p m below at. reached_by edges roots steps rooted bound p m below at))
 
-pub found_reached : (edges : List Edge) (roots : List ℕ) (marks : List Bool) (steps : List Step) (at : ℕ)
-    → IsSearched edges roots marks steps at → (n : ℕ) → Contains (nodes_of steps) n → IsReached edges roots n
-found_reached edges roots marks steps at h n held =
+pub found_reached : (edges : List Edge) (roots : List ℕ) (steps : List Step) (at : ℕ)
+    → IsSearched edges roots steps at → (n : ℕ) → Contains (nodes_of steps) n → IsReached edges roots n
+found_reached edges roots steps at h n held =
     let place = place_held (nodes_of steps) n held in
     reached_by edges roots steps h.rooted (suc place.0) place.0 n (omega arith) place.1
 
 -- what is reached is found
-pub reached_found : (edges : List Edge) (roots : List ℕ) (marks : List Bool) (steps : List Step)
-    → IsSearched edges roots marks steps (length steps) → (n : ℕ) → IsReached edges roots n → Contains (nodes_of steps) n
-reached_found edges roots marks steps h n reached =
+pub reached_found : (edges : List Edge) (roots : List ℕ) (steps : List Step)
+    → IsSearched edges roots steps (length steps) → (n : ℕ) → IsReached edges roots n → Contains (nodes_of steps) n
+reached_found edges roots steps h n reached =
     along edges (Contains (nodes_of steps))
     (λ a b held edge. let place = place_held (nodes_of steps) a held in
     h.closed place.0 a b (omega (arith, slice_get_within (nodes_of steps) place.0 a place.1, length-map steps (λ (s : Step). s.node))) place.1 edge)
@@ -222,66 +275,3 @@ back_root edges root steps at step rooted within is e =
     sym (in_one root step.node (subst (λ o. MatchOption o (Contains (root ∷ []) step.node)
     (λ b. (b < at) × ((n : ℕ) × (slice_get (nodes_of steps) b ≡ Some n) × HasEdge edges n step.node))) e
     (rooted at step (slice_get_read steps (length steps) at step refl within is))))
-
--- the nodes that are found, ascending
-
-pub taken_none : (marks : List Bool) → IsTakenBelow marks 0 []
-taken_none marks = record {
-  rising = λ k within. absurd (omega arith);
-  below = All-nil (λ n. n < 0);
-  all = λ n. (λ held. absurd (omega (arith, held.1)), λ h. absurd (omega (arith, h.0)));
-}
-
-taken_more : (marks : List Bool) (at : ℕ) (nodes : List ℕ) → get_or marks at false ≡ true → IsTakenBelow marks at nodes
-    → IsTakenBelow marks (at + 1) (nodes ++ at ∷ [])
-taken_more marks at nodes e h = record {
-  rising = λ k within. elim (cases_lt (k + 1) (length nodes)) [
-    | inl old ↦ rw (get_or_append_left nodes (at ∷ []) 0 k (omega arith), get_or_append_left nodes (at ∷ []) 0 (k + 1) old) (h.rising k old)
-    | inr new ↦
-        let last : get_or (nodes ++ at ∷ []) (k + 1) 0 ≡ at = get_or_push nodes at 0 (k + 1) (omega (arith, length_push nodes at)) in
-        let before : get_or nodes k 0 < at = h.below k 0 (omega (arith, length_push nodes at)) in
-        rw (get_or_append_left nodes (at ∷ []) 0 k (omega (arith, length_push nodes at)), last) before
-  ];
-  below = All-push (λ n. n < at + 1) nodes at (All-weaker (λ n. n < at) (λ n. n < at + 1) (λ n lt. omega arith) nodes h.below) (omega arith);
-  all = λ n. (
-    λ held. elim (Contains-append_cases nodes (at ∷ []) n held) [
-      | inl old ↦ let was = (h.all n).0 old in (omega (arith, was.0), was.1)
-      | inr new ↦ let same = in_one at n new in subst (λ m. (m < at + 1) × (get_or marks m false ≡ true)) same (omega arith, e)
-    ],
-    λ both. elim (cases_lt n at) [
-      | inl old ↦ Contains-append_left nodes (at ∷ []) n ((h.all n).1 (old, both.1))
-      | inr new ↦ let same : at ≡ n = omega (arith, both.0, new) in subst (Contains (nodes ++ at ∷ [])) same (Contains-push nodes at)
-    ],
-  );
-}
-
-taken_fewer : (marks : List Bool) (at : ℕ) (nodes : List ℕ) → get_or marks at false ≡ false → IsTakenBelow marks at nodes
-    → IsTakenBelow marks (at + 1) nodes
-taken_fewer marks at nodes e h = record {
-  rising = h.rising;
-  below = All-weaker (λ n. n < at) (λ n. n < at + 1) (λ n lt. omega arith) nodes h.below;
-  all = λ n. (
-    λ held. let was = (h.all n).0 held in (omega (arith, was.0), was.1),
-    λ both. elim (cases_lt n at) [
-      | inl old ↦ (h.all n).1 (old, both.1)
-      | inr new ↦
-          let same : n ≡ at = omega (arith, both.0, new) in
-          let no : true ≡ false = sym both.1 ∙ ap (λ m. get_or marks m false) same ∙ e in cc
-    ],
-  );
-}
-
-pub taken_step : (marks : List Bool) (at : ℕ) (nodes : List ℕ) (is_found : Bool) → is_found ≡ get_or marks at false → IsTakenBelow marks at nodes
-    → IsTakenBelow marks (at + 1) (nodes ++ (cond is_found (at ∷ []) []))
-taken_step marks at nodes true e h = taken_more marks at nodes (sym e) h
-taken_step marks at nodes false e h = subst (IsTakenBelow marks (at + 1)) (sym (append-nil nodes)) (taken_fewer marks at nodes (sym e) h)
-
-pub taken_all : (marks : List Bool) (steps : List Step) (nodes : List ℕ) (at : ℕ) → at ≡ length marks → IsMarked marks steps → IsTakenBelow marks at nodes
-    → (n : ℕ) → Contains nodes n ↔ Contains (nodes_of steps) n
-taken_all marks steps nodes at all marked h n = (
-  λ held. let was = (h.all n).0 held in
-      held_from (nodes_of steps) n (sym (marked.says n (omega (arith, was.0))) ∙ was.1),
-  λ held.
-      let within : n < length marks = All-contains (λ m. m < length marks) (nodes_of steps) n (All-map (λ m. m < length marks) (λ (s : Step). s.node) steps marked.within) held in
-      (h.all n).1 (omega arith, marked.says n within ∙ has_from (nodes_of steps) n held),
-)

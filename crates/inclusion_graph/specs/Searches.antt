@@ -1,7 +1,7 @@
 -- The code's own words for a search, which goes from node to node.
-use Rattle.std.specs.Prelude.{◌≡◌, ℕ, suc, ◌+◌, ◌<◌, ◌≤◌, ◌⊎◌, Bool, true, false, List, [], ◌∷◌, ◌++◌, Option, Some, MatchOption, length, map, slice_get, slice_index_or, Contains, Vec, ◌↔◌, nat_eq}
-use Rattle.std.specs.List.{All, IsDistinct}
-use Rattle.std.specs.List.Sorted.{IsStrictlyIncreasing}
+use Rattle.std.specs.Prelude.{◌≡◌, ℕ, ◌<◌, ◌≤◌, ◌⊎◌, Bool, false, List, ◌++◌, Option, Some, MatchOption, length, map, slice_get, slice_index_or, Contains, Vec, ◌↔◌, nat_eq}
+use Rattle.std.specs.List.{All}
+use Rattle.std.specs.Map.{lookup}
 use Rattle.std.specs.declared.alloc.Global.{Global}
 use Rattle.inclusion_graph.specs.declared.edge.Edge.{Edge}
 use Rattle.inclusion_graph.specs.declared.search.Step.{Step}
@@ -9,11 +9,6 @@ use Rattle.inclusion_graph.specs.Edges.{HasEdge, has, targets_of}
 
 abbrev pub nodes_of : List Step → List ℕ
 nodes_of steps = map (λ step. step.node) steps
-
-abbrev pub unmarked : List Bool → ℕ
-unmarked [] = 0
-unmarked (true ∷ marks) = unmarked marks
-unmarked (false ∷ marks) = suc (unmarked marks)
 
 -- marks for the numbers below this, set for those of the list
 abbrev pub HasMarks : List Bool → ℕ → List ℕ → Type 0
@@ -28,13 +23,11 @@ pub record IsJoined (edges : List Edge) (from below : ℕ) (named : List ℕ) (m
   pub says : HasMarks marks below named
   pub there : (node : ℕ) → Contains all node ↔ (HasEdge edges from node ⊎ Contains named node)
 
--- marked are just the nodes that are found
-pub record IsMarked (marks : List Bool) (steps : List Step) : Type 0 where
-  pub says : (node : ℕ) → node < length marks
-      → slice_index_or marks node false ≡ has (nodes_of steps) node
-  pub within : All (λ step. step.node < length marks) steps
-  pub count : length steps + unmarked marks ≡ length marks
-  pub distinct : IsDistinct nat_eq (nodes_of steps)
+-- the map has just the nodes that are found, each with the place of its step
+abbrev pub IsPlaced : List (ℕ × ℕ) → List Step → Type 0
+IsPlaced places steps =
+    (node place : ℕ)
+    → (lookup (nat_eq node) places ≡ Some place) ↔ (slice_get (nodes_of steps) place ≡ Some node)
 
 -- behind the steps stand some more, each to one of these targets
 pub record IsGrown (targets : List ℕ) (back : Option ℕ) (old new : List Step) : Type 0 where
@@ -53,21 +46,13 @@ IsRooted edges roots steps =
     × HasEdge edges node step.node))
 
 -- so far has a search come whose steps before this place were gone on from
-pub record IsSearched (edges : List Edge) (roots : List ℕ) (marks : List Bool) (steps : List Step)
+pub record IsSearched (edges : List Edge) (roots : List ℕ) (steps : List Step)
     (at : ℕ) : Type 0 where
-  pub marked : IsMarked marks steps
   pub rooted : IsRooted edges roots steps
   pub begun : (root : ℕ) → Contains roots root → Contains (nodes_of steps) root
   pub closed : (place node target : ℕ) → place < at → slice_get (nodes_of steps) place ≡ Some node
       → HasEdge edges node target
       → Contains (nodes_of steps) target
-
--- the nodes below this that are marked, ascending
-pub record IsTakenBelow (marks : List Bool) (at : ℕ) (nodes : List ℕ) : Type 0 where
-  pub rising : IsStrictlyIncreasing nodes
-  pub below : All (λ node. node < at) nodes
-  pub all : (node : ℕ)
-      → Contains nodes node ↔ ((node < at) × (slice_index_or marks node false ≡ true))
 
 -- the lists of targets are those of the edges, and all is within the nodes
 pub record IsListed (edges : List Edge) (targets : List (Vec ℕ Global)) : Type 0 where

@@ -4,7 +4,7 @@ ghost use Rattle.std.specs.List.Sorted.{IsStrictlyIncreasing};
 ghost use Rattle.inclusion_graph.specs.declared.edge.Edge.{Edge};
 ghost use Rattle.inclusion_graph.specs.Edges.{IsFirstTo, IsRoomier, targets_of, with_edges, with_node};
 ghost use Rattle.inclusion_graph.specs.Plans.{Fits, IsEdgeFault, IsElsewhere, new_targets};
-ghost use Rattle.inclusion_graph.specs.Searches.{IsListed, IsRooted, IsSearched, nodes_of};
+ghost use Rattle.inclusion_graph.specs.Searches.{IsListed, IsPlaced, IsRooted, IsSearched, nodes_of};
 ghost use Rattle.inclusion_graph.specs.Walks.{IsReached, Leads, Reaches};
 
 use crate::edge::Edge;
@@ -217,12 +217,12 @@ impl Graph {
     /// The nodes that are found from these, with the steps by which each was found.
     fn search(&self, alloc: Global, roots: &[u32]) -> Result<Search, AllocError>
         requires { All (λ root. root < self.now.nodes) roots.now }
-        ensures nodes { IfOk result (λ search. length search.marks.items ≡ self.now.nodes) }
-        ensures few { self.now.nodes ≤ 4_294_967_295 }
+        ensures placed { IfOk result
+            (λ search. IsPlaced search.places.entries search.steps.items) }
         ensures all { IfOk result (λ search. IsSearched self.now.edges roots.now
-            search.marks.items search.steps.items (length search.steps.items)) }
+            search.steps.items (length search.steps.items)) }
     {
-        let mut search = Search::new(alloc, self.targets.len())?;
+        let mut search = Search::new(alloc);
         search.add_all(roots, None)?;
         let mut at = 0;
         'steps: while at < search.steps.len() {

@@ -29,6 +29,16 @@ const REACHED: [(&[u32], &[u32]); 4] = [
     (&[], &[]),
 ];
 
+/// Calls to a graph of 60,000 nodes, in turn.
+const FAR: [Call; 3] = [
+    (59_999, &[30_000], Ok(1)),
+    (30_000, &[7], Ok(1)),
+    (8, &[59_999], Ok(1)),
+];
+
+/// The nodes that are reached from the last one then.
+const FAR_REACHED: [u32; 3] = [7, 30_000, 59_999];
+
 /// Calls to a graph of four nodes, in turn.
 const INCLUSIONS: [Call; 5] = [
     (2, &[1, 0], Ok(2)),
@@ -203,6 +213,15 @@ fn is_target(graph: &Graph, node: u32, k: u32, target: Option<u32>) -> bool {
     node < graph.nodes() && graph.edge(node, k) == target
 }
 
+/// Whether just these nodes are told to be reached from some.
+fn is_told(alloc: Global, graph: &Graph, roots: &[u32], nodes: &[u32]) -> Result<bool, AllocError> {
+    if !are_below(graph.nodes(), roots) {
+        return Ok(false);
+    }
+    let reached = graph.reach(alloc, roots)?;
+    Ok(reached.as_slice() == nodes)
+}
+
 /// Whether just these nodes are reached from some, also by turns over all edges.
 fn is_reached(
     alloc: Global,
@@ -210,12 +229,8 @@ fn is_reached(
     roots: &[u32],
     nodes: &[u32],
 ) -> Result<bool, AllocError> {
-    if !are_below(graph.nodes(), roots) {
-        return Ok(false);
-    }
-    let reached = graph.reach(alloc, roots)?;
     let turned = by_turns(alloc, graph, roots)?;
-    Ok(reached.as_slice() == nodes && turned.as_slice() == nodes)
+    Ok(is_told(alloc, graph, roots, nodes)? && turned.as_slice() == nodes)
 }
 
 /// Whether a walk from a node to another is found where the other one is reached, and none else.
@@ -260,6 +275,17 @@ fn walks_and_reach(rt: HostRuntime) -> Result<(), Fail> {
         assert!(rt; is_reached(alloc, &graph, row.0, row.1)?);
     }
     assert!(rt; are_found(alloc, &graph)?);
+    Ok(())
+}
+
+#[test]
+fn few_of_many_nodes_are_reached(rt: HostRuntime) -> Result<(), Fail> {
+    let alloc = rt.alloc();
+    let mut graph = graph_of(alloc, 60_000)?;
+    assert!(rt; are_answered(alloc, &mut graph, &FAR));
+    assert!(rt; is_told(alloc, &graph, &[59_999], &FAR_REACHED)?);
+    assert!(rt; is_found(alloc, &graph, 59_999, 7, &FAR_REACHED)?);
+    assert!(rt; is_found(alloc, &graph, 59_999, 8, &FAR_REACHED)?);
     Ok(())
 }
 

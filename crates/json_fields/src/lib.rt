@@ -13,8 +13,6 @@ pub mod laws;
 mod moves;
 mod names;
 mod tags;
-#[cfg(test)]
-mod tests;
 mod texts;
 mod whys;
 mod writing;

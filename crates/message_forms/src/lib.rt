@@ -15,8 +15,6 @@ mod refusals;
 mod replies;
 mod requests;
 mod shown;
-#[cfg(test)]
-mod tests;
 mod updates;
 
 pub use call_forms::{Answer, Asked, Refusal, Standin, Told, write_refusal};

@@ -105,5 +105,6 @@ module _ (t : PolicyTables) (ranks : List (Option ℕ)) (ranked : Ranked) (h : A
     pub rank_few : length (graph_of t) ≡ length t.realms → rank < 65536
     rank_few len = omega (arith, (h.ranks_are.right place rank is).0, few_ranks (graph_of t) ranks h.places ranked.rows.items h.ranks_are, len, h.few)
 
-    pub rank_granted : rank < length ranked.grants.items
-    rank_granted = omega (arith, (h.ranks_are.right place rank is).0, h.grants_are.count)
+    -- and has a shortcut
+    pub rank_granted : rank < length ranked.shortcuts.of_ranks.items
+    rank_granted = omega (arith, (h.ranks_are.right place rank is).0, h.ranks_are.rows_count, h.shortcuts_count)

@@ -11,7 +11,8 @@ use Rattle.permissions.specs.declared.members.Members.{Members}
 use Rattle.permissions.specs.declared.ranked.Pass.{Pass}
 use Rattle.permissions.specs.declared.ranked.Ranked.{Ranked}
 use Rattle.permissions.specs.declared.shortcuts.Shortcut.{Shortcut}
-use Rattle.permissions.specs.declared.shortcuts.Shortcut.TheVariants.{OwnGrants, SameAs, Absent}
+use Rattle.permissions.specs.declared.shortcuts.Shortcut.TheVariants.{OwnGrants, Mark}
+use Rattle.permissions.specs.declared.shortcuts.Shortcuts.{Shortcuts}
 use Rattle.permissions.specs.Graph.{has, edges, IsWalkOn, graph_of}
 use Rattle.permissions.specs.Masks.{has_bit}
 use Rattle.permissions.specs.Grants.{AreGrants, AreMembers, is_member}
@@ -43,16 +44,11 @@ abbrev pub binds_user : Ranked → ℕ → Permission → ℕ → Bool
 binds_user r u p rank = binds_by r.members.items r.grants.items u p rank
 
 abbrev pub shortcut_at : List Shortcut → ℕ → Shortcut
-shortcut_at shortcuts rank = slice_index_or shortcuts rank Absent
+shortcut_at shortcuts rank = slice_index_or shortcuts rank OwnGrants
 
--- the rank whose answer is that of another one
-abbrev pub told_by : Shortcut → ℕ → ℕ
-told_by OwnGrants rank = rank
-told_by (SameAs other) rank = other
-told_by Absent rank = rank
-
-abbrev pub teller_of : List Shortcut → ℕ → ℕ
-teller_of shortcuts rank = told_by (shortcut_at shortcuts rank) rank
+-- the rank that a pass marks at this place
+abbrev pub marked_at : List ℕ → ℕ → ℕ
+marked_at marked place = slice_index_or marked place 0
 
 -- whoever asks for whatever, two ranks have the same answer
 abbrev pub AreSame : List (List ℕ) → List Grants → ℕ → ℕ → Type 0
@@ -61,18 +57,28 @@ AreSame rows grants rank other =
     → IsBoundOn rows (binds_by members grants u p) rank
     ↔ IsBoundOn rows (binds_by members grants u p) other
 
--- what is known of a rank is so: it leads nowhere, or has the same answer as a lesser one
-abbrev pub IsShortcut : List (List ℕ) → List Grants → ℕ → Shortcut → Type 0
-IsShortcut rows grants rank OwnGrants = edges rows rank ≡ []
-IsShortcut rows grants rank (SameAs other) = (other < rank) × AreSame rows grants rank other
-IsShortcut rows grants rank Absent = Unit {0}
+-- what is known of a rank is so: it leads nowhere, or has the same answer as a marked one, a lesser
+-- one or itself
+abbrev pub IsShortcut : List (List ℕ) → List Grants → List ℕ → ℕ → Shortcut → Type 0
+IsShortcut rows grants marked rank OwnGrants = edges rows rank ≡ []
+IsShortcut rows grants marked rank (Mark place) =
+    (place < length marked)
+    × (marked_at marked place ≤ rank)
+    × AreSame rows grants rank (marked_at marked place)
 
-abbrev pub AreShortcuts : List (List ℕ) → List Grants → List Shortcut → Type 0
-AreShortcuts rows grants shortcuts =
-    (rank : ℕ) → IsShortcut rows grants rank (shortcut_at shortcuts rank)
+-- the shortcuts of the ranks so far, and those of them that a pass marks, which ascend
+pub record AreShortcuts (rows : List (List ℕ)) (grants : List Grants)
+    (shortcuts : Shortcuts) : Type 0 where
+  pub each : (rank : ℕ) → rank < length shortcuts.of_ranks.items
+      → IsShortcut rows grants shortcuts.marked.items rank
+      (shortcut_at shortcuts.of_ranks.items rank)
+  pub low : (place : ℕ) → place < length shortcuts.marked.items
+      → marked_at shortcuts.marked.items place < length shortcuts.of_ranks.items
+  pub ascending : (place later : ℕ) → later < length shortcuts.marked.items → place ≤ later
+      → marked_at shortcuts.marked.items place ≤ marked_at shortcuts.marked.items later
 
 abbrev pub HasShortcuts : Ranked → Type 0
-HasShortcuts r = AreShortcuts r.rows.items r.grants.items r.shortcuts.items
+HasShortcuts r = AreShortcuts r.rows.items r.grants.items r.shortcuts
 
 -- the ranks, what stands at them, and the members of groups are those of the tables
 pub record AreRights (t : PolicyTables) (ranks : List (Option ℕ)) (ranked : Ranked) : Type 0 where
@@ -82,6 +88,7 @@ pub record AreRights (t : PolicyTables) (ranks : List (Option ℕ)) (ranked : Ra
   pub grants_are : AreGrants t places (length places) ranked.grants.items
   pub members_are : AreMembers t t.groups (length t.groups) ranked.members.items
   pub shortcuts_are : HasShortcuts ranked
+  pub shortcuts_count : length ranked.shortcuts.of_ranks.items ≡ length ranked.rows.items
   pub few : length t.realms ≤ 65536
 
 -- Marked ranks are reached from the start. Each is still to come, or isn't bound and leads to marked
@@ -94,31 +101,30 @@ pub record IsLooked (rows : List (List ℕ)) (bound : ℕ → Bool) (start left 
       → (q < left)
       ⊎ ((bound q ≡ false) × ((r : ℕ) → has r (edges rows q) ≡ true → is_marked marks r ≡ true))
 
--- the rank's own grants tell its answer
-abbrev pub is_own : Shortcut → Bool
-is_own OwnGrants = true
-is_own (SameAs other) = false
-is_own Absent = false
-
--- the mark is the rank's answer, unless its own grants tell it
+-- the mark is the rank's answer
 abbrev pub IsMark : Ranked → ℕ → Permission → ℕ → Bool → Type 0
-IsMark r u p rank mark =
-    is_own (shortcut_at r.shortcuts.items rank) ≡ false
-    → (mark ≡ true) ↔ IsBoundOn r.rows.items (binds_user r u p) rank
+IsMark r u p rank mark = (mark ≡ true) ↔ IsBoundOn r.rows.items (binds_user r u p) rank
 
--- what a pass found of the groups, and of the ranks to which it came
+-- what a pass found of the groups, and of the marked ranks to which it came
 pub record IsPass (r : Ranked) (u : ℕ) (p : Permission) (pass : Pass) : Type 0 where
   pub groups : AreGroupsOf r.members.items u pass.groups.items
-  pub marks : (rank : ℕ) → rank < length pass.marks.items
-      → IsMark r u p rank (is_marked pass.marks.items rank)
+  pub marks : (place : ℕ) → place < length pass.marks.items
+      → IsMark r u p (marked_at r.shortcuts.marked.items place)
+      (is_marked pass.marks.items place)
 
--- the pass came to all of these ranks
-abbrev pub AllCome : Pass → List ℕ → Type 0
-AllCome pass ranks = (q : ℕ) → has q ranks ≡ true → q < length pass.marks.items
+-- the pass came to the marked ranks up to this rank
+abbrev pub HasCome : Ranked → Pass → ℕ → Type 0
+HasCome r pass rank =
+    (rank < length r.shortcuts.of_ranks.items)
+    × ((place : ℕ) → place < length r.shortcuts.marked.items
+    → marked_at r.shortcuts.marked.items place ≤ rank → place < length pass.marks.items)
 
--- a pass over all ranks of the tables
+abbrev pub AllCome : Ranked → Pass → List ℕ → Type 0
+AllCome r pass ranks = (q : ℕ) → has q ranks ≡ true → HasCome r pass q
+
+-- a pass over all marked ranks of the tables
 pub record IsPassed (t : PolicyTables) (u : ℕ) (p : Permission) (ranks : List (Option ℕ))
     (ranked : Ranked) (pass : Pass) : Type 0 where
   pub rights : AreRights t ranks ranked
   pub pass_is : IsPass ranked u p pass
-  pub all : length pass.marks.items ≡ length ranked.grants.items
+  pub all : length pass.marks.items ≡ length ranked.shortcuts.marked.items

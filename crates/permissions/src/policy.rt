@@ -182,9 +182,9 @@ impl Policy {
         own || root
     }
 
-    /// In which realms the caller has the permission, for many asks: one pass over the realms, the
-    /// realms that they extend, and their bindings. `Err` where there is no memory, a byte and some
-    /// bits for each realm.
+    /// In which realms the caller has the permission, for many asks: one pass over the groups and
+    /// the realms, but for realms that have the answer of another one, or that neither extend one
+    /// nor are extended. `Err` where there is no memory, a byte for each that the pass comes to.
     pub fn granted(
         &self,
         alloc: Global,

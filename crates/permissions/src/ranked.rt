@@ -2,21 +2,21 @@
 //!
 //! A chain of tens of thousands of realms, each with bindings of its own, has rows of permissions
 //! that no memory holds. So each realm keeps its own grants alone. An ask for one realm goes down
-//! over the ranks that it reaches. An ask for all goes up over the ranks once, and leaves those
-//! whose own grants tell all to whoever asks for them.
+//! over the ranks that it reaches. An ask for all goes up once over those that have marks of their
+//! own, and leaves those whose own grants tell all to whoever asks for them.
 ghost use Rattle.std.specs.Prelude.{◌≡◌, ◌<◌, ◌≤◌, ◌↔◌, ◌==◌, ◌||◌, ℕ, true, false, IfOk, length, unwrap_or};
 ghost use Rattle.std.specs.List.{list_any};
 ghost use Rattle.std.specs.Ordering.{nat_cmp};
 ghost use Rattle.std.specs.BTreeMap.{get};
-ghost use Rattle.permissions.specs.Graph.{has};
+ghost use Rattle.permissions.specs.Graph.{edges, has};
 ghost use Rattle.permissions.specs.Ranks.{IsFalling, IsBoundOn, IsOneBoundOn};
-ghost use Rattle.permissions.specs.Rights.{is_marked, AllCome, AreGroupsOf, HasShortcuts, IsMark, IsPass, gives_user, grants_user, binds_user};
+ghost use Rattle.permissions.specs.Rights.{is_marked, AllCome, AreGroupsOf, HasCome, HasShortcuts, IsMark, IsPass, gives_user, grants_user, binds_user};
 
 use crate::grants::{Grants, GroupGrant};
 use crate::graph::edges_of;
 use crate::masks::is_in;
 use crate::members::{Members, has_member};
-use crate::shortcuts::{Shortcut, shortcut_at};
+use crate::shortcuts::{Shortcut, Shortcuts, shortcut_at};
 use policy_checks::Permission;
 use policy_tables::Listed;
 use std::alloc::{AllocError, Global};
@@ -28,7 +28,7 @@ pub(crate) struct Ranked {
     pub(crate) rows: Vec<Listed<usize>>,
     pub(crate) grants: Vec<Grants>,
     pub(crate) members: Vec<Members>,
-    pub(crate) shortcuts: Vec<Shortcut>,
+    pub(crate) shortcuts: Shortcuts,
 }
 
 /// What is asked: whether a user has a permission.
@@ -38,8 +38,8 @@ pub(crate) struct Ask {
     pub(crate) permission: Permission,
 }
 
-/// What is found for an ask of all ranks: the user's groups, and by rank whether it, or one that it
-/// leads to, gives what is asked, but where its own grants tell.
+/// What is found for an ask of all ranks: the user's groups, and of each rank with a mark of its
+/// own whether it, or one that it leads to, gives what is asked.
 #[derive(Drop)]
 pub(crate) struct Pass {
     pub(crate) groups: Vec<bool>,
@@ -196,15 +196,13 @@ impl Ranked {
     pub(crate) fn is_bound(&self, pass: &Pass, rank: usize, ask: Ask) -> bool
         requires pass { IsPass self.now ask.user ask.permission pass.now }
         requires shortcuts { HasShortcuts self.now }
-        requires rank { rank < length pass.now.marks.items }
+        requires come { HasCome self.now pass.now rank }
         ensures { (result ≡ true) ↔ IsBoundOn self.now.rows.items
             (binds_user self.now ask.user ask.permission) rank }
     {
-        let mark = mark_at(pass.marks.as_slice(), rank);
-        match shortcut_at(self.shortcuts.as_slice(), rank) {
+        match shortcut_at(self.shortcuts.of_ranks.as_slice(), rank) {
             Shortcut::OwnGrants => self.gives_at(pass.groups.as_slice(), rank, ask),
-            Shortcut::SameAs(_) => mark,
-            Shortcut::Absent => mark,
+            Shortcut::Mark(place) => mark_at(pass.marks.as_slice(), place),
         }
     }
 
@@ -212,7 +210,7 @@ impl Ranked {
     fn is_one_bound(&self, pass: &Pass, ranks: &[usize], ask: Ask) -> bool
         requires pass { IsPass self.now ask.user ask.permission pass.now }
         requires shortcuts { HasShortcuts self.now }
-        requires ranks { AllCome pass.now ranks.now }
+        requires come { AllCome self.now pass.now ranks.now }
         ensures { (result ≡ true) ↔ IsOneBoundOn self.now.rows.items
             (binds_user self.now ask.user ask.permission) ranks.now }
     {
@@ -224,37 +222,30 @@ impl Ranked {
         false
     }
 
-    /// The mark of the next rank of a pass.
-    fn next_mark(&self, pass: &Pass, rank: usize, ask: Ask) -> bool
-        requires falling { IsFalling self.now.rows.items }
+    /// The mark of a rank, where a pass came to all that it leads to.
+    fn mark_of(&self, pass: &Pass, rank: usize, ask: Ask) -> bool
         requires pass { IsPass self.now ask.user ask.permission pass.now }
         requires shortcuts { HasShortcuts self.now }
-        requires rank { length pass.now.marks.items ≡ rank }
+        requires come { AllCome self.now pass.now (edges self.now.rows.items rank) }
         ensures { IsMark self.now ask.user ask.permission rank result }
     {
-        match shortcut_at(self.shortcuts.as_slice(), rank) {
-            Shortcut::OwnGrants => false,
-            Shortcut::SameAs(other) => self.is_bound(pass, other as usize, ask),
-            Shortcut::Absent => {
-                self.is_one_bound(pass, edges_of(self.rows.as_slice(), rank), ask)
-                    || self.gives_at(pass.groups.as_slice(), rank, ask)
-            }
-        }
+        self.is_one_bound(pass, edges_of(self.rows.as_slice(), rank), ask)
+            || self.gives_at(pass.groups.as_slice(), rank, ask)
     }
 
-    /// One pass over the ranks: what a rank leads to comes before it.
+    /// One pass over the ranks with marks of their own: what a rank leads to comes before it.
     pub(crate) fn pass(&self, alloc: Global, ask: Ask) -> Result<Pass, AllocError>
         requires falling { IsFalling self.now.rows.items }
         requires shortcuts { HasShortcuts self.now }
         ensures pass { IfOk result (IsPass self.now ask.user ask.permission) }
         ensures all { IfOk result
-            (λ pass. length pass.marks.items ≡ length self.now.grants.items) }
+            (λ pass. length pass.marks.items ≡ length self.now.shortcuts.marked.items) }
     {
         let groups = self.groups_of(alloc, ask.user)?;
         let marks = Vec::new(alloc);
         let mut pass = Pass { groups, marks };
-        for rank in 0..self.grants.len() {
-            let mark = self.next_mark(&pass, rank, ask);
+        for rank in self.shortcuts.marked.as_slice() {
+            let mark = self.mark_of(&pass, *rank, ask);
             pass.marks.push(mark)?;
         }
         Ok(pass)

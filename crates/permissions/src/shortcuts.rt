@@ -1,10 +1,9 @@
 //! What is known of ranks before anybody asks, so that an ask needn't go over what they lead to.
-ghost use Rattle.std.specs.Prelude.{◌≡◌, ◌<◌, ◌⊎◌, ℕ, false, IfOk, IsTrue, List, length};
+ghost use Rattle.std.specs.Prelude.{◌≡◌, ℕ, false, IfOk, IfSome, IsTrue, List, length};
 ghost use Rattle.policy_checks.specs.declared.permission.Permission.{Permission as PermissionOf};
 ghost use Rattle.permissions.specs.declared.members.Members.{Members as MembersOf};
 ghost use Rattle.permissions.specs.Ranks.{IsFalling};
-ghost use Rattle.permissions.specs.Rights.{AreShortcuts, IsShortcut, binds_by, shortcut_at, teller_of};
-ghost use Rattle.permissions.specs.declared.shortcuts.Shortcut.TheVariants.{Absent, SameAs};
+ghost use Rattle.permissions.specs.Rights.{AreShortcuts, IsShortcut, binds_by, shortcut_at};
 
 use crate::grants::Grants;
 use crate::graph::edges_of;
@@ -17,10 +16,15 @@ use std::alloc::{AllocError, Global};
 pub(crate) enum Shortcut {
     /// Its own grants alone: it leads nowhere.
     OwnGrants,
-    /// Whether another one does, a lesser one.
-    SameAs(u32),
-    /// A pass over the ranks.
-    Absent,
+    /// The mark that a pass makes at this place: its own, or that of a lesser rank.
+    Mark(usize),
+}
+
+/// The shortcut of each rank, and the ranks with marks of their own, in their order.
+#[derive(Drop)]
+pub(crate) struct Shortcuts {
+    pub(crate) of_ranks: Vec<Shortcut>,
+    pub(crate) marked: Vec<usize>,
 }
 
 /// The shortcut of a rank.
@@ -29,7 +33,7 @@ pub(crate) fn shortcut_at(shortcuts: &[Shortcut], rank: usize) -> Shortcut
 {
     match shortcuts.get(rank) {
         Some(shortcut) => *shortcut,
-        None => Shortcut::Absent,
+        None => Shortcut::OwnGrants,
     }
 }
 
@@ -56,39 +60,30 @@ fn gives_nothing(grants: &[Grants], rank: usize) -> bool
     }
 }
 
-/// The shortcut to another rank, or to the one that tells of that.
-fn same_as(shortcuts: &[Shortcut], rank: usize) -> Shortcut
-    ensures { (result ≡ Absent) ⊎ (result ≡ SameAs (teller_of shortcuts.now rank)) }
-{
-    if let Shortcut::SameAs(other) = shortcut_at(shortcuts, rank) {
-        return Shortcut::SameAs(other);
-    }
-    match u32::try_from(rank) {
-        Ok(other) => Shortcut::SameAs(other),
-        Err(_) => Shortcut::Absent,
-    }
-}
-
-/// The shortcut of the next rank. One that grants nothing and leads to one other is as that one.
+/// The shortcut of the next rank, where it needs no mark of its own. One that grants nothing and
+/// leads to one other is as that one.
 fn next_shortcut(
     rows: &[Listed<usize>],
     grants: &[Grants],
-    shortcuts: &[Shortcut],
+    shortcuts: &Shortcuts,
     is_led_to: bool,
-) -> Shortcut
+) -> Option<Shortcut>
     requires falling { IsFalling rows.now }
     requires shortcuts { AreShortcuts rows.now grants.now shortcuts.now }
-    ensures { IsShortcut rows.now grants.now (length shortcuts.now) result }
+    ensures { IfSome result (IsShortcut rows.now grants.now shortcuts.now.marked.items
+        (length shortcuts.now.of_ranks.items)) }
 {
-    let rank = shortcuts.len();
+    let rank = shortcuts.of_ranks.len();
     let targets = edges_of(rows, rank);
     if targets.is_empty() && !is_led_to {
-        return Shortcut::OwnGrants;
+        return Some(Shortcut::OwnGrants);
     }
     if targets.len() == 1 && gives_nothing(grants, rank) {
-        return same_as(shortcuts, targets[0]);
+        if let Shortcut::Mark(place) = shortcut_at(shortcuts.of_ranks.as_slice(), targets[0]) {
+            return Some(Shortcut::Mark(place));
+        }
     }
-    Shortcut::Absent
+    None
 }
 
 /// The shortcuts of all ranks.
@@ -96,16 +91,27 @@ pub(crate) fn all_shortcuts(
     alloc: Global,
     rows: &[Listed<usize>],
     grants: &[Grants],
-) -> Result<Vec<Shortcut>, AllocError>
+) -> Result<Shortcuts, AllocError>
     requires { IsFalling rows.now }
-    ensures { IfOk result (λ shortcuts. AreShortcuts rows.now grants.now shortcuts.items) }
+    ensures are { IfOk result (AreShortcuts rows.now grants.now) }
+    ensures count { IfOk result
+        (λ shortcuts. length shortcuts.of_ranks.items ≡ length rows.now) }
 {
     let led = led_to(alloc, rows)?;
-    let mut shortcuts = Vec::new(alloc);
+    let mut shortcuts = Shortcuts {
+        of_ranks: Vec::new(alloc),
+        marked: Vec::new(alloc),
+    };
     for rank in 0..rows.len() {
         let is_led_to = mark_at(led.as_slice(), rank);
-        let next = next_shortcut(rows, grants, shortcuts.as_slice(), is_led_to);
-        shortcuts.push(next)?;
+        match next_shortcut(rows, grants, &shortcuts, is_led_to) {
+            Some(known) => shortcuts.of_ranks.push(known)?,
+            None => {
+                let place = shortcuts.marked.len();
+                shortcuts.of_ranks.push(Shortcut::Mark(place))?;
+                shortcuts.marked.push(rank)?;
+            }
+        }
     }
     Ok(shortcuts)
 }

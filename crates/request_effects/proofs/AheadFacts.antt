@@ -1,8 +1,7 @@
 -- What an effect leaves of the row that it is about.
-use Rattle.std.proofs.Common.{◌≡◌, ◌≢◌, ◌<◌, ◌+◌, ◌++◌, ℕ, zero, suc, ℤ, Bool, true, false, IsTrue, List, [], ◌∷◌, length, take, get_or, Option, Some, None, option_map, nat_eq, unwrap_or, refl, sym, ap, ◌∙◌, subst, inl, inr, arith, add-one}
+use Rattle.std.proofs.Common.{◌≡◌, ◌≢◌, ◌<◌, ◌+◌, ◌++◌, ℕ, zero, suc, ℤ, Bool, true, false, IsTrue, List, [], ◌∷◌, length, take, get_or, Option, Some, None, option_map, nat_eq, refl, sym, ap, ◌∙◌, subst, inl, inr, arith, add-one}
 use Rattle.std.specs.Prelude.{◌↔◌, slice_get}
 use Rattle.std.specs.List.{All, cons_option, filter_map}
-use Rattle.std.specs.Option.{ForSome}
 use Rattle.std.proofs.Math.Seq.{take-suc}
 use Rattle.std.proofs.lemmas.Bool.{cases_Bool, cond-false}
 use Rattle.std.proofs.lemmas.List.Elements.{All-head, All-tail, filter_map-append}
@@ -15,24 +14,21 @@ use Rattle.inclusion_graph.proofs.EdgeLemmas.{eqb_other}
 use Rattle.invocations.specs.declared.invocation.Invocation.{Invocation}
 use Rattle.invocations.specs.Rows.{IsInState, begun, ended, ids_of, with_changed}
 use Rattle.invocations.proofs.RowLemmas.{at_end, ids_stay}
-use Rattle.policy_checks.specs.Checks.{is_name}
 use Rattle.update_tokens.specs.Hash.{token_text}
 use Rattle.request_rules.specs.Settings.{Settings, secret_of}
 use Rattle.request_rules.specs.Understood.{token_for}
 use Rattle.message_forms.specs.declared.replies.Reply.TheVariants as reply
-use Rattle.message_forms.specs.Shown.{InvocationShown, IsShowableInvocation}
-use Rattle.message_forms.specs.Users.{is_user_name}
-use Rattle.message_forms.proofs.UserLaws.{row_is_showable}
-use Rattle.invocation_world.specs.World.{World, IsInclusion, IsPair, IsRow, IsValid, ReachesActive, with_row}
+use Rattle.message_forms.specs.Shown.{InvocationShown}
+use Rattle.invocation_world.specs.World.{World, IsInclusion, ReachesActive, with_row}
 use Rattle.invocation_world.specs.Settling.{Settles, SettlesRows}
 use Rattle.invocation_world.specs.Changes.{updated, with_begun, with_update}
-use Rattle.invocation_world.proofs.RowFacts.{active≢finalizing, all_at, changed_here, row_in, same_lists}
+use Rattle.invocation_world.proofs.RowFacts.{active≢finalizing, changed_here, row_in, same_lists}
 use Rattle.invocation_world.proofs.SettleFacts.{begun_here, ended_or_same, row_stays}
 use Rattle.request_effects.specs.declared.effect.Effect.{Effect}
 use Rattle.request_effects.specs.declared.effect.Effect.TheVariants as does
 use Rattle.request_effects.specs.Effects.{Does}
 use Rattle.request_effects.specs.Fitting.{IsTimely, Suits}
-use Rattle.request_effects.specs.Foreseen.{IsFinalTold, IsFormed, IsHere, ended_if}
+use Rattle.request_effects.specs.Foreseen.{IsFinalTold, IsHere, ended_if}
 use Rattle.request_effects.specs.Shows.{ids_at, reply_at, shown_with, token_at}
 use Rattle.request_effects.proofs.EffectLaws.{stays_same, update_here}
 use Rattle.request_effects.proofs.PlaceFacts.{id_at, id_same}
@@ -220,51 +216,7 @@ module _ (w : World) (moment : ℤ) (effect : Effect) (after : World) (place : �
       let settles : Settles moment (with_begun moment at w) after = subst (λ (e : Effect). Does moment e w after) is acts in
       includes_as targets settles.inclusions (end_ids moment at w after settles) targets_are
 
--- ---- what is seen is formed
-
-formed_row : (last : ℤ) (row : Invocation) → IsRow last row → IsFormed row
-formed_row last row is = record { creator = is.creator; tags = is.tags }
-
-pub formed_at : (w : World) (place : ℕ) (row seen : Invocation) → IsValid w → slice_get w.invocations place ≡ Some row → seen ≡ row
-    → IsFormed seen
-formed_at w place row seen valid here is =
-    subst IsFormed (sym is) (formed_row w.last row (all_at (IsRow w.last) w.invocations place row valid.rows here))
-
-pub formed_added : (w : World) (moment : ℤ) (effect : Effect) (row seen : Invocation) → effect ≡ does.Add row → Suits w moment effect → seen ≡ row
-    → IsFormed seen
-formed_added w moment effect row seen is may seen_is =
-    let new = subst (Suits w moment) is may in subst IsFormed (sym seen_is) (formed_row moment row new.is_row)
-
-tags_given : (tags : Option (List Pair)) (stand : List Pair) → All IsPair stand → ForSome tags (All IsPair) → All IsPair (unwrap_or tags stand)
-tags_given None stand are given = are
-tags_given (Some tags) stand are given = given tags refl
-
-pub formed_updated : (w : World) (moment : ℤ) (effect : Effect) (at place : ℕ) (deadline : Option ℤ) (tags : Option (List Pair))
-    (row seen : Invocation) → effect ≡ does.Update at deadline tags → Suits w moment effect → IsValid w
-    → slice_get w.invocations place ≡ Some row → seen ≡ updated deadline tags row → IsFormed seen
-formed_updated w moment effect at place deadline tags row seen is may valid here seen_is =
-    let new = subst (Suits w moment) is may in
-    let formed = formed_at w place row row valid here refl in
-    subst IsFormed (sym seen_is) (record { creator = formed.creator; tags = tags_given tags row.tags formed.tags new.pairs })
-
-formed_if : (is_final : Bool) (moment : ℤ) (row : Invocation) → IsFormed row → IsFormed (ended_if is_final moment (begun moment row))
-formed_if true moment row formed = record { creator = formed.creator; tags = formed.tags }
-formed_if false moment row formed = record { creator = formed.creator; tags = formed.tags }
-
-pub formed_ended : (w : World) (moment : ℤ) (place : ℕ) (row seen : Invocation) (is_final : Bool) → IsValid w
-    → slice_get w.invocations place ≡ Some row → seen ≡ ended_if is_final moment (begun moment row) → IsFormed seen
-formed_ended w moment place row seen is_final valid here is =
-    subst IsFormed (sym is) (formed_if is_final moment row (formed_at w place row row valid here refl))
-
--- a row that is formed can be shown
-user_name_is : (name : List ℕ) → is_name name ≡ true → is_user_name name ≡ true
-user_name_is [] is = is
-user_name_is (b ∷ bs) is = is
-
-pub can_show : (row : Invocation) (included : List (List ℕ)) (s : InvocationShown) → IsFormed row → s ≡ shown_with row included
-    → IsShowableInvocation s
-can_show row included s formed is =
-    subst IsShowableInvocation (sym is) (row_is_showable (shown_with row included) (user_name_is row.creator formed.creator) formed.tags)
+-- ---- what is shown
 
 -- the row at a place as it will be, and the ids of what it will include, are what is shown of it
 pub shown_so : (w after : World) (place : ℕ) (seen : Invocation) (targets : List ℕ) (ids : List (List ℕ)) (s : InvocationShown)

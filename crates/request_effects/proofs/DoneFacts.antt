@@ -127,20 +127,22 @@ roomless held moment name request shape e timely safe request_is is room =
     fits_as held.world held moment (effect_of held.world moment name request) e refl timely (suits held.world moment name request timely safe)
     (is ∙ ap (effect_of held.world moment name) (sym request_is)) (subst (HasRoom held) (sym is) room)
 
-pub update_ready : (held : WorldState) (moment : ℤ) (name : List ℕ) (request : Request) (q : UpdateInvocation) (e : Effect)
+pub update_ready : (held : WorldState) (moment : ℤ) (name : List ℕ) (request : Request) (q : UpdateInvocation) (e : Effect) (place : Option ℕ)
     → IsTimely held.world moment → IsSafe held.world moment name request → request ≡ asks.UpdateInvocation q
-    → e ≡ update_at held.world.invocations q.deadline q.tags (place_named held.world.invocations q.id)
+    → e ≡ update_at held.world.invocations q.deadline q.tags place → place ≡ place_named held.world.invocations q.id
     → IsPlanned held moment (effect_of held.world moment name request) (planned.Ready e)
-update_ready held moment name request q e timely safe request_is is =
-    roomless held moment name request (asks.UpdateInvocation q) e timely safe request_is is
+update_ready held moment name request q e place timely safe request_is is place_is =
+    roomless held moment name request (asks.UpdateInvocation q) e timely safe request_is
+    (is ∙ ap (update_at held.world.invocations q.deadline q.tags) place_is)
     (update_has_room held held.world.invocations q.deadline q.tags (place_named held.world.invocations q.id))
 
-pub end_ready : (held : WorldState) (moment : ℤ) (name : List ℕ) (request : Request) (q : FinalizeInvocation) (e : Effect)
+pub end_ready : (held : WorldState) (moment : ℤ) (name : List ℕ) (request : Request) (q : FinalizeInvocation) (e : Effect) (place : Option ℕ)
     → IsTimely held.world moment → IsSafe held.world moment name request → request ≡ asks.FinalizeInvocation q
-    → e ≡ end_at held.world.invocations (place_named held.world.invocations q.id)
+    → e ≡ end_at held.world.invocations place → place ≡ place_named held.world.invocations q.id
     → IsPlanned held moment (effect_of held.world moment name request) (planned.Ready e)
-end_ready held moment name request q e timely safe request_is is =
-    roomless held moment name request (asks.FinalizeInvocation q) e timely safe request_is is
+end_ready held moment name request q e place timely safe request_is is place_is =
+    roomless held moment name request (asks.FinalizeInvocation q) e timely safe request_is
+    (is ∙ ap (end_at held.world.invocations) place_is)
     (end_has_room held held.world.invocations (place_named held.world.invocations q.id))
 
 -- ---- a new row

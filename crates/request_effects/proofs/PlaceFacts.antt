@@ -8,8 +8,11 @@ use Rattle.inclusion_graph.proofs.EdgeLemmas.{in_rest}
 use Rattle.invocations.specs.declared.invocation.Invocation.{Invocation}
 use Rattle.invocations.specs.Rows.{HasId, ids_of}
 use Rattle.invocation_world.proofs.RowFacts.{stands}
-use Rattle.request_rules.specs.Named.{place_named, places_named}
-use Rattle.request_rules.proofs.PlaceLaws.{place-within, place_holds, place_there}
+use Rattle.message_forms.specs.declared.requests.Request.{Request}
+use Rattle.request_rules.specs.Demands.{demand_of}
+use Rattle.request_rules.specs.Locating.{Located, located}
+use Rattle.request_rules.specs.Named.{all_found, first_place, place_named, places_in, places_named}
+use Rattle.request_rules.proofs.PlaceLaws.{found_named, place-within, place_holds, place_there}
 
 -- an id that a row has is placed
 pub named_there : (rows : List Invocation) (id : List ℕ) → HasId rows id → None ≡ place_named rows id → ⊥
@@ -64,9 +67,20 @@ places_elsewhere rows including place ids at not = all_placed (λ target. target
     let is : id ≡ including = same_Some id including (sym here ∙ place_holds including (ids_of rows) place at) in
     not (subst (Contains ids) is held))
 
--- what is found in a table that has these rows stands among them
-pub named_within : (table rows : List Invocation) (id : List ℕ) (found : Option ℕ) → table ≡ rows → found ≡ place_named table id
-    → IfSome found (λ place. place < length rows)
-named_within table rows id None same is = tt
-named_within table rows id (Some place) same is =
-    place-within rows id place (sym (ap (λ (xs : List Invocation). place_named xs id) same) ∙ sym is)
+-- where the invocations stand that a request demands, the first place is that of the first one
+pub first_named : (l : Located) (rows : List Invocation) (request shape : Request) (place : Option ℕ) → l ≡ located rows (demand_of request)
+    → request ≡ shape → place ≡ first_place l.named → place ≡ first_place (places_in rows (demand_of shape).named)
+first_named l rows request shape place are is first =
+    first ∙ ap (λ (x : Located). first_place x.named) (are ∙ ap (λ (q : Request). located rows (demand_of q)) is)
+
+pub first_within : (rows : List Invocation) (id : List ℕ) (place : Option ℕ) → place ≡ place_named rows id
+    → IfSome place (λ at. at < length rows)
+first_within rows id None is = tt
+first_within rows id (Some at) is = place-within rows id at (sym is)
+
+-- and those that are found of the ones to be included are theirs
+pub targets_named : (l : Located) (rows : List Invocation) (request shape : Request) (targets : List ℕ) → l ≡ located rows (demand_of request)
+    → request ≡ shape → targets ≡ all_found l.included → targets ≡ places_named rows (demand_of shape).included
+targets_named l rows request shape targets are is all =
+    all ∙ (ap (λ (x : Located). all_found x.included) (are ∙ ap (λ (q : Request). located rows (demand_of q)) is)
+    ∙ found_named rows (demand_of shape).included)

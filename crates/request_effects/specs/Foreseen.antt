@@ -1,9 +1,8 @@
 -- The code's own words: what an effect will leave of the invocation that it is about.
-use Rattle.std.specs.Prelude.{⊤, ◌≡◌, ◌<◌, ◌↔◌, ℕ, ℤ, Bool, true, false, IsTrue, All, length}
-use Rattle.policy_checks.specs.Checks.{is_name}
+use Rattle.std.specs.Prelude.{⊤, ◌≡◌, ◌<◌, ◌↔◌, ℕ, ℤ, Bool, true, false, IsTrue, length}
 use Rattle.invocations.specs.declared.invocation.Invocation.{Invocation}
 use Rattle.invocations.specs.Rows.{ended}
-use Rattle.invocation_world.specs.World.{World, IsPair, ReachesActive}
+use Rattle.invocation_world.specs.World.{World, ReachesActive}
 use Rattle.invocation_world.specs.Changes.{with_begun}
 use Rattle.request_effects.specs.declared.ahead.Ahead.{Ahead}
 use Rattle.request_effects.specs.declared.effect.Effect.{Effect}
@@ -51,8 +50,3 @@ pub record Foresees (a : Ahead) : Type 0 where
 
 abbrev pub Leaves : Ahead → World → Type 0
 Leaves a after = Does a.moment a.effect.now a.world.now.world after
-
--- What a row shows can be written: its creator's name and its tags are of their forms.
-pub record IsFormed (row : Invocation) : Type 0 where
-  pub creator : is_name row.creator ≡ true
-  pub tags : All IsPair row.tags

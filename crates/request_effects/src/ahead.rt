@@ -5,7 +5,7 @@ ghost use Rattle.invocations.specs.Rows.{begun};
 ghost use Rattle.invocation_world.specs.World.{World};
 ghost use Rattle.invocation_world.specs.Changes.{updated};
 ghost use Rattle.request_effects.specs.Fitting.{Suits};
-ghost use Rattle.request_effects.specs.Foreseen.{Foresees, IsFinalTold, IsFormed, IsHere, Leaves, ended_if};
+ghost use Rattle.request_effects.specs.Foreseen.{Foresees, IsFinalTold, IsHere, Leaves, ended_if};
 ghost use Rattle.invocation_world.specs.States.{IsRoomier};
 ghost use Rattle.request_effects.specs.Shows.{ids_at};
 
@@ -120,8 +120,7 @@ impl<'r> Ahead<'r> {
     pub(crate) fn row(&self, place: u32) -> Seen<'r>
         requires foresees { Foresees self.now }
         requires here { IsHere self.now.world.now.world self.now.effect.now place }
-        ensures formed { IsFormed result }
-        ensures stands { (after : World) → Leaves self.now after
+        ensures { (after : World) → Leaves self.now after
             → slice_get after.invocations place ≡ Some result }
     {
         match self.effect {

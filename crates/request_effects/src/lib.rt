@@ -15,6 +15,6 @@ pub use doing::carry_out;
 pub use effect::{Change, Effect};
 pub use full::FullTable;
 pub use laws::{effects_are_changes, effects_keep_valid};
-pub use planning::{Planned, plan_change};
+pub use planning::{Context, Planned, plan_change};
 pub use showing::show;
 pub use shows::{Shows, shows_of};

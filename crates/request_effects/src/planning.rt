@@ -2,7 +2,8 @@
 ghost use Rattle.std.specs.Prelude.{◌≡◌, ◌≢◌, ◌<◌, Some, All, IfOk, IfSome, length};
 ghost use Rattle.invocations.specs.Rows.{IsInState};
 ghost use Rattle.invocation_world.specs.World.{IsValid};
-ghost use Rattle.request_rules.specs.Named.{place_named};
+ghost use Rattle.request_rules.specs.Demands.{demand_of};
+ghost use Rattle.request_rules.specs.Locating.{located};
 ghost use Rattle.request_effects.specs.Effects.{effect_of, end_at, include_of, update_at};
 ghost use Rattle.request_effects.specs.Fitting.{IsTimely};
 ghost use Rattle.invocation_world.specs.States.{IsRoomier};
@@ -15,9 +16,9 @@ use inclusion_graph::{EdgeFault, EdgePlan};
 use invocation_world::InvocationWorld;
 use invocations::AddFault;
 use lists::Listed;
-use message_forms::{CreateInvocation, Request, UpdateIncludedInvocations, UpdateInvocation};
-use names_realms::{InvocationId, Moment, Pair, State};
-use request_rules::{place_of, places_of};
+use message_forms::{CreateInvocation, Request, UpdateInvocation};
+use names_realms::{Moment, Pair, State};
+use request_rules::Located;
 use std::alloc::{AllocError, Global};
 
 /// What a request is planned to.
@@ -29,12 +30,13 @@ pub enum Planned {
     Ready(Effect),
 }
 
-/// The place of the invocation with this id, if it is there.
-fn place_in(world: &InvocationWorld, id: &InvocationId) -> Option<u32>
-    ensures place { result ≡ place_named world.now.world.invocations id.now }
-    ensures within { IfSome result (λ place. place < length world.now.world.invocations) }
-{
-    place_of(world.table(), id)
+/// When a request is planned, for a caller of which name, and where the invocations stand that it
+/// names.
+#[derive(Clone, Copy)]
+pub struct Context<'r> {
+    pub moment: Moment,
+    pub name: &'r [u8],
+    pub located: &'r Located,
 }
 
 /// The update of the invocation at a place, if it changes anything.
@@ -73,28 +75,31 @@ fn end_at(world: &InvocationWorld, place: u32) -> Effect
     }
 }
 
-/// The update that a request asks for, if it changes anything. `Err` where there is no memory.
+/// The update that a request asks for of the invocation at this place, if there is one and it
+/// changes anything. `Err` where there is no memory.
 fn update_of(
     alloc: Global,
     world: &InvocationWorld,
+    place: Option<u32>,
     q: UpdateInvocation,
 ) -> Result<Effect, AllocError>
+    requires { IfSome place (λ at. at < length world.now.world.invocations) }
     ensures { IfOk result (λ effect. effect ≡ update_at world.now.world.invocations
-        q.deadline q.tags (place_named world.now.world.invocations q.id)) }
+        q.deadline q.tags place) }
 {
     let tags = pairs_of(alloc, q.tags)?;
-    match place_in(world, &q.id) {
+    match place {
         Some(place) => Ok(update_at(world, place, q.deadline, tags)),
         None => Ok(Effect::Nothing),
     }
 }
 
-/// The end that a request asks for, if it changes anything.
-fn end_of(world: &InvocationWorld, id: &InvocationId) -> Effect
-    ensures { result ≡ end_at world.now.world.invocations
-        (place_named world.now.world.invocations id.now) }
+/// The end of the invocation at this place, if there is one and it is active.
+fn end_of(world: &InvocationWorld, place: Option<u32>) -> Effect
+    requires { IfSome place (λ at. at < length world.now.world.invocations) }
+    ensures { result ≡ end_at world.now.world.invocations place }
 {
-    match place_in(world, id) {
+    match place {
         Some(place) => end_at(world, place),
         None => Effect::Nothing,
     }
@@ -155,47 +160,34 @@ fn plan_edges(
     }
 }
 
-/// Plans the inclusions that a request asks for.
-fn plan_inclusions(
-    alloc: Global,
-    world: &mut InvocationWorld,
-    moment: Moment,
-    name: &[u8],
-    q: UpdateIncludedInvocations,
-) -> Result<Planned, AllocError>
-    requires timely { IsTimely world.old.world moment }
-    requires safe { IsSafe world.old.world moment name.now (Request.UpdateIncludedInvocations q) }
-    ensures roomier { IsRoomier world.old world.new }
-    ensures planned { IfOk result (IsPlanned world.new moment
-        (effect_of world.old.world moment name.now (Request.UpdateIncludedInvocations q))) }
-{
-    let Some(place) = place_in(world, &q.including) else {
-        return Ok(Planned::Ready(Effect::Nothing));
-    };
-    let targets = places_of(alloc, world.table(), q.add.as_slice())?;
-    plan_edges(alloc, world, place, targets.as_slice())
-}
-
 /// Plans what a request does that a caller of this name asks for at this moment, with all the room
 /// that it takes. Nothing is changed. `Err` where there is no memory.
 pub fn plan_change(
     alloc: Global,
     world: &mut InvocationWorld,
-    moment: Moment,
-    name: &[u8],
+    context: &Context,
     request: Request,
 ) -> Result<Planned, AllocError>
-    requires timely { IsTimely world.old.world moment }
-    requires safe { IsSafe world.old.world moment name.now request }
+    requires timely { IsTimely world.old.world context.now.moment }
+    requires safe { IsSafe world.old.world context.now.moment context.now.name.now request }
+    requires located { context.now.located.now
+        ≡ located world.old.world.invocations (demand_of request) }
     ensures roomier { IsRoomier world.old world.new }
-    ensures planned { IfOk result (IsPlanned world.new moment
-        (effect_of world.old.world moment name.now request)) }
+    ensures planned { IfOk result (IsPlanned world.new context.now.moment
+        (effect_of world.old.world context.now.moment context.now.name.now request)) }
 {
+    let first = context.located.first();
     match request {
-        Request::CreateInvocation(q) => plan_row(alloc, world, moment, name, q),
-        Request::UpdateInvocation(q) => Ok(Planned::Ready(update_of(alloc, world, q)?)),
-        Request::FinalizeInvocation(q) => Ok(Planned::Ready(end_of(world, &q.id))),
-        Request::UpdateIncludedInvocations(q) => { plan_inclusions(alloc, world, moment, name, q) }
+        Request::CreateInvocation(q) => plan_row(alloc, world, context.moment, context.name, q),
+        Request::UpdateInvocation(q) => Ok(Planned::Ready(update_of(alloc, world, first, q)?)),
+        Request::FinalizeInvocation(_) => Ok(Planned::Ready(end_of(world, first))),
+        Request::UpdateIncludedInvocations(_) => match first {
+            Some(place) => {
+                let targets = context.located.targets(alloc)?;
+                plan_edges(alloc, world, place, targets.as_slice())
+            }
+            None => Ok(Planned::Ready(Effect::Nothing)),
+        },
         Request::GetInvocation(_) => Ok(Planned::Ready(Effect::Nothing)),
     }
 }

@@ -1,7 +1,6 @@
 //! The answer that shows what a request leaves, written before anything is done.
 ghost use Rattle.std.specs.Prelude.{◌≡◌, ◌<◌, None, Some, All, IfOk, length, map, slice_get};
 ghost use Rattle.invocation_world.specs.World.{World};
-ghost use Rattle.message_forms.specs.Replies.{IsShowable};
 ghost use Rattle.request_effects.specs.Effects.{Does};
 ghost use Rattle.request_effects.specs.Fitting.{IsTimely, Suits};
 ghost use Rattle.request_effects.specs.Foreseen.{Foresees, IsHere, IsOwn, Leaves};
@@ -57,7 +56,6 @@ fn shown_with<'r, 'i>(seen: &Seen<'r>, included: &'r [&'i InvocationId]) -> Show
 /// The answer that a request succeeded, with this reply. `Err` where there is no memory for its
 /// text.
 fn done(alloc: Global, token: Option<[u8; 64]>, reply: &Reply) -> Result<Answer, AllocError>
-    requires { IsShowable reply.now }
     ensures { IfOk result (λ answer. answer ≡ done token reply.now) }
 {
     let body = write_reply(alloc, reply)?;

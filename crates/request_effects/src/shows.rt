@@ -1,12 +1,13 @@
 //! What a request shows, by places.
 ghost use Rattle.std.specs.Prelude.{◌≡◌};
 ghost use Rattle.request_effects.specs.Shows.{shows_of, shows_row};
-ghost use Rattle.request_rules.specs.Named.{place_named};
+ghost use Rattle.request_rules.specs.Demands.{demand_of};
+ghost use Rattle.request_rules.specs.Locating.{located};
+ghost use Rattle.request_rules.specs.Named.{first_place};
 
 use invocation_world::InvocationWorld;
 use message_forms::Request;
-use names_realms::InvocationId;
-use request_rules::place_of;
+use request_rules::Located;
 
 /// What is shown of the world that a request leaves. A place is that of an invocation in order of
 /// creation, counted from 0.
@@ -20,25 +21,27 @@ pub enum Shows {
     Made(u32),
 }
 
-/// The invocation with this id, if it is there.
-fn shows_named(world: &InvocationWorld, id: &InvocationId) -> Shows
-    ensures { result ≡ shows_row (place_named world.now.world.invocations id.now) }
+/// The invocation at a place, if there is one.
+fn shows_row(place: Option<u32>) -> Shows
+    ensures { result ≡ shows_row place }
 {
-    match place_of(world.table(), id) {
+    match place {
         Some(place) => Shows::Row(place),
         None => Shows::Empty,
     }
 }
 
-/// What a request shows.
-pub fn shows_of(world: &InvocationWorld, request: &Request) -> Shows
+/// What a request shows, where the invocations that it names stand at these places.
+pub fn shows_of(world: &InvocationWorld, places: &Located, request: &Request) -> Shows
+    requires { places.now ≡ located world.now.world.invocations (demand_of request.now) }
     ensures { result ≡ shows_of world.now.world request.now }
 {
+    let first = shows_row(places.first());
     match request {
         Request::CreateInvocation(_) => Shows::Made(world.count()),
-        Request::UpdateInvocation(q) => shows_named(world, &q.id),
-        Request::FinalizeInvocation(q) => shows_named(world, &q.id),
+        Request::UpdateInvocation(_) => first,
+        Request::FinalizeInvocation(_) => first,
         Request::UpdateIncludedInvocations(_) => Shows::Empty,
-        Request::GetInvocation(q) => shows_named(world, &q.id),
+        Request::GetInvocation(_) => first,
     }
 }

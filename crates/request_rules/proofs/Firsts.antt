@@ -1,5 +1,5 @@
 -- The first of a list, a step of a loop at a time.
-use Rattle.std.proofs.Common.{◌≡◌, ◌<◌, ◌≤◌, ◌+◌, ℕ, List, [], ◌∷◌, ◌++◌, length, drop, get_or, Option, Some, None, refl, sym, subst, inl, inr, add-one}
+use Rattle.std.proofs.Common.{◌≡◌, ◌<◌, ◌≤◌, ◌+◌, ℕ, zero, suc, List, [], ◌∷◌, ◌++◌, length, drop, get_or, Option, Some, None, refl, sym, subst, inl, inr, arith, add-one}
 use Rattle.std.proofs.Math.Seq.{drop-cons}
 use Rattle.std.proofs.lemmas.List.{drop_all}
 use Rattle.call_forms.specs.declared.forms.Refusal.{Refusal}
@@ -29,6 +29,10 @@ first_in_more Holds [] ys found none first = first
 first_in_more {A} Holds (z ∷ xs) ys found (inl this) first = let e : None ≡ Some z = this.1 in cc
 first_in_more Holds (z ∷ xs) ys found (inr this) first = inr (this.0, first_in_more Holds xs ys found this.1 first)
 
+pub first_of_same : {A : Type 0} → (Holds : A → Type 0) → (xs ys : List A) (found : Option A) → xs ≡ ys → FirstOf Holds xs found
+    → FirstOf Holds ys found
+first_of_same {A} Holds xs ys found same first = subst (λ (l : List A). FirstOf Holds l found) same first
+
 -- one stands first
 pub one_first : {A : Type 0} → (Holds : A → Type 0) → (xs : List A) (x y : A) → FirstOf Holds xs (Some x) → FirstOf Holds xs (Some y)
     → x ≡ y
@@ -43,6 +47,12 @@ one_first Holds (z ∷ zs) x y (inr this) (inr that) = one_first Holds zs x y th
 -- what is left of a list begins with the one at this place
 pub drop_at : {A : Type 0} → (xs : List A) (i : ℕ) (x : A) → i < length xs → drop i xs ≡ get_or xs i x ∷ drop (i + 1) xs
 drop_at xs i x lt = rw (add-one) (drop-cons xs i x lt)
+
+-- what stands at a place of a list, whatever else would be said there
+pub read_same : {A : Type 0} → (xs : List A) (i : ℕ) (x y : A) → i < length xs → get_or xs i x ≡ get_or xs i y
+read_same [] i x y lt = absurd (omega (arith, lt))
+read_same (z ∷ xs) zero x y lt = refl
+read_same (z ∷ xs) (suc i) x y lt = read_same xs i x y (omega (arith, lt))
 
 pub judged_here : {K : Type 0} → (Breaks : K → Refusal → Type 0) → (rules : List K) (i : ℕ) (k : K) (r : Refusal)
     → i < length rules → Breaks (get_or rules i k) r → Judges Breaks (drop i rules) (Some r)

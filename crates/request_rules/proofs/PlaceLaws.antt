@@ -1,18 +1,21 @@
 -- The places of the invocations that are named.
-use Rattle.std.proofs.Common.{◌≡◌, ◌<◌, ◌++◌, ℕ, suc, Bool, true, false, cond, List, [], ◌∷◌, length, Option, Some, None, option_map, refl, sym, ap, ◌∙◌, subst, inl, inr, zero, ◌+◌, take, get_or, add-one}
-use Rattle.std.specs.Prelude.{◌⊎◌, slice_get, Contains, MatchOption}
-use Rattle.std.specs.List.{cons_option}
+use Rattle.std.proofs.Common.{◌≡◌, ◌<◌, ◌++◌, ℕ, suc, Bool, true, false, cond, List, [], ◌∷◌, length, Option, Some, None, option_map, refl, sym, ap, ◌∙◌, subst, inl, inr, zero, ◌+◌, take, drop, get_or, add-one}
+use Rattle.std.specs.Prelude.{◌⊎◌, slice_get, Contains, IfSome, MatchOption, is_some}
+use Rattle.std.specs.List.{All, cons_option}
 use Rattle.std.proofs.Math.Seq.{take-suc}
-use Rattle.std.proofs.lemmas.List.Elements.{filter_map-append}
+use Rattle.std.proofs.lemmas.List.Elements.{All-cons, All-nil, filter_map-append}
 use Rattle.std.specs.Str.{bytes_eq}
 use Rattle.std.specs.Cmp.Lexicographic.{bytes_decides}
-use Rattle.std.proofs.lemmas.List.{length-map}
+use Rattle.std.proofs.lemmas.List.{get_or-map, length-map, map-append}
 use Rattle.std.proofs.lemmas.Option.{slice_get_within, get_or_from_slice_get}
 use Rattle.policy_checks.specs.Index.{place_of}
 use Rattle.policy_checks.proofs.PlaceLemmas.{place_step, place_of-within}
 use Rattle.invocations.specs.declared.invocation.Invocation.{Invocation}
 use Rattle.invocations.specs.Rows.{HasId, IsPlaceOf, IsTable, ids_of}
-use Rattle.request_rules.specs.Named.{named, place_named, places_named, row_at}
+use Rattle.request_rules.specs.Broken.{IsMissing}
+use Rattle.request_rules.specs.Order.{FirstOf}
+use Rattle.request_rules.proofs.Firsts.{drop_at}
+use Rattle.request_rules.specs.Named.{all_found, named, place_named, places_in, places_named, row_at}
 
 -- the place of a name has it
 pub place_holds : (x : List ℕ) (names : List (List ℕ)) (q : ℕ) → place_of x names ≡ Some q → slice_get names q ≡ Some x
@@ -80,17 +83,58 @@ row_found rows id place row at stands = sym (place-named rows id place (sym at) 
 pub place_of-has : (rows : List Invocation) (id : List ℕ) (place : ℕ) → IsPlaceOf rows id place → HasId rows id
 place_of-has rows id place is = slice_get-Contains (ids_of rows) place id is
 
--- the places of one more
-pub places_more : (rows : List Invocation) (ids : List (List ℕ)) (i : ℕ) (id : List ℕ) → i < length ids → get_or ids i id ≡ id
-    → places_named rows (take (i + 1) ids) ≡ places_named rows (take i ids) ++ cons_option (place_named rows id) []
-places_more rows ids i id lt at =
-    rw (add-one, take-suc ids i id)
-    (filter_map-append (place_named rows) (take i ids) (get_or ids i id ∷ [])
-    ∙ ap (λ (x : List ℕ). places_named rows (take i ids) ++ cons_option (place_named rows x) []) at)
+-- where the ids stand, one id more
+pub placed_more : (rows : List Invocation) (ids : List (List ℕ)) (i : ℕ) (id : List ℕ) (old new : List (Option ℕ)) (place : Option ℕ)
+    → i < length ids → get_or ids i id ≡ id → old ≡ places_in rows (take i ids) → place ≡ place_named rows id
+    → new ≡ old ++ place ∷ [] → new ≡ places_in rows (take (i + 1) ids)
+placed_more rows ids i id old new place lt at old_is place_is new_is =
+    let more : places_in rows (take (i + 1) ids) ≡ places_in rows (take i ids) ++ place_named rows (get_or ids i id) ∷ [] =
+    rw (add-one, take-suc ids i id) (map-append (place_named rows) (take i ids) (get_or ids i id ∷ [])) in
+    new_is ∙ (ap (λ (xs : List (Option ℕ)). xs ++ place ∷ []) old_is
+    ∙ (ap (λ (o : Option ℕ). places_in rows (take i ids) ++ o ∷ []) (place_is ∙ ap (place_named rows) (sym at)) ∙ sym more))
 
-pub places_added : (rows : List Invocation) (ids : List (List ℕ)) (i : ℕ) (id : List ℕ) (old : List ℕ) (place : Option ℕ)
-    (new : List ℕ) → i < length ids → get_or ids i id ≡ id → old ≡ places_named rows (take i ids) → place ≡ place_named rows id
-    → new ≡ old ++ cons_option place [] → new ≡ places_named rows (take (i + 1) ids)
-places_added rows ids i id old place new lt at old_is place_is new_is =
+-- those that are found, one place more
+pub found_more : (places : List (Option ℕ)) (i : ℕ) (place : Option ℕ) (old new : List ℕ)
+    → i < length places → get_or places i place ≡ place → old ≡ all_found (take i places)
+    → new ≡ old ++ cons_option place [] → new ≡ all_found (take (i + 1) places)
+found_more places i place old new lt at old_is new_is =
+    let more : all_found (take (i + 1) places) ≡ all_found (take i places) ++ cons_option (get_or places i place) [] =
+    rw (add-one, take-suc places i place) (filter_map-append (λ o. o) (take i places) (get_or places i place ∷ [])) in
     new_is ∙ (ap (λ (xs : List ℕ). xs ++ cons_option place []) old_is
-    ∙ (ap (λ (o : Option ℕ). places_named rows (take i ids) ++ cons_option o []) place_is ∙ sym (places_more rows ids i id lt at)))
+    ∙ (ap (λ (o : Option ℕ). all_found (take i places) ++ cons_option o []) (sym at) ∙ sym more))
+
+-- those that are found of where the ids stand are the places of those that are there
+found_next : (o : Option ℕ) (xs ys : List ℕ) → xs ≡ ys → cons_option o xs ≡ cons_option o ys
+found_next o xs ys same = ap (cons_option o) same
+
+pub found_named : (rows : List Invocation) (ids : List (List ℕ)) → all_found (places_in rows ids) ≡ places_named rows ids
+found_named rows [] = refl
+found_named rows (id ∷ ids) =
+    found_next (place_named rows id) (all_found (places_in rows ids)) (places_named rows ids) (found_named rows ids)
+
+-- where the ids stand there are rows
+placed_there : (rows : List Invocation) (id : List ℕ) (o : Option ℕ) → place_named rows id ≡ o → IfSome o (λ at. at < length rows)
+placed_there rows id None e = tt
+placed_there rows id (Some at) e = place-within rows id at e
+
+pub all_there : (rows : List Invocation) (ids : List (List ℕ))
+    → All (λ place. IfSome place (λ at. at < length rows)) (places_in rows ids)
+all_there rows [] = All-nil (λ place. IfSome place (λ at. at < length rows))
+all_there rows (id ∷ ids) =
+    All-cons (λ place. IfSome place (λ at. at < length rows)) (place_named rows id) (places_in rows ids)
+    (placed_there rows id (place_named rows id) refl) (all_there rows ids)
+
+-- ids whose places are looked at one by one: one that has a place isn't the first that has none
+is_there : (o : Option ℕ) → is_some o ≡ true → o ≡ None → ⊥
+is_there None e none = absurd cc
+is_there (Some place) e none = let no : Some place ≡ None = none in absurd cc
+
+pub missing_later : (rows : List Invocation) (ids : List (List ℕ)) (places : List (Option ℕ)) (i : ℕ) → i < length places
+    → places ≡ places_in rows ids → is_some (get_or places i None) ≡ true → (found : Option (List ℕ))
+    → FirstOf (IsMissing rows) (drop (i + 1) ids) found → FirstOf (IsMissing rows) (drop i ids) found
+missing_later rows ids places i low are there found rest =
+    let lt : i < length ids = subst (λ (n : ℕ). i < n) (ap length are ∙ length-map ids (place_named rows)) low in
+    let at : get_or places i None ≡ place_named rows (get_or ids i []) =
+    ap (λ (ps : List (Option ℕ)). get_or ps i None) are ∙ get_or-map (place_named rows) ids i [] None lt in
+    subst (λ (l : List (List ℕ)). FirstOf (IsMissing rows) l found) (sym (drop_at ids i [] lt))
+    (inr (is_there (place_named rows (get_or ids i [])) (ap is_some (sym at) ∙ there), rest))

@@ -4,6 +4,8 @@ use Rattle.policy_tables.specs.declared.tables.PolicyTables.{PolicyTables}
 use Rattle.permissions.specs.Granting.{Granting}
 use Rattle.request_rules.specs.declared.judging.Situation.{Situation}
 use Rattle.request_rules.specs.declared.rights.Asker.{Asker}
+use Rattle.request_rules.specs.Demands.{Demand}
+use Rattle.request_rules.specs.Locating.{located}
 
 -- What was found is of this caller, by this policy.
 pub record IsHeldBy (policy : PolicyTables) (caller : ℕ) (found : Granting) : Type 0 where
@@ -15,7 +17,8 @@ pub record IsAsker (asker : Asker) : Type 0 where
   pub there : asker.caller < length asker.policy.now.users
   pub held : IfSome asker.holding.now (IsHeldBy asker.policy.now asker.caller)
 
--- A call of this caller can be judged here.
-pub record MayJudge (x : Situation) (caller : ℕ) : Type 0 where
+-- A call of this caller that demands this can be judged here.
+pub record MayJudge (x : Situation) (caller : ℕ) (d : Demand) : Type 0 where
   pub there : caller < length x.policy.now.users
   pub held : IfSome x.holding.now (IsHeldBy x.policy.now caller)
+  pub located : x.located.now ≡ located x.table.now.rows d

@@ -6,7 +6,7 @@ use Rattle.policy_checks.specs.declared.permission.Permission.TheVariants as per
 use Rattle.invocations.specs.declared.invocation.Invocation.{Invocation}
 use Rattle.message_forms.specs.declared.requests.Request.{Request}
 use Rattle.message_forms.specs.declared.requests.Request.TheVariants as asks
-use Rattle.request_rules.specs.Named.{named}
+use Rattle.request_rules.specs.Named.{places_in, row_at}
 
 -- What has to be so for a request to be accepted.
 pub record Demand : Type 0 where
@@ -98,13 +98,15 @@ abbrev pub rights_of : Option Invocation → List Permission → List Right
 rights_of None takes = []
 rights_of (Some row) takes = map (λ p. right p row.realm) takes
 
--- these permissions in the realm of each of these invocations
-abbrev pub rights_in : List Invocation → List Permission → List (List ℕ) → List Right
+-- these permissions in the realm of each invocation at one of these places
+abbrev pub rights_in : List Invocation → List Permission → List (Option ℕ) → List Right
 rights_in rows takes [] = []
-rights_in rows takes (id ∷ ids) = rights_of (named rows id) takes ++ rights_in rows takes ids
+rights_in rows takes (place ∷ places) =
+    rights_of (row_at rows place) takes ++ rights_in rows takes places
 
 -- the rights that a demand takes, in the order in which they are asked
 abbrev pub rights_taken : List Invocation → Demand → List Right
 rights_taken rows d =
     rights_here d.realm d.takes
-    ++ (rights_in rows d.of_named d.named ++ rights_in rows d.of_included d.included)
+    ++ (rights_in rows d.of_named (places_in rows d.named)
+    ++ rights_in rows d.of_included (places_in rows d.included))

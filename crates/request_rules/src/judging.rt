@@ -1,7 +1,9 @@
 //! Which rule a demand breaks, if any. Nothing here takes memory.
-ghost use Rattle.std.specs.Prelude.{◌≡◌, ◌↔◌, IsTrue, Contains, option_map};
+ghost use Rattle.std.specs.Prelude.{◌≡◌, ◌↔◌, IsTrue, Contains, List, option_map};
+ghost use Rattle.invocations.specs.declared.invocation.Invocation.{Invocation};
 ghost use Rattle.call_forms.specs.declared.asked.Asked.{Asked};
 ghost use Rattle.request_rules.specs.Demands.{demand_of};
+ghost use Rattle.request_rules.specs.Locating.{located};
 ghost use Rattle.request_rules.specs.Broken.{IsBroken, BadUpdateToken, DeadlineRange, Denied, IsInReach, Itself, NoUpdateToken, NotActive, NotFound, Taken, TooMany};
 ghost use Rattle.request_rules.specs.Order.{Judges};
 ghost use Rattle.request_rules.specs.Settings.{Settings};
@@ -11,7 +13,7 @@ ghost use Rattle.request_rules.specs.Askers.{IsAsker, MayJudge};
 
 use crate::breaches::Breach;
 use crate::demand::{Demand, demand_of};
-use crate::locating::{first_missing, place_of, row_of};
+use crate::locating::{Located, first_missing, place_of, row_of};
 use crate::reading::{Call, TokenCheck};
 use crate::rights::{Asker, Holding};
 use crate::rules::Rule;
@@ -29,10 +31,11 @@ const GREATEST_LIFETIME: i64 = 432_000_000_000;
 const MOST_NAMES: usize = 500;
 
 /// The first invocation that is named and isn't there.
-fn not_found<'r>(table: &Table, demand: &Demand<'r>) -> Option<Breach<'r>>
-    ensures { Finds (NotFound table.now.rows demand.now) result }
+fn not_found<'r>(places: &Located, demand: &Demand<'r>) -> Option<Breach<'r>>
+    ensures { (rows : List Invocation) → places.now ≡ located rows demand.now
+        → Finds (NotFound rows demand.now) result }
 {
-    match first_missing(table, demand) {
+    match first_missing(places, demand) {
         Some(id) => Some(Breach::NotFound { id }),
         None => None,
     }
@@ -63,12 +66,18 @@ fn bad_update_token<'r>(token: TokenCheck, demand: &Demand<'r>) -> Option<Breach
 }
 
 /// The first right that the caller lacks.
-fn denied<'r>(asker: &Asker<'r>, table: &'r Table, demand: &Demand<'r>) -> Option<Breach<'r>>
-    requires { IsAsker asker.now }
+fn denied<'r>(
+    asker: &Asker<'r>,
+    table: &'r Table,
+    demand: &Demand<'r>,
+    places: &Located,
+) -> Option<Breach<'r>>
+    requires asker { IsAsker asker.now }
+    requires places { places.now ≡ located table.now.rows demand.now }
     ensures { Finds (Denied asker.now.policy.now table.now.rows asker.now.caller demand.now)
         result }
 {
-    match asker.lacking(table, demand) {
+    match asker.lacking(table, demand, places) {
         Some(lacking) => Some(Breach::Denied {
             permission: lacking.permission,
             realm: lacking.realm,
@@ -166,12 +175,14 @@ pub struct Situation<'r> {
     pub moment: Moment,
     /// What was found before of the caller's rights, by `holding_for`.
     pub holding: &'r Option<Holding<'r>>,
+    /// Where the invocations stand that the call names.
+    pub located: &'r Located,
 }
 
 impl<'r> Situation<'r> {
     /// What breaks one rule, if it is broken.
     fn broken_by(&self, call: &Call, demand: &Demand<'r>, rule: Rule) -> Option<Breach<'r>>
-        requires { MayJudge self.now call.now.caller }
+        requires { MayJudge self.now call.now.caller demand.now }
         ensures { (asked : Asked)
             → IsChecked (record { policy = self.now.policy.now }) asked demand.now call.now.token
             → Finds (IsBroken (case_of self.now asked call.now.caller) demand.now rule) result }
@@ -182,10 +193,10 @@ impl<'r> Situation<'r> {
             holding: self.holding,
         };
         match rule {
-            Rule::NotFound => not_found(self.table, demand),
+            Rule::NotFound => not_found(self.located, demand),
             Rule::NoUpdateToken => no_update_token(call.token, demand),
             Rule::BadUpdateToken => bad_update_token(call.token, demand),
-            Rule::Denied => denied(&asker, self.table, demand),
+            Rule::Denied => denied(&asker, self.table, demand, self.located),
             Rule::NotActive => not_active(self.table, demand),
             Rule::DeadlineRange => deadline_range(self.moment, demand),
             Rule::Itself => itself(demand),
@@ -196,7 +207,7 @@ impl<'r> Situation<'r> {
 
     /// The first of these rules that a demand breaks, if any.
     fn judge_demand(&self, rules: &[Rule], call: &Call, demand: &Demand<'r>) -> Option<Breach<'r>>
-        requires { MayJudge self.now call.now.caller }
+        requires { MayJudge self.now call.now.caller demand.now }
         ensures { (asked : Asked)
             → IsChecked (record { policy = self.now.policy.now }) asked demand.now call.now.token
             → Judges (IsBroken (case_of self.now asked call.now.caller) demand.now) rules.now
@@ -212,7 +223,7 @@ impl<'r> Situation<'r> {
 
     /// The first of these rules that a call breaks, if any.
     pub fn judge(&self, rules: &[Rule], call: &'r Call) -> Option<Breach<'r>>
-        requires { MayJudge self.now call.now.caller }
+        requires { MayJudge self.now call.now.caller (demand_of call.now.request) }
         ensures { (asked : Asked)
             → IsCallOf (record { policy = self.now.policy.now }) asked call.now
             → Judges

@@ -14,7 +14,7 @@ mod rules;
 pub use breaches::Breach;
 pub use demand::{Demand, demand_of};
 pub use judging::Situation;
-pub use locating::{place_of, places_of};
+pub use locating::Located;
 pub use reading::{Call, TokenCheck, Understood, understand};
 pub use rights::{Holding, holding_for};
 pub use rules::Rule;

@@ -1,17 +1,22 @@
 //! The invocations that a request names, and where they stand.
-ghost use Rattle.std.specs.Prelude.{◌≡◌, ◌++◌, [], IfOk, OnOk, option_map};
+ghost use Rattle.std.specs.Prelude.{◌≡◌, ◌++◌, List, [], IfOk, OnOk, option_map};
 ghost use Rattle.std.specs.List.{cons_option};
-ghost use Rattle.request_rules.specs.Named.{named, place_named, places_named};
+ghost use Rattle.invocations.specs.declared.invocation.Invocation.{Invocation as InvocationOf};
+ghost use Rattle.request_rules.specs.Named.{all_found, first_place, named, place_named, places_in};
+ghost use Rattle.request_rules.specs.Demands.{demand_of};
+ghost use Rattle.request_rules.specs.Locating.{located};
 ghost use Rattle.request_rules.specs.Order.{FirstOf};
 ghost use Rattle.request_rules.specs.Broken.{IsMissing};
 
-use crate::demand::Demand;
+use crate::demand::{Demand, demand_of};
 use invocations::{Invocation, Table};
+use message_forms::Request;
 use names_realms::InvocationId;
 use std::alloc::{AllocError, Global};
+use std::marker::Model;
 
 /// The place of the invocation with this id.
-pub fn place_of(table: &Table, id: &InvocationId) -> Option<u32>
+pub(crate) fn place_of(table: &Table, id: &InvocationId) -> Option<u32>
     ensures { result ≡ place_named table.now.rows id.now }
 {
     table.find(id)
@@ -27,6 +32,21 @@ pub(crate) fn row_of<'r>(table: &'r Table, id: &InvocationId) -> Option<&'r Invo
     }
 }
 
+/// Where the invocations with these ids stand. `Err` where there is no memory for their places.
+fn places_in(
+    alloc: Global,
+    table: &Table,
+    ids: &[InvocationId],
+) -> Result<Vec<Option<u32>>, AllocError>
+    ensures { IfOk result (λ places. places.items ≡ places_in table.now.rows ids.now) }
+{
+    let mut places = Vec::with_capacity(alloc, ids.len())?;
+    for id in ids {
+        places.push(place_of(table, id))?;
+    }
+    Ok(places)
+}
+
 /// Appends a place, if there is one.
 fn add_place(places: &mut Vec<u32>, place: Option<u32>) -> Result<(), AllocError>
     ensures { OnOk result (places.new.items ≡ places.old.items ++ cons_option place []) }
@@ -37,53 +57,77 @@ fn add_place(places: &mut Vec<u32>, place: Option<u32>) -> Result<(), AllocError
     Ok(())
 }
 
-/// The places of those of the invocations with these ids that are there. `Err` where there is no
-/// memory for them.
-pub fn places_of(alloc: Global, table: &Table, ids: &[InvocationId]) -> Result<Vec<u32>, AllocError>
-    ensures { IfOk result (λ places. places.items ≡ places_named table.now.rows ids.now) }
-{
-    let mut places = Vec::with_capacity(alloc, ids.len())?;
-    for id in ids {
-        add_place(&mut places, place_of(table, id))?;
-    }
-    Ok(places)
+/// Where the invocations stand that a request names, in order of creation and counted from 0. Each
+/// is looked up once, before the request is judged; one that isn't there has no place.
+#[derive(Drop)]
+pub struct Located {
+    pub(crate) named: Vec<Option<u32>>,
+    pub(crate) included: Vec<Option<u32>>,
 }
 
-/// The first of these ids that no invocation has.
-fn first_missing_of<'r>(table: &Table, ids: &'r [InvocationId]) -> Option<&'r InvocationId>
-    ensures { FirstOf (IsMissing table.now.rows) ids.now (option_map (λ id. id.now) result) }
+impl Model for Located {
+    ghost use Rattle.request_rules.specs.Locating.{Located};
+
+    ghost Value = { Located };
+
+    ghost view = { λ l. record { named = l.named.items; included = l.included.items } };
+}
+
+impl Located {
+    /// Where the invocations stand that a request names. `Err` where there is no memory for their
+    /// places.
+    pub fn of(alloc: Global, table: &Table, request: &Request) -> Result<Located, AllocError>
+        ensures { IfOk result (λ l. l ≡ located table.now.rows (demand_of request.now)) }
+    {
+        let demand = demand_of(request);
+        let named = places_in(alloc, table, demand.named)?;
+        let included = places_in(alloc, table, demand.included)?;
+        Ok(Located { named, included })
+    }
+
+    /// The place of the first one that has to be there.
+    pub fn first(&self) -> Option<u32>
+        ensures { result ≡ first_place self.now.named }
+    {
+        match self.named.first() {
+            Some(place) => *place,
+            None => None,
+        }
+    }
+
+    /// The places of those to be included that are there. `Err` where there is no memory for them.
+    pub fn targets(&self, alloc: Global) -> Result<Vec<u32>, AllocError>
+        ensures { IfOk result (λ targets. targets.items ≡ all_found self.now.included) }
+    {
+        let mut targets = Vec::with_capacity(alloc, self.included.len())?;
+        for place in self.included.as_slice() {
+            add_place(&mut targets, *place)?;
+        }
+        Ok(targets)
+    }
+}
+
+/// The first of these ids that has no place.
+fn first_missing_of<'r>(ids: &'r [InvocationId], places: &[Option<u32>]) -> Option<&'r InvocationId>
+    ensures { (rows : List InvocationOf) → places.now ≡ places_in rows ids.now
+        → FirstOf (IsMissing rows) ids.now (option_map (λ id. id.now) result) }
 {
-    for id in ids {
-        if place_of(table, id).is_none() {
-            return Some(id);
+    for (at, place) in places.iter().enumerate() {
+        if place.is_none() {
+            return ids.get(at);
         }
     }
     None
 }
 
-/// The first invocation that has to be there and isn't.
-fn missing_named<'r>(table: &Table, demand: &Demand<'r>) -> Option<&'r InvocationId>
-    ensures { FirstOf (IsMissing table.now.rows) demand.now.named
-        (option_map (λ id. id.now) result) }
-{
-    first_missing_of(table, demand.named)
-}
-
-/// The first invocation that is to be included and isn't there.
-fn missing_included<'r>(table: &Table, demand: &Demand<'r>) -> Option<&'r InvocationId>
-    ensures { FirstOf (IsMissing table.now.rows) demand.now.included
-        (option_map (λ id. id.now) result) }
-{
-    first_missing_of(table, demand.included)
-}
-
 /// The first invocation that is named and isn't there.
-pub(crate) fn first_missing<'r>(table: &Table, demand: &Demand<'r>) -> Option<&'r InvocationId>
-    ensures { FirstOf (IsMissing table.now.rows) (demand.now.named ++ demand.now.included)
+pub(crate) fn first_missing<'r>(places: &Located, demand: &Demand<'r>) -> Option<&'r InvocationId>
+    ensures { (rows : List InvocationOf) → places.now ≡ located rows demand.now
+        → FirstOf (IsMissing rows) (demand.now.named ++ demand.now.included)
         (option_map (λ id. id.now) result) }
 {
-    if let Some(id) = missing_named(table, demand) {
+    if let Some(id) = first_missing_of(demand.named, places.named.as_slice()) {
         return Some(id);
     }
-    missing_included(table, demand)
+    first_missing_of(demand.included, places.included.as_slice())
 }

@@ -1,17 +1,18 @@
 //! Whether a caller has the rights that a request takes.
-ghost use Rattle.std.specs.Prelude.{◌≡◌, ◌<◌, ◌↔◌, ◌∷◌, [], Some, IfOk, IfSome, IsTrue, length};
+ghost use Rattle.std.specs.Prelude.{◌≡◌, ◌<◌, ◌↔◌, ◌∷◌, [], Some, All, IfOk, IfSome, IsTrue, length};
 ghost use Rattle.permissions.specs.Allows.{Allows};
 ghost use Rattle.request_rules.specs.Demands.{right, rights_here, rights_in, rights_of, rights_taken};
-ghost use Rattle.request_rules.specs.Named.{named};
+ghost use Rattle.request_rules.specs.Named.{row_at};
+ghost use Rattle.request_rules.specs.Locating.{located};
 ghost use Rattle.request_rules.specs.Order.{FirstOf};
 ghost use Rattle.request_rules.specs.Broken.{Lacks};
 ghost use Rattle.request_rules.specs.Askers.{IsAsker, IsHeldBy};
 
 use crate::demand::{Demand, demand_of};
-use crate::locating::row_of;
+use crate::locating::Located;
 use crate::reading::Call;
 use invocations::Table;
-use names_realms::{InvocationId, Realm};
+use names_realms::Realm;
 use permissions::{CallerId, Granted, Permission, Policy};
 use std::alloc::{AllocError, Global};
 use std::marker::Model;
@@ -157,38 +158,40 @@ impl<'r> Asker<'r> {
         None
     }
 
-    /// The first of these permissions that the caller lacks in the realm of the invocation with
-    /// this id, if it is there.
-    fn lacks_of(
+    /// The first of these permissions that the caller lacks in the realm of the invocation at this
+    /// place, if there is one.
+    fn lacks_at(
         &self,
         table: &'r Table,
         takes: &[Permission],
-        id: &InvocationId,
+        place: Option<u32>,
     ) -> Option<Lacking<'r>>
-        requires { IsAsker self.now }
+        requires asker { IsAsker self.now }
+        requires there { IfSome place (λ at. at < length table.now.rows) }
         ensures { FirstOf (Lacks self.now.policy.now self.now.caller)
-            (rights_of (named table.now.rows id.now) takes.now) result }
+            (rights_of (row_at table.now.rows place) takes.now) result }
     {
-        match row_of(table, id) {
-            Some(row) => self.lacks_here(&row.realm, takes),
+        match place {
+            Some(place) => self.lacks_here(&table.row(place).realm, takes),
             None => None,
         }
     }
 
-    /// The first of these permissions that the caller lacks in the realm of the first of these
-    /// invocations.
+    /// The first of these permissions that the caller lacks in the realm of the first of the
+    /// invocations at these places.
     fn lacks_in(
         &self,
         table: &'r Table,
         takes: &[Permission],
-        ids: &[InvocationId],
+        places: &[Option<u32>],
     ) -> Option<Lacking<'r>>
-        requires { IsAsker self.now }
+        requires asker { IsAsker self.now }
+        requires there { All (λ place. IfSome place (λ at. at < length table.now.rows)) places.now }
         ensures { FirstOf (Lacks self.now.policy.now self.now.caller)
-            (rights_in table.now.rows takes.now ids.now) result }
+            (rights_in table.now.rows takes.now places.now) result }
     {
-        for id in ids {
-            if let Some(lacking) = self.lacks_of(table, takes, id) {
+        for place in places {
+            if let Some(lacking) = self.lacks_at(table, takes, *place) {
                 return Some(lacking);
             }
         }
@@ -207,36 +210,24 @@ impl<'r> Asker<'r> {
         }
     }
 
-    /// The first right to an invocation that has to be there that the caller lacks.
-    fn lacks_named(&self, table: &'r Table, demand: &Demand<'r>) -> Option<Lacking<'r>>
-        requires { IsAsker self.now }
-        ensures { FirstOf (Lacks self.now.policy.now self.now.caller)
-            (rights_in table.now.rows demand.now.of_named demand.now.named) result }
-    {
-        self.lacks_in(table, demand.of_named, demand.named)
-    }
-
-    /// The first right to an invocation to be included that the caller lacks.
-    fn lacks_included(&self, table: &'r Table, demand: &Demand<'r>) -> Option<Lacking<'r>>
-        requires { IsAsker self.now }
-        ensures { FirstOf (Lacks self.now.policy.now self.now.caller)
-            (rights_in table.now.rows demand.now.of_included demand.now.included) result }
-    {
-        self.lacks_in(table, demand.of_included, demand.included)
-    }
-
-    /// The first right that the caller lacks.
-    pub(crate) fn lacking(&self, table: &'r Table, demand: &Demand<'r>) -> Option<Lacking<'r>>
-        requires { IsAsker self.now }
+    /// The first right that the caller lacks, where these are the places of what is demanded.
+    pub(crate) fn lacking(
+        &self,
+        table: &'r Table,
+        demand: &Demand<'r>,
+        places: &Located,
+    ) -> Option<Lacking<'r>>
+        requires asker { IsAsker self.now }
+        requires places { places.now ≡ located table.now.rows demand.now }
         ensures { FirstOf (Lacks self.now.policy.now self.now.caller)
             (rights_taken table.now.rows demand.now) result }
     {
         if let Some(lacking) = self.lacks_new(demand) {
             return Some(lacking);
         }
-        if let Some(lacking) = self.lacks_named(table, demand) {
+        if let Some(lacking) = self.lacks_in(table, demand.of_named, places.named.as_slice()) {
             return Some(lacking);
         }
-        self.lacks_included(table, demand)
+        self.lacks_in(table, demand.of_included, places.included.as_slice())
     }
 }

@@ -148,8 +148,7 @@ shown_own w moment name (asks.FinalizeInvocation q) =
     found_own w (end_at w.invocations) (place_named w.invocations q.id)
     (λ p at. end_own w p (slice_get (states_of w.invocations) p) (place-within w.invocations q.id p at))
 shown_own w moment name (asks.UpdateIncludedInvocations q) = tt
-shown_own w moment name (asks.GetInvocation q) =
-    found_own w (λ o. does.Nothing) (place_named w.invocations q.id) (λ p at. place-within w.invocations q.id p at)
+shown_own w moment name _ = found_own w (λ o. does.Nothing) _ (λ p at. place-within w.invocations _ p at)
 
 pub own_as : (old new : World) (moment : ℤ) (name : List ℕ) (request : Request) (effect : Effect) (shows : Shows) → new ≡ old
     → effect ≡ effect_of old moment name request → shows ≡ shows_of old request → IsOwn new effect shows

@@ -5,8 +5,6 @@ mod laws;
 mod plan;
 mod planning;
 mod serving;
-#[cfg(test)]
-mod tests;
 
 pub use laws::{
     a_step_is_there, final_in_time, final_stays, ids_stay_unique, one_step, rows_stay,

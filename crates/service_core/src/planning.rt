@@ -1,5 +1,7 @@
 //! The plan of a request that breaks no rule for what is demanded.
 ghost use Rattle.std.specs.Prelude.{◌≡◌, ◌<◌, IfOk, length};
+ghost use Rattle.request_rules.specs.Demands.{demand_of};
+ghost use Rattle.request_rules.specs.Locating.{located};
 ghost use Rattle.request_rules.specs.Settings.{caller_name};
 ghost use Rattle.request_effects.specs.Fitting.{Fits, IsTimely};
 ghost use Rattle.request_effects.specs.Foreseen.{IsOwn};
@@ -11,8 +13,8 @@ use crate::plan::{Plan, Prepared, Work};
 use crate::serving::Core;
 use names_realms::Moment;
 use permissions::Policy;
-use request_effects::{Change, Planned, Shows, plan_change, show, shows_of};
-use request_rules::Call;
+use request_effects::{Change, Context, Planned, Shows, plan_change, show, shows_of};
+use request_rules::{Call, Located};
 use std::alloc::{AllocError, Global};
 
 impl Core {
@@ -37,16 +39,19 @@ impl Core {
         Ok(Prepared::Change(Plan::new(work, Some(answer), self.changes)))
     }
 
-    /// What a call comes to that breaks no rule for what is demanded. `Err` where there is no
-    /// memory.
+    /// What a call comes to that breaks no rule for what is demanded, where the invocations that it
+    /// names stand at these places. `Err` where there is no memory.
     pub(crate) fn plan(
         &mut self,
         alloc: Global,
         policy: &Policy,
         moment: Moment,
         call: Call,
+        places: &Located,
     ) -> Result<Prepared, AllocError>
         requires there { call.caller < length policy.now.users }
+        requires places { places.now
+            ≡ located self.old.held.world.invocations (demand_of call.request) }
         requires timely { IsTimely self.old.held.world moment }
         requires safe { IsSafe self.old.held.world moment
             (caller_name (record { policy = policy.now }) call.caller) call.request }
@@ -54,9 +59,13 @@ impl Core {
         ensures comes { IfOk result (ComesTo (record { policy = policy.now }) self.new moment
             call.caller call.request) }
     {
-        let shows = shows_of(&self.world, &call.request);
-        let name = policy.name_of(call.caller);
-        match plan_change(alloc, &mut self.world, moment, name, call.request)? {
+        let shows = shows_of(&self.world, places, &call.request);
+        let context = Context {
+            moment,
+            name: policy.name_of(call.caller),
+            located: places,
+        };
+        match plan_change(alloc, &mut self.world, &context, call.request)? {
             Planned::Full(table) => Ok(Prepared::Refused(table.answer(alloc)?)),
             Planned::Ready(effect) => {
                 self.with_answer(alloc, policy, Change { moment, effect }, shows)

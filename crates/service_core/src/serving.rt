@@ -3,6 +3,8 @@ ghost use Rattle.std.specs.Prelude.{◌≡◌, ℕ, ◌≤ℤ◌, ◌<◌, pos, 
 ghost use Rattle.std.specs.Int.{int_min, int_max};
 ghost use Rattle.invocation_world.specs.World.{empty_world, IsCallMoment, IsValid, latest_call};
 ghost use Rattle.invocation_world.specs.Advancing.{Advances, IsDueAt, IsQuiet};
+ghost use Rattle.request_rules.specs.Demands.{demand_of};
+ghost use Rattle.request_rules.specs.Locating.{located};
 ghost use Rattle.request_rules.specs.Understood.{IsCallOf, IsUnderstood};
 ghost use Rattle.request_effects.specs.Fitting.{IsTimely};
 ghost use Rattle.service_core.specs.CoreState.{IsRoomier, more_changes};
@@ -19,7 +21,7 @@ use invocations::Invocation;
 use names_realms::Moment;
 use permissions::Policy;
 use request_effects::carry_out;
-use request_rules::{Call, Rule, Situation, Understood, holding_for};
+use request_rules::{Call, Located, Rule, Situation, Understood, holding_for};
 use std::alloc::{AllocError, Global};
 use std::marker::Model;
 
@@ -101,8 +103,11 @@ impl Core {
         policy: &Policy,
         moment: Moment,
         call: &Call,
+        places: &Located,
     ) -> Result<Option<Answer>, AllocError>
-        requires { call.now.caller < length policy.now.users }
+        requires there { call.now.caller < length policy.now.users }
+        requires places { places.now
+            ≡ located self.now.held.world.invocations (demand_of call.now.request) }
         ensures valid { IfOk result (λ _. IsValid self.now.held.world) }
         ensures told { (asked : Asked) → IsCallOf (record { policy = policy.now }) asked call.now
             → IfOk result (TellsRefusal (record { policy = policy.now }) self.now.held.world moment
@@ -114,6 +119,7 @@ impl Core {
             table: self.world.table(),
             moment,
             holding: &holding,
+            located: places,
         };
         match situation.judge(Rule::order(), call) {
             Some(breach) => Ok(Some(breach.answer(alloc)?)),
@@ -138,10 +144,11 @@ impl Core {
             → IfOk result (IsPrepared (record { policy = policy.now }) self.new moment asked) }
     {
         let _ = policy.tables();
-        if let Some(answer) = self.refused(alloc, policy, moment, &call)? {
+        let places = Located::of(alloc, self.world.table(), &call.request)?;
+        if let Some(answer) = self.refused(alloc, policy, moment, &call, &places)? {
             return Ok(Prepared::Refused(answer));
         }
-        self.plan(alloc, policy, moment, call)
+        self.plan(alloc, policy, moment, call, &places)
     }
 
     /// What a request comes to at this moment, at which nothing is due, by what was understood of

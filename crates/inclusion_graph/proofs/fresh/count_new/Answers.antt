@@ -1,6 +1,6 @@
-use Rattle.std.proofs.Common.{◌≡◌, ◌<◌, ◌+◌, ◌++◌, ◌∷◌, [], ℕ, Bool, List, length, drop, get_or, set, true, false, refl, sym, ap, ◌∙◌, subst, inl, inr, arith}
+use Rattle.std.proofs.Common.{◌≡◌, ◌<◌, ◌+◌, ◌++◌, ◌∷◌, [], ℕ, Bool, List, length, drop, get_or, refl, sym, ap, ◌∙◌, subst, inl, inr, arith}
 use Rattle.std.proofs.lemmas.List.{drop_more}
-use Rattle.inclusion_graph.specs.Edges.{fresh, has}
+use Rattle.inclusion_graph.specs.Edges.{fresh}
 use Rattle.inclusion_graph.specs.Searches.{HasMarks}
 use Rattle.inclusion_graph.proofs.ListLemmas.{fresh_held, fresh_new, marks_more}
 use Rattle.inclusion_graph.proofs.fresh.count_new.Goals as goal

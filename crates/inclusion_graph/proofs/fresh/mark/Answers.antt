@@ -1,4 +1,4 @@
-use Rattle.std.proofs.Common.{◌<◌, ℕ, List, length, take, get_or, refl, sym, subst, arith}
+use Rattle.std.proofs.Common.{◌<◌, length, take, get_or, sym, subst, arith}
 use Rattle.std.proofs.lemmas.List.{take_all, take_more}
 use Rattle.inclusion_graph.specs.Searches.{HasMarks}
 use Rattle.inclusion_graph.proofs.ListLemmas.{marks_more}

@@ -26,8 +26,9 @@ invariant_of-result c =
       all = λ place low. some_of (rank_at r.ranks.items place) (c.in_ok-ranking.ensures.all place (omega (arith, low, count)));
       grants_are = subst (λ (ps : List ℕ). AreGrants t ps (length ps) c.in_ok-grants.grants.items) c.as_slice.ensures.value c.in_ok-grants.ensures;
       members_are = c.in_ok-members.ensures;
-      shortcuts_are = subst (λ (rows : List (List ℕ)). AreShortcuts rows c.in_ok-grants.grants.items c.in_ok-shortcuts.shortcuts.items) c.as_slice-2.ensures.value
-          (subst (λ (gs : List Grants). AreShortcuts c.as_slice-2.result.now gs c.in_ok-shortcuts.shortcuts.items) c.as_slice-3.ensures.value
-          c.in_ok-shortcuts.ensures);
+      shortcuts_are = subst (λ (rows : List (List ℕ)). AreShortcuts rows c.in_ok-grants.grants.items c.in_ok-shortcuts.shortcuts) c.as_slice-2.ensures.value
+          (subst (λ (gs : List Grants). AreShortcuts c.as_slice-2.result.now gs c.in_ok-shortcuts.shortcuts) c.as_slice-3.ensures.value
+          c.in_ok-shortcuts.ensures.are);
+      shortcuts_count = c.in_ok-shortcuts.ensures.count ∙ ap length c.as_slice-2.ensures.value;
       few = c.requires.few;
     }

@@ -1,18 +1,18 @@
-use Rattle.std.proofs.Common.{length, inl, inr, sym, subst, ◌∙◌}
-use Rattle.permissions.specs.Rights.{IsShortcut}
+use Rattle.std.proofs.Common.{◌≡◌, ℕ, List, get_or, length, sym, ap, subst, arith, ◌∙◌}
+use Rattle.permissions.specs.declared.shortcuts.Shortcut.{Shortcut}
+use Rattle.permissions.specs.declared.shortcuts.Shortcut.TheVariants.{Mark}
+use Rattle.permissions.specs.Rights.{IsShortcut, shortcut_at}
 use Rattle.permissions.proofs.ShortcutLemmas.{only_one, same_shortcut}
 use Rattle.permissions.proofs.shortcuts.next_shortcut.Goals as goal
 
-pub returns-then-gives_nothing : goal.returns-then-gives_nothing
-returns-then-gives_nothing c =
-    let rows = c.args.rows.now in
-    let grants = c.args.grants.now in
-    let shortcuts = c.args.shortcuts.now in
+pub returns-in-Mark : goal.returns-in-Mark
+returns-in-Mark c =
     let targets = c.edges_of-targets.result.now in
-    elim c.same_as.ensures [
-      | inl absent ↦ subst (IsShortcut rows grants (length shortcuts)) (sym absent) tt
-      | inr same ↦
-          subst (IsShortcut rows grants (length shortcuts)) (sym same)
-          (same_shortcut rows grants shortcuts (length shortcuts) _ c.requires.falling c.requires.shortcuts
-          (sym c.edges_of-targets.ensures ∙ only_one targets c.if-targets-eq1.true) (c.gives_nothing.ensures c.if-gives_nothing.true))
-    ]
+    let target = get_or targets 0 0 in
+    let shortcuts = c.args.shortcuts.now in
+    let next : c.len-rank.result ≡ length shortcuts.of_ranks.items = omega (arith, c.len-rank.ensures, shortcuts.of_ranks.ok.0) in
+    subst (λ (rank : ℕ). IsShortcut c.args.rows.now c.args.grants.now shortcuts.marked.items rank (Mark c.in-Mark.place)) next
+    (same_shortcut c.args.rows.now c.args.grants.now shortcuts c.len-rank.result target c.in-Mark.place c.requires.falling c.requires.shortcuts next
+    (sym c.edges_of-targets.ensures ∙ only_one targets c.if-targets-eq1.true)
+    (sym (c.shortcut_at.ensures ∙ ap (λ (ss : List Shortcut). shortcut_at ss target) c.as_slice.ensures.value) ∙ c.in-Mark.is)
+    (c.gives_nothing.ensures c.if-gives_nothing.true))

@@ -1,9 +1,9 @@
-use Rattle.std.proofs.Common.{◌≡◌, ◌<◌, ◌≤◌, ◌+◌, ℕ, List, length, refl, sym, ap, ◌∙◌, subst, arith}
+use Rattle.std.proofs.Common.{◌<◌, ℕ, List, length, refl, sym, ap, ◌∙◌, subst, arith}
 use Rattle.std.specs.List.{All}
 use Rattle.std.proofs.lemmas.Option.{slice_get_read}
 use Rattle.inclusion_graph.specs.Edges.{GraphState, fresh, targets_of}
 use Rattle.inclusion_graph.specs.Plans.{IsEdgeFault}
-use Rattle.inclusion_graph.specs.declared.plan.EdgeFault.TheVariants.{Full, Memory}
+use Rattle.inclusion_graph.specs.declared.plan.EdgeFault.TheVariants.{Memory}
 use Rattle.inclusion_graph.proofs.EdgeLemmas.{targets_within}
 use Rattle.inclusion_graph.proofs.graph.Graph.fault_without_memory.Goals as goal
 

@@ -8,7 +8,7 @@ use Rattle.inclusion_graph.proofs.graph.Graph.walk_to.Goals as goal
 
 pub returns-in_default : goal.returns-in_default
 returns-in_default c = λ reaches.
-    c.in_default.ensures (reached_found c.args.self.now.edges (c.args.a ∷ []) c.in_ok-search.search.marks.items c.in_ok-search.search.steps.items
+    c.in_default.ensures (reached_found c.args.self.now.edges (c.args.a ∷ []) c.in_ok-search.search.steps.items
     c.in_ok-search.ensures.all c.args.b (c.args.a, (zero, omega arith, refl), reaches))
 
 pub walk_back-requires-clause-place : goal.walk_back-requires-clause-place

@@ -7,11 +7,13 @@ use Rattle.permissions.specs.Rights.{binds_user}
 use Rattle.permissions.proofs.RightLemmas.{bound_over_ranks, rank_granted}
 use Rattle.permissions.proofs.granted.Granted.binds_from.Goals as goal
 
-pub is_bound-requires-clause-rank : goal.is_bound-requires-clause-rank
-is_bound-requires-clause-rank c =
+pub is_bound-requires-clause-come : goal.is_bound-requires-clause-come
+is_bound-requires-clause-come c =
     let i = c.self.inside in
-    let is : rank_at i.ranks.now c.args.place ≡ Some c.in-Some.rank = sym c.rank_of.ensures ∙ c.in-Some.is in
-    omega (arith, rank_granted i.policy.now i.ranks.now i.ranked.now c.self.invariant.rights i.caller i.permission c.args.place c.in-Some.rank is, c.self.invariant.all)
+    let is : rank_at i.ranks.now c.args.place ≡ Some c.in-Some.rank = sym c.rank_of.ensures ∙ c.in-Some.is in (
+      rank_granted i.policy.now i.ranks.now i.ranked.now c.self.invariant.rights i.caller i.permission c.args.place c.in-Some.rank is,
+      λ place there low. omega (arith, there, c.self.invariant.all),
+    )
 
 pub returns-in-Some : goal.returns-in-Some
 returns-in-Some c =

@@ -4,11 +4,8 @@ use Rattle.std.specs.Prelude.{slice_get}
 use Rattle.call_forms.specs.declared.forms.Answer.{Answer}
 use Rattle.message_forms.specs.declared.replies.Reply.TheVariants as reply
 use Rattle.request_effects.specs.Shows.{done, reply_at}
-use Rattle.request_effects.proofs.AheadFacts.{can_show, shown_so}
+use Rattle.request_effects.proofs.AheadFacts.{shown_so}
 use Rattle.request_effects.proofs.ahead.Ahead.answer.Goals as goal
-
-pub done-requires : goal.done-requires
-done-requires c = can_show c.row-seen.result _ c.shown_with-shown.result c.row-seen.ensures.formed c.shown_with-shown.ensures
 
 pub returns : goal.returns
 returns c after acts =
@@ -18,6 +15,6 @@ returns c after acts =
     (λ a is.
     is ∙ ap (done c.args.token)
     (shown_so w after c.args.place c.row-seen.result c.included.result.now (map (λ id. id.now) c.as_slice.result.now) c.shown_with-shown.result
-    (c.row-seen.ensures.stands after acts) (c.included.ensures.targets after acts)
+    (c.row-seen.ensures after acts) (c.included.ensures.targets after acts)
     (ap (map (λ id. id.now)) c.as_slice.ensures.value ∙ c.in_ok-included.ensures) c.shown_with-shown.ensures))
     c.done.ensures

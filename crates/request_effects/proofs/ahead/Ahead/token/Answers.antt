@@ -8,6 +8,6 @@ use Rattle.request_effects.proofs.ahead.Ahead.token.Goals as goal
 pub returns : goal.returns
 returns c after acts =
     token_so (record { policy = c.args.policy.now }) (slice_get after.invocations c.args.place) c.row-seen.result c.seen.inside.row.now.id
-    c.secret.result.now c.update_token.result (c.row-seen.ensures.stands after acts)
+    c.secret.result.now c.update_token.result (c.row-seen.ensures after acts)
     (ap (λ (r : Invocation). r.id) (sym c.seen.view_is)) (secret_read c.args.policy.now c.secret.result.now c.secret.ensures)
     c.update_token.ensures

@@ -5,7 +5,7 @@ use Rattle.request_rules.proofs.judging.Situation.broken_by.Goals as goal
 pub returns-in-NotFound : goal.returns-in-NotFound
 returns-in-NotFound c = λ asked checked.
     found_as (case_of c.args.self.now asked c.args.call.now.caller) c.args.demand.now c.args.rule _ c.not_found.result c.in-NotFound.is
-    c.not_found.ensures
+    (c.not_found.ensures c.args.self.now.table.now.rows c.requires.located)
 
 pub returns-in-NoUpdateToken : goal.returns-in-NoUpdateToken
 returns-in-NoUpdateToken c = λ asked checked.

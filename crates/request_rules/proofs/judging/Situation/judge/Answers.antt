@@ -1,4 +1,5 @@
 use Rattle.std.proofs.Common.{option_map, sym, subst}
+use Rattle.request_rules.specs.Askers.{MayJudge}
 use Rattle.request_rules.specs.Breaches.{case_of, refusal_of}
 use Rattle.request_rules.specs.Broken.{IsBroken}
 use Rattle.request_rules.specs.Demands.{Demand}
@@ -13,3 +14,7 @@ returns c = λ asked is.
     (c.judge_demand.ensures asked
     (subst (λ (d : Demand). IsChecked (record { policy = c.args.self.now.policy.now }) asked d c.args.call.now.token) (sym c.demand_of.ensures)
     is.token_is))
+
+pub judge_demand-requires : goal.judge_demand-requires
+judge_demand-requires c =
+    subst (λ (d : Demand). MayJudge c.args.self.now c.args.call.now.caller d) (sym c.demand_of.ensures) c.requires

@@ -1,21 +1,29 @@
-use Rattle.std.proofs.Common.{Option, Some, sym, subst}
+use Rattle.std.proofs.Common.{List, subst, ap, ◌∙◌}
 use Rattle.std.proofs.lemmas.Result.{IfOk-weaker}
-use Rattle.call_forms.specs.declared.asked.Asked.{Asked}
-use Rattle.call_forms.specs.declared.forms.Answer.{Answer}
+use Rattle.invocations.specs.declared.invocation.Invocation.{Invocation}
+use Rattle.request_rules.specs.Demands.{demand_of}
+use Rattle.request_rules.specs.Locating.{located}
 use Rattle.request_rules.specs.Settings.{Settings}
 use Rattle.request_rules.proofs.PolicyLaws.{caller_is_there, names_of_sound}
+use Rattle.service_core.specs.CoreState.{CoreState}
 use Rattle.service_core.specs.Judged.{TellsRefusal}
 use Rattle.service_core.specs.Planning.{ComesTo}
 use Rattle.service_core.specs.Plans.{IsPrepared}
-use Rattle.service_core.proofs.ClearedLaws.{IsCleared, safe}
+use Rattle.service_core.proofs.ClearedLaws.{safe}
 use Rattle.service_core.proofs.PlanLaws.{prepared_in}
 use Rattle.service_core.proofs.ServeLaws.{refuses_first}
 use Rattle.service_core.proofs.serving.Core.prepare_call.Goals as goal
 
-pub refused-requires : goal.refused-requires
-refused-requires c =
+pub refused-requires-clause-there : goal.refused-requires-clause-there
+refused-requires-clause-there c =
     let some = c.requires.call in
     caller_is_there (record { policy = c.args.policy.now }) some.0.bearer c.args.call.caller some.1.wants.caller_is
+
+pub refused-requires-clause-places : goal.refused-requires-clause-places
+refused-requires-clause-places c =
+    c.in_ok-places.ensures
+    ∙ ap (λ (rows : List Invocation). located rows (demand_of c.args.call.request))
+    (c.table.ensures.rows ∙ ap (λ (k : CoreState). k.held.world.invocations) c.self.view_is)
 
 pub returns-in-Some-clause-prepared : goal.returns-in-Some-clause-prepared
 returns-in-Some-clause-prepared c = λ asked is.
@@ -28,6 +36,12 @@ pub plan-requires-clause-there : goal.plan-requires-clause-there
 plan-requires-clause-there c =
     let some = c.requires.call in
     caller_is_there (record { policy = c.args.policy.now }) some.0.bearer c.args.call.caller some.1.wants.caller_is
+
+pub plan-requires-clause-places : goal.plan-requires-clause-places
+plan-requires-clause-places c =
+    c.in_ok-places.ensures
+    ∙ ap (λ (rows : List Invocation). located rows (demand_of c.args.call.request))
+    (c.table.ensures.rows ∙ ap (λ (k : CoreState). k.held.world.invocations) c.self.view_is)
 
 pub plan-requires-clause-safe : goal.plan-requires-clause-safe
 plan-requires-clause-safe c =

@@ -1,4 +1,4 @@
-use Rattle.std.proofs.Common.{ℤ, FitsSigned, w64, to_z-of_z}
+use Rattle.std.proofs.Common.{FitsSigned, w64, to_z-of_z}
 use Rattle.service_core.proofs.ServeLaws.{serves_after, serves_nothing}
 use Rattle.service_core.proofs.serving.Core.serve.Goals as goal
 
