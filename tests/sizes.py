@@ -27,7 +27,7 @@ LIMITS = {
 # begin of the list
 LISTED = {
     "lines": {
-        "http_wire": 1525,
+        "http_wire": 1522,
         "json_fields": 1555,
         "tap_reader": 1593,
     },
@@ -41,7 +41,7 @@ LISTED = {
         "fault_counts": 3,
         "field_kinds": 2,
         "finaliser": 2,
-        "http_wire": 3,
+        "http_wire": 2,
         "http_workers": 9,
         "journal_trial": 4,
         "names_realms": 14,

@@ -4,8 +4,6 @@
 mod asked;
 mod forms;
 mod refusals;
-#[cfg(test)]
-mod tests;
 
 pub use asked::Asked;
 pub use forms::{Answer, Refusal, Standin, Told};

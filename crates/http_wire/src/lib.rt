@@ -26,6 +26,3 @@ pub use message::{End, Message, WireFault, closes};
 pub use out::{write_farewell, write_response, write_standin};
 pub use plain::read_stream;
 pub use wire::Wire;
-
-#[cfg(test)]
-mod tests;

@@ -3,8 +3,6 @@
 
 mod connection;
 mod ended;
-#[cfg(test)]
-mod tests;
 
 pub use connection::serve_connection;
 pub use ended::{Cause, Ended};
