@@ -39,7 +39,7 @@ impl FormBeside<Outer> for Inner {
 }
 
 /// What such a word makes of a body, none for another word.
-pub fn told(alloc: Global, word: &str, body: &[u8]) -> Result<Option<Vec<u8>>, Fault> {
+pub(crate) fn told(alloc: Global, word: &str, body: &[u8]) -> Result<Option<Vec<u8>>, Fault> {
     match word {
         "beside-a" => Ok(Some(told_beside(alloc, body)?)),
         _ => Ok(None),

@@ -39,7 +39,7 @@ impl From<BodyFault> for Fault {
 }
 
 /// The text of a fault: where it is, and what it is.
-pub fn fault_text(alloc: Global, fault: Fault) -> Result<String, AllocError> {
+pub(crate) fn fault_text(alloc: Global, fault: Fault) -> Result<String, AllocError> {
     match fault {
         Fault::NotJson => String::from_str(alloc, "NotJson"),
         Fault::Field(fault) => field_text(alloc, &fault),

@@ -10,7 +10,7 @@ use std::alloc::Global;
 use text_kinds::{LimitedText, Message, StatusName};
 
 /// What such a word makes of a body, none for another word.
-pub fn told(alloc: Global, word: &str, body: &[u8]) -> Result<Option<Vec<u8>>, Fault> {
+pub(crate) fn told(alloc: Global, word: &str, body: &[u8]) -> Result<Option<Vec<u8>>, Fault> {
     let told = match word {
         "status-field" => status_field(alloc, body)?,
         "default-flag" => default_field::<Flag>(alloc, body)?,

@@ -9,7 +9,7 @@ use json_fields::InvocationName;
 use std::alloc::Global;
 
 /// What such a word makes of a body, none for another word.
-pub fn told(alloc: Global, word: &str, body: &[u8]) -> Result<Option<Vec<u8>>, Fault> {
+pub(crate) fn told(alloc: Global, word: &str, body: &[u8]) -> Result<Option<Vec<u8>>, Fault> {
     let told = match word {
         "page-size" => again::<Whole<PageSize>>(alloc, body)?,
         "byte-size" => again::<Whole<ByteSize>>(alloc, body)?,

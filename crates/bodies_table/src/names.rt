@@ -10,7 +10,7 @@ use names_realms::{
 use std::alloc::Global;
 
 /// What such a word makes of a body, none for another word.
-pub fn told(alloc: Global, word: &str, body: &[u8]) -> Result<Option<Vec<u8>>, Fault> {
+pub(crate) fn told(alloc: Global, word: &str, body: &[u8]) -> Result<Option<Vec<u8>>, Fault> {
     let told = match word {
         "invocation-id" => again::<InvocationId>(alloc, body)?,
         "test-id" => again::<TestId>(alloc, body)?,

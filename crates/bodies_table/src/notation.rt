@@ -11,7 +11,7 @@ use std::alloc::{AllocError, Global};
 const MOST_BODY: usize = 4_194_304;
 
 /// The body that a text stands for, none where it is too long.
-pub fn body_of(alloc: Global, text: &str) -> Result<Option<Vec<u8>>, AllocError> {
+pub(crate) fn body_of(alloc: Global, text: &str) -> Result<Option<Vec<u8>>, AllocError> {
     let mut body = Vec::new(alloc);
     // Behind a backslash that stands for itself, and at the front, a piece is plain.
     let mut is_plain = true;

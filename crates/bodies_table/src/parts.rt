@@ -8,7 +8,7 @@ use names_realms::Pair;
 use std::alloc::{AllocError, Global};
 
 /// What such a word makes of a body, none for another word.
-pub fn told(alloc: Global, word: &str, body: &[u8]) -> Result<Option<Vec<u8>>, Fault> {
+pub(crate) fn told(alloc: Global, word: &str, body: &[u8]) -> Result<Option<Vec<u8>>, Fault> {
     let told = match word {
         "tag-texts" => tag_texts(alloc, body)?,
         "tag-pairs" => tag_pairs(alloc, body)?,

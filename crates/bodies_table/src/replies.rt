@@ -15,7 +15,7 @@ use std::alloc::{AllocError, Global};
 use text_kinds::{LimitedText, Message};
 
 /// What such a word makes of a body, none for another word.
-pub fn told(alloc: Global, word: &str, body: &[u8]) -> Result<Option<Vec<u8>>, Fault> {
+pub(crate) fn told(alloc: Global, word: &str, body: &[u8]) -> Result<Option<Vec<u8>>, Fault> {
     let text = match word {
         "empty-reply" => write_reply(alloc, &Reply::Empty)?,
         "invocation-reply" => invocation_reply(alloc, body)?,

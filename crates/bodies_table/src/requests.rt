@@ -17,7 +17,7 @@ fn service_of(method: &[u8]) -> &'static str {
 
 /// What is written of the request that a body asks for, or the text of its refusal, in which the
 /// method stands for the target.
-pub fn told(alloc: Global, method: &str, body: &[u8]) -> Result<Vec<u8>, AllocError> {
+pub(crate) fn told(alloc: Global, method: &str, body: &[u8]) -> Result<Vec<u8>, AllocError> {
     let method = method.as_bytes();
     let service = service_of(method).as_bytes();
     match read_request(alloc, service, method, body) {

@@ -5,13 +5,13 @@ use json_fields::{Form, Written, read_body};
 use std::alloc::{AllocError, Global};
 
 /// Puts a line behind what is there.
-pub fn put_line(line: &str, out: &mut Vec<u8>) -> Result<(), AllocError> {
+pub(crate) fn put_line(line: &str, out: &mut Vec<u8>) -> Result<(), AllocError> {
     out.extend_from_slice(line.as_bytes())?;
     out.extend_from_slice(b"\n")
 }
 
 /// Puts what a body comes to behind what is there.
-pub fn put_told(body: &[u8], told: &[u8], out: &mut Vec<u8>) -> Result<(), AllocError> {
+pub(crate) fn put_told(body: &[u8], told: &[u8], out: &mut Vec<u8>) -> Result<(), AllocError> {
     if told == body {
         return put_line("same", out);
     }
@@ -26,23 +26,23 @@ pub fn put_told(body: &[u8], told: &[u8], out: &mut Vec<u8>) -> Result<(), Alloc
 }
 
 /// A word, as what a body comes to.
-pub fn told_word(alloc: Global, word: &str) -> Result<Vec<u8>, AllocError> {
+pub(crate) fn told_word(alloc: Global, word: &str) -> Result<Vec<u8>, AllocError> {
     Vec::from_slice(alloc, word.as_bytes())
 }
 
 /// What is written of a value.
-pub fn written<T: Written>(alloc: Global, value: &T) -> Result<Vec<u8>, AllocError> {
+pub(crate) fn written<T: Written>(alloc: Global, value: &T) -> Result<Vec<u8>, AllocError> {
     value.write(alloc)?.to_vec(alloc)
 }
 
 /// What is written of the value that a body is.
-pub fn again<T: Written>(alloc: Global, body: &[u8]) -> Result<Vec<u8>, Fault> {
+pub(crate) fn again<T: Written>(alloc: Global, body: &[u8]) -> Result<Vec<u8>, Fault> {
     let value = read_body::<T>(alloc, body)?;
     Ok(written(alloc, &value)?)
 }
 
 /// The word `read`, where a body is read.
-pub fn read<T: Form>(alloc: Global, body: &[u8]) -> Result<Vec<u8>, Fault> {
+pub(crate) fn read<T: Form>(alloc: Global, body: &[u8]) -> Result<Vec<u8>, Fault> {
     let _value = read_body::<T>(alloc, body)?;
     Ok(told_word(alloc, "read")?)
 }

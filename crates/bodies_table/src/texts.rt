@@ -7,7 +7,7 @@ use text_kinds::{
 };
 
 /// What such a word makes of a body, none for another word.
-pub fn told(alloc: Global, word: &str, body: &[u8]) -> Result<Option<Vec<u8>>, Fault> {
+pub(crate) fn told(alloc: Global, word: &str, body: &[u8]) -> Result<Option<Vec<u8>>, Fault> {
     let told = match word {
         "status" => again::<StatusName>(alloc, body)?,
         "html" => again::<LimitedText<Html>>(alloc, body)?,

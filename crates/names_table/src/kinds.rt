@@ -4,7 +4,7 @@ use crate::{names, parts, times};
 use std::alloc::Global;
 
 /// What a subject of a kind comes to.
-pub fn told(alloc: Global, kind: &str, subject: &str) -> Told {
+pub(crate) fn told(alloc: Global, kind: &str, subject: &str) -> Told {
     match kind {
         "part" => parts::part(alloc, subject),
         "escaped" => parts::escaped(alloc, subject),

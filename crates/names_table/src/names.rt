@@ -8,7 +8,7 @@ use names_realms::{
 use std::alloc::{AllocError, Global};
 
 /// A text: the id of an invocation.
-pub fn invocation_id(alloc: Global, subject: &str) -> Told {
+pub(crate) fn invocation_id(alloc: Global, subject: &str) -> Told {
     let text = undone(alloc, subject)?;
     let id = InvocationId::parse(alloc, text.as_slice())?;
     let mut written = Vec::new(alloc);
@@ -17,7 +17,7 @@ pub fn invocation_id(alloc: Global, subject: &str) -> Told {
 }
 
 /// A text: the id of a test.
-pub fn test_id(alloc: Global, subject: &str) -> Told {
+pub(crate) fn test_id(alloc: Global, subject: &str) -> Told {
     let text = undone(alloc, subject)?;
     let id = TestId::parse(alloc, text.as_slice())?;
     let mut written = Vec::new(alloc);
@@ -26,7 +26,7 @@ pub fn test_id(alloc: Global, subject: &str) -> Told {
 }
 
 /// A text: the id of a result.
-pub fn result_id(alloc: Global, subject: &str) -> Told {
+pub(crate) fn result_id(alloc: Global, subject: &str) -> Told {
     let text = undone(alloc, subject)?;
     let id = ResultId::parse(alloc, text.as_slice())?;
     let mut written = Vec::new(alloc);
@@ -35,7 +35,7 @@ pub fn result_id(alloc: Global, subject: &str) -> Told {
 }
 
 /// A text: the id of an artifact.
-pub fn artifact_id(alloc: Global, subject: &str) -> Told {
+pub(crate) fn artifact_id(alloc: Global, subject: &str) -> Told {
     let text = undone(alloc, subject)?;
     let id = ArtifactId::parse(alloc, text.as_slice())?;
     let mut written = Vec::new(alloc);
@@ -44,7 +44,7 @@ pub fn artifact_id(alloc: Global, subject: &str) -> Told {
 }
 
 /// A text: the realm.
-pub fn realm(alloc: Global, subject: &str) -> Told {
+pub(crate) fn realm(alloc: Global, subject: &str) -> Told {
     let text = undone(alloc, subject)?;
     let realm = Realm::parse(alloc, text.as_slice())?;
     let mut written = Vec::new(alloc);
@@ -53,7 +53,7 @@ pub fn realm(alloc: Global, subject: &str) -> Told {
 }
 
 /// A text: the id that the name of an invocation has.
-pub fn invocation_name(alloc: Global, subject: &str) -> Told {
+pub(crate) fn invocation_name(alloc: Global, subject: &str) -> Told {
     let text = undone(alloc, subject)?;
     let id = InvocationId::parse_name(alloc, text.as_slice())?;
     value(alloc, id.as_slice())
@@ -69,7 +69,7 @@ fn put_ids(alloc: Global, name: &ResultName, out: &mut Vec<u8>) -> Result<(), Al
 }
 
 /// A text: the name of a result, and its ids.
-pub fn result_name(alloc: Global, subject: &str) -> Told {
+pub(crate) fn result_name(alloc: Global, subject: &str) -> Told {
     let text = undone(alloc, subject)?;
     let name = ResultName::parse(alloc, text.as_slice())?;
     let mut written = Vec::new(alloc);
@@ -97,7 +97,7 @@ fn put_parent(alloc: Global, parent: &Parent, out: &mut Vec<u8>) -> Result<(), A
 }
 
 /// A text: the name of a parent, what it is, and its ids.
-pub fn parent(alloc: Global, subject: &str) -> Told {
+pub(crate) fn parent(alloc: Global, subject: &str) -> Told {
     let text = undone(alloc, subject)?;
     let parent = Parent::parse(alloc, text.as_slice())?;
     let mut written = Vec::new(alloc);
@@ -109,7 +109,7 @@ pub fn parent(alloc: Global, subject: &str) -> Told {
 }
 
 /// A text: the name of an artifact, what its parent is and that one's ids, and its own id.
-pub fn artifact_name(alloc: Global, subject: &str) -> Told {
+pub(crate) fn artifact_name(alloc: Global, subject: &str) -> Told {
     let text = undone(alloc, subject)?;
     let name = ArtifactName::parse(alloc, text.as_slice())?;
     let mut written = Vec::new(alloc);
@@ -137,7 +137,7 @@ fn put_pair(alloc: Global, pair: &Pair, out: &mut Vec<u8>) -> Result<(), AllocEr
 }
 
 /// A key and a value: the pair.
-pub fn pair(alloc: Global, subject: &str) -> Told {
+pub(crate) fn pair(alloc: Global, subject: &str) -> Told {
     let (key, value) = two(subject)?;
     let pair = read_pair(alloc, key, value)?;
     let mut out = Vec::new(alloc);
@@ -159,7 +159,7 @@ fn read_pairs(alloc: Global, subject: &str) -> Result<Vec<Pair>, Stop> {
 }
 
 /// Words `KEY=VALUE`: the label of their variant, and its pairs.
-pub fn variant(alloc: Global, subject: &str) -> Told {
+pub(crate) fn variant(alloc: Global, subject: &str) -> Told {
     let variant = Variant::from_pairs(alloc, read_pairs(alloc, subject)?)?;
     let mut out = value(alloc, variant.label().as_slice())?;
     for pair in variant.as_slice() {

@@ -9,7 +9,7 @@ const MOST_TIMES: usize = 65_536;
 const FEWEST_TIMES: usize = 32;
 
 /// The bytes that a word stands for.
-pub fn undone(alloc: Global, word: &str) -> Result<Vec<u8>, Stop> {
+pub(crate) fn undone(alloc: Global, word: &str) -> Result<Vec<u8>, Stop> {
     let mut out = Vec::new(alloc);
     for (i, piece) in word.split('\\').enumerate() {
         if i == 0 {
@@ -65,7 +65,7 @@ fn repeated_of(piece: &str) -> Option<Repeated<'_>> {
 }
 
 /// Puts a value, as it is written in lines, behind what is there.
-pub fn put_value(alloc: Global, bytes: &[u8], out: &mut Vec<u8>) -> Result<(), AllocError> {
+pub(crate) fn put_value(alloc: Global, bytes: &[u8], out: &mut Vec<u8>) -> Result<(), AllocError> {
     let mut last = 0u8;
     let mut times: usize = 0;
     for byte in bytes {

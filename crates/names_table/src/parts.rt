@@ -49,7 +49,7 @@ fn put_any_fault(
 }
 
 /// A form and a text: the part or its fault, its fault where it may be empty, its first bad place.
-pub fn part(alloc: Global, subject: &str) -> Told {
+pub(crate) fn part(alloc: Global, subject: &str) -> Told {
     let (form, text) = two(subject)?;
     let form = form_of(form)?;
     let text = undone(alloc, text)?;
@@ -77,7 +77,7 @@ fn spelling(alloc: Global, bytes: &[u8]) -> Told {
 }
 
 /// A form and an escaped text: the part that it spells, its one spelling and how long that is.
-pub fn escaped(alloc: Global, subject: &str) -> Told {
+pub(crate) fn escaped(alloc: Global, subject: &str) -> Told {
     let (form, text) = two(subject)?;
     let text = undone(alloc, text)?;
     let part = read_escaped(alloc, form_of(form)?, text.as_slice())?;
@@ -88,7 +88,7 @@ pub fn escaped(alloc: Global, subject: &str) -> Told {
 }
 
 /// A text: its one spelling and how long that is.
-pub fn escape(alloc: Global, subject: &str) -> Told {
+pub(crate) fn escape(alloc: Global, subject: &str) -> Told {
     let text = undone(alloc, subject)?;
     spelling(alloc, text.as_slice())
 }
@@ -113,7 +113,7 @@ fn three(alloc: Global, subject: &str) -> Result<Sequence, Stop> {
 }
 
 /// A literal, a form and a text: the part behind the literal.
-pub fn name(alloc: Global, subject: &str) -> Told {
+pub(crate) fn name(alloc: Global, subject: &str) -> Told {
     let words = three(alloc, subject)?;
     let read = read_name(
         alloc,
@@ -125,7 +125,7 @@ pub fn name(alloc: Global, subject: &str) -> Told {
 }
 
 /// The same, where a text without bytes is one that lacks the literal.
-pub fn behind(alloc: Global, subject: &str) -> Told {
+pub(crate) fn behind(alloc: Global, subject: &str) -> Told {
     let words = three(alloc, subject)?;
     let read = read_behind(
         alloc,
@@ -137,7 +137,7 @@ pub fn behind(alloc: Global, subject: &str) -> Told {
 }
 
 /// A literal and a text: what stands behind it, and the first place where the text isn't it.
-pub fn literal(alloc: Global, subject: &str) -> Told {
+pub(crate) fn literal(alloc: Global, subject: &str) -> Told {
     let (literal, text) = two(subject)?;
     let literal = undone(alloc, literal)?;
     let text = undone(alloc, text)?;
@@ -156,7 +156,7 @@ pub fn literal(alloc: Global, subject: &str) -> Told {
 }
 
 /// A byte and a text: how many bytes stand before the first such byte.
-pub fn before(alloc: Global, subject: &str) -> Told {
+pub(crate) fn before(alloc: Global, subject: &str) -> Told {
     let (byte, text) = two(subject)?;
     let byte = undone(alloc, byte)?;
     let text = undone(alloc, text)?;
@@ -167,7 +167,7 @@ pub fn before(alloc: Global, subject: &str) -> Told {
 }
 
 /// A text: how many bytes stand before the first that is no UTF-8.
-pub fn utf8(alloc: Global, subject: &str) -> Told {
+pub(crate) fn utf8(alloc: Global, subject: &str) -> Told {
     let text = undone(alloc, subject)?;
     let mut out = Vec::new(alloc);
     put_place(alloc, Some(utf8_len(text.as_slice())), &mut out)?;

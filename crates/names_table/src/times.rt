@@ -14,7 +14,7 @@ fn with_micros(alloc: Global, written: &[u8], micros: &str) -> Told {
 }
 
 /// A text: the moment's one text, and its microseconds since 1970.
-pub fn moment(alloc: Global, subject: &str) -> Told {
+pub(crate) fn moment(alloc: Global, subject: &str) -> Told {
     let text = undone(alloc, subject)?;
     let moment = Moment::parse(alloc, text.as_slice())?;
     let mut written = Vec::new(alloc);
@@ -25,7 +25,7 @@ pub fn moment(alloc: Global, subject: &str) -> Told {
 }
 
 /// Microseconds since 1970: the text of their moment, if the years 1 to 9999 have it.
-pub fn moment_of(alloc: Global, subject: &str) -> Told {
+pub(crate) fn moment_of(alloc: Global, subject: &str) -> Told {
     let micros: i64 = subject.parse().ok().ok_or(Stop::Odd("no number"))?;
     if !is_of_years(micros) {
         return word(alloc, "no moment");
@@ -35,7 +35,7 @@ pub fn moment_of(alloc: Global, subject: &str) -> Told {
 }
 
 /// A text: the span's one text, and its microseconds.
-pub fn span(alloc: Global, subject: &str) -> Told {
+pub(crate) fn span(alloc: Global, subject: &str) -> Told {
     let text = undone(alloc, subject)?;
     let span = Span::parse(alloc, text.as_slice())?;
     let mut written = Vec::new(alloc);
@@ -46,7 +46,7 @@ pub fn span(alloc: Global, subject: &str) -> Told {
 }
 
 /// Microseconds: the text of their span, if they are one.
-pub fn span_of(alloc: Global, subject: &str) -> Told {
+pub(crate) fn span_of(alloc: Global, subject: &str) -> Told {
     let micros: u64 = subject.parse().ok().ok_or(Stop::Odd("no number"))?;
     let Some(span) = Span::from_micros(micros) else {
         return word(alloc, "no span");
@@ -65,7 +65,7 @@ fn told_order(alloc: Global, order: Ordering) -> Told {
 }
 
 /// Two texts: whether the first moment is before the second.
-pub fn moment_order(alloc: Global, subject: &str) -> Told {
+pub(crate) fn moment_order(alloc: Global, subject: &str) -> Told {
     let (left, right) = two(subject)?;
     let left = undone(alloc, left)?;
     let right = undone(alloc, right)?;
@@ -75,7 +75,7 @@ pub fn moment_order(alloc: Global, subject: &str) -> Told {
 }
 
 /// Two texts: whether the first span is shorter than the second.
-pub fn span_order(alloc: Global, subject: &str) -> Told {
+pub(crate) fn span_order(alloc: Global, subject: &str) -> Told {
     let (left, right) = two(subject)?;
     let left = undone(alloc, left)?;
     let right = undone(alloc, right)?;

@@ -57,7 +57,7 @@ impl From<PairFault> for Stop {
 }
 
 /// Puts why a line gives no value behind what is there.
-pub fn put_stop(alloc: Global, stop: Stop, out: &mut Vec<u8>) -> Result<(), AllocError> {
+pub(crate) fn put_stop(alloc: Global, stop: Stop, out: &mut Vec<u8>) -> Result<(), AllocError> {
     match stop {
         Stop::Fault { part, fault } => {
             out.extend_from_slice(part.as_bytes())?;
@@ -69,7 +69,11 @@ pub fn put_stop(alloc: Global, stop: Stop, out: &mut Vec<u8>) -> Result<(), Allo
 }
 
 /// Puts a fault behind what is there.
-pub fn put_fault(alloc: Global, fault: NameFault, out: &mut Vec<u8>) -> Result<(), AllocError> {
+pub(crate) fn put_fault(
+    alloc: Global,
+    fault: NameFault,
+    out: &mut Vec<u8>,
+) -> Result<(), AllocError> {
     let text = match fault {
         NameFault::Empty => format!(in alloc; "Empty")?,
         NameFault::TooLong { len } => format!(in alloc; "TooLong {len}")?,
@@ -82,12 +86,16 @@ pub fn put_fault(alloc: Global, fault: NameFault, out: &mut Vec<u8>) -> Result<(
 }
 
 /// Puts what parts two values behind what is there.
-pub fn put_bar(out: &mut Vec<u8>) -> Result<(), AllocError> {
+pub(crate) fn put_bar(out: &mut Vec<u8>) -> Result<(), AllocError> {
     out.extend_from_slice(b" | ")
 }
 
 /// Puts a place behind what is there, or `none`.
-pub fn put_place(alloc: Global, place: Option<usize>, out: &mut Vec<u8>) -> Result<(), AllocError> {
+pub(crate) fn put_place(
+    alloc: Global,
+    place: Option<usize>,
+    out: &mut Vec<u8>,
+) -> Result<(), AllocError> {
     match place {
         Some(place) => {
             let text = format!(in alloc; "{place}")?;
@@ -98,18 +106,18 @@ pub fn put_place(alloc: Global, place: Option<usize>, out: &mut Vec<u8>) -> Resu
 }
 
 /// A value alone.
-pub fn value(alloc: Global, bytes: &[u8]) -> Told {
+pub(crate) fn value(alloc: Global, bytes: &[u8]) -> Told {
     let mut out = Vec::new(alloc);
     put_value(alloc, bytes, &mut out)?;
     Ok(out)
 }
 
 /// A word alone.
-pub fn word(alloc: Global, word: &str) -> Told {
+pub(crate) fn word(alloc: Global, word: &str) -> Told {
     Ok(Vec::from_slice(alloc, word.as_bytes())?)
 }
 
 /// The first word of a subject, and the rest behind a blank.
-pub fn two(subject: &str) -> Result<(&str, &str), Stop> {
+pub(crate) fn two(subject: &str) -> Result<(&str, &str), Stop> {
     subject.split_once(' ').ok_or(Stop::Odd("too few words"))
 }

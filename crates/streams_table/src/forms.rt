@@ -15,7 +15,7 @@ use std::alloc::{AllocError, Global};
 const MOST_REPLIES: usize = 1_048_576;
 
 /// Tells the call that a target names.
-pub fn tell_route(alloc: Global, subject: &str, out: &mut Vec<u8>) -> Result<(), Fault> {
+pub(crate) fn tell_route(alloc: Global, subject: &str, out: &mut Vec<u8>) -> Result<(), Fault> {
     let bytes = bytes_of(alloc, subject)?;
     let target = std::str::from_utf8(bytes.as_slice())
         .ok()
@@ -34,7 +34,7 @@ pub fn tell_route(alloc: Global, subject: &str, out: &mut Vec<u8>) -> Result<(),
 }
 
 /// Tells what the reply says behind so many others, to a message with this flag.
-pub fn tell_closes(subject: &str, out: &mut Vec<u8>) -> Result<(), Fault> {
+pub(crate) fn tell_closes(subject: &str, out: &mut Vec<u8>) -> Result<(), Fault> {
     let (count, flag) = subject.split_once(' ').ok_or(Fault::Form)?;
     let before: usize = count.parse().ok().ok_or(Fault::Form)?;
     if before >= MOST_REPLIES {
@@ -55,7 +55,7 @@ fn put_answer(alloc: Global, answer: &Answer, out: &mut Vec<u8>) -> Result<(), A
 }
 
 /// Tells the answer of a refusal.
-pub fn tell_refusal(alloc: Global, subject: &str, out: &mut Vec<u8>) -> Result<(), Fault> {
+pub(crate) fn tell_refusal(alloc: Global, subject: &str, out: &mut Vec<u8>) -> Result<(), Fault> {
     let (number, text) = subject.split_once(' ').unwrap_or((subject, ""));
     let rule: u8 = number.parse().ok().ok_or(Fault::Form)?;
     if rule < 1 || rule > 21 {
@@ -68,7 +68,7 @@ pub fn tell_refusal(alloc: Global, subject: &str, out: &mut Vec<u8>) -> Result<(
 }
 
 /// Tells a stand-in's whole reply.
-pub fn tell_standin(alloc: Global, subject: &str, out: &mut Vec<u8>) -> Result<(), Fault> {
+pub(crate) fn tell_standin(alloc: Global, subject: &str, out: &mut Vec<u8>) -> Result<(), Fault> {
     let (standin, close) = flagged_standin(subject)?;
     put_line(alloc, "", standin.bytes(close), out)?;
     Ok(())

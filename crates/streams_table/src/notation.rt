@@ -22,7 +22,7 @@ struct Repeat {
 }
 
 /// The numbers between commas.
-pub fn numbers_of(alloc: Global, text: &str) -> Result<Vec<u64>, Fault> {
+pub(crate) fn numbers_of(alloc: Global, text: &str) -> Result<Vec<u64>, Fault> {
     let mut numbers = Vec::new(alloc);
     for word in text.split(',') {
         let number: u64 = word.parse().ok().ok_or(Fault::Form)?;
@@ -32,7 +32,7 @@ pub fn numbers_of(alloc: Global, text: &str) -> Result<Vec<u64>, Fault> {
 }
 
 /// The bytes of each piece.
-pub fn pieces_of(alloc: Global, text: &str) -> Result<Vec<Vec<u8>>, Fault> {
+pub(crate) fn pieces_of(alloc: Global, text: &str) -> Result<Vec<Vec<u8>>, Fault> {
     let mut pieces = Vec::new(alloc);
     for piece in text.split('|') {
         pieces.push(bytes_of(alloc, piece)?)?;
@@ -41,7 +41,7 @@ pub fn pieces_of(alloc: Global, text: &str) -> Result<Vec<Vec<u8>>, Fault> {
 }
 
 /// The bytes that a text stands for.
-pub fn bytes_of(alloc: Global, text: &str) -> Result<Vec<u8>, Fault> {
+pub(crate) fn bytes_of(alloc: Global, text: &str) -> Result<Vec<u8>, Fault> {
     let mut bytes = Vec::new(alloc);
     let mut repeat = None;
     let mut is_plain = true;
@@ -123,7 +123,7 @@ fn end_repeat(repeat: Repeat, bytes: &mut Vec<u8>) -> Result<(), Fault> {
 }
 
 /// Puts bytes as they are printed behind what is there.
-pub fn put_bytes(alloc: Global, bytes: &[u8], out: &mut Vec<u8>) -> Result<(), AllocError> {
+pub(crate) fn put_bytes(alloc: Global, bytes: &[u8], out: &mut Vec<u8>) -> Result<(), AllocError> {
     let mut last = 0;
     let mut count: usize = 0;
     for byte in bytes {
@@ -165,14 +165,14 @@ fn put_byte(alloc: Global, byte: u8, out: &mut Vec<u8>) -> Result<(), AllocError
 }
 
 /// Puts bytes as they are printed between quotes.
-pub fn put_quoted(alloc: Global, bytes: &[u8], out: &mut Vec<u8>) -> Result<(), AllocError> {
+pub(crate) fn put_quoted(alloc: Global, bytes: &[u8], out: &mut Vec<u8>) -> Result<(), AllocError> {
     out.extend_from_slice(b"\"")?;
     put_bytes(alloc, bytes, out)?;
     out.extend_from_slice(b"\"")
 }
 
 /// Puts a line of a front and, where there are any, bytes as they are printed.
-pub fn put_line(
+pub(crate) fn put_line(
     alloc: Global,
     front: &str,
     bytes: &[u8],
@@ -188,7 +188,7 @@ pub fn put_line(
 }
 
 /// Whether a flag says that the connection closes.
-pub fn flag_of(word: &str) -> Result<bool, Fault> {
+pub(crate) fn flag_of(word: &str) -> Result<bool, Fault> {
     match word {
         "open" => Ok(false),
         "close" => Ok(true),
@@ -197,6 +197,6 @@ pub fn flag_of(word: &str) -> Result<bool, Fault> {
 }
 
 /// The word of a flag.
-pub fn flag_word(close: bool) -> &'static str {
+pub(crate) fn flag_word(close: bool) -> &'static str {
     if close { "close" } else { "open" }
 }

@@ -73,7 +73,11 @@ fn put_message(alloc: Global, message: &Message, out: &mut Vec<u8>) -> Result<()
 }
 
 /// Puts a fault: its number, its name and what it tells.
-pub fn put_fault(alloc: Global, fault: WireFault, out: &mut Vec<u8>) -> Result<(), AllocError> {
+pub(crate) fn put_fault(
+    alloc: Global,
+    fault: WireFault,
+    out: &mut Vec<u8>,
+) -> Result<(), AllocError> {
     let (number, name) = (fault.number(), fault.name());
     let text = match fault {
         WireFault::BadHead { end } => format!(in alloc; "fault {number} {name} {end}")?,
@@ -265,7 +269,7 @@ fn joined(alloc: Global, pieces: &[Vec<u8>]) -> Result<Vec<u8>, AllocError> {
 }
 
 /// Tells what pieces come to, and what their stream comes to in other ways.
-pub fn tell_read(
+pub(crate) fn tell_read(
     alloc: Global,
     subject: &str,
     fails: Vec<u64>,
@@ -288,7 +292,7 @@ pub fn tell_read(
 }
 
 /// Tells what each front of a stream comes to, from the empty one on, but for the stream itself.
-pub fn tell_fronts(alloc: Global, subject: &str, out: &mut Vec<u8>) -> Result<(), Fault> {
+pub(crate) fn tell_fronts(alloc: Global, subject: &str, out: &mut Vec<u8>) -> Result<(), Fault> {
     let stream = bytes_of(alloc, subject)?;
     let mut front = Vec::new(alloc);
     for byte in &stream {

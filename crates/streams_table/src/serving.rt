@@ -63,7 +63,7 @@ fn put_cause(alloc: Global, cause: Cause, out: &mut Vec<u8>) -> Result<(), Alloc
 }
 
 /// Tells how a connection ended, and what was written on it.
-pub fn tell_served(
+pub(crate) fn tell_served(
     alloc: Global,
     subject: &str,
     fails: Vec<u64>,

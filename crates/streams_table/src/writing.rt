@@ -32,7 +32,7 @@ fn fault_of(name: &str) -> Result<WireFault, Fault> {
 }
 
 /// The stand-in of a name.
-pub fn standin_of(name: &str) -> Result<Standin, Fault> {
+pub(crate) fn standin_of(name: &str) -> Result<Standin, Fault> {
     match name {
         "Unavailable" => Ok(Standin::Unavailable),
         "Memory" => Ok(Standin::Memory),
@@ -71,7 +71,7 @@ fn answer_of(alloc: Global, words: &str) -> Result<(Answer, bool), Fault> {
 }
 
 /// A stand-in, and its flag, of such words.
-pub fn flagged_standin(words: &str) -> Result<(Standin, bool), Fault> {
+pub(crate) fn flagged_standin(words: &str) -> Result<(Standin, bool), Fault> {
     let (name, flag) = words.split_once(' ').ok_or(Fault::Form)?;
     Ok((standin_of(name)?, flag_of(flag)?))
 }
@@ -115,7 +115,7 @@ fn put_write(
 }
 
 /// Tells how each write ended, and what was taken of it.
-pub fn tell_writes(
+pub(crate) fn tell_writes(
     alloc: Global,
     subject: &str,
     fails: Vec<u64>,
@@ -131,7 +131,7 @@ pub fn tell_writes(
 }
 
 /// Tells the number and the name of a fault, and its farewell.
-pub fn tell_fault(alloc: Global, subject: &str, out: &mut Vec<u8>) -> Result<(), Fault> {
+pub(crate) fn tell_fault(alloc: Global, subject: &str, out: &mut Vec<u8>) -> Result<(), Fault> {
     let fault = fault_of(subject)?;
     let (number, name) = (fault.number(), fault.name());
     let front = format!(in alloc; "{number} {name}")?;
