@@ -1,5 +1,6 @@
 -- Kept replies, by their caller and number.
-use Rattle.std.specs.Prelude.{◌≡◌, ◌≢◌, ℕ, List, All, Contains, Option, Some, None, slice_get}
+use Rattle.std.specs.Prelude.{◌≡◌, ◌≢◌, ℕ, suc, Bool, ◌&&◌, if◌then◌else◌, List, [], ◌∷◌, All, Option, Some, None, option_map, slice_get}
+use Rattle.std.specs.Str.{bytes_eq}
 use Rattle.kept_replies.specs.declared.reply.KeptReply.{KeptReply}
 
 -- The replies in order of arrival, and for how many more there is room.
@@ -19,10 +20,14 @@ IsFor caller number reply = (reply.caller ≡ caller) × (reply.number ≡ numbe
 abbrev pub IsFree : List KeptReply → List ℕ → List ℕ → Type 0
 IsFree kept caller number = All (λ reply. ¬ IsFor caller number reply) kept
 
--- What is kept for it, if anything is.
-abbrev pub Finds : List KeptReply → List ℕ → List ℕ → Option KeptReply → Type 0
-Finds kept caller number None = IsFree kept caller number
-Finds kept caller number (Some reply) = Contains kept reply × IsFor caller number reply
+abbrev pub is_for : List ℕ → List ℕ → KeptReply → Bool
+is_for caller number reply = bytes_eq reply.caller caller && bytes_eq reply.number number
+
+-- the place of the first reply that is kept for it, counted from 0
+abbrev pub place_for : List ℕ → List ℕ → List KeptReply → Option ℕ
+place_for caller number [] = None
+place_for caller number (reply ∷ kept) =
+    if is_for caller number reply then Some 0 else option_map suc (place_for caller number kept)
 
 -- No two are for the same number of the same caller.
 abbrev pub IsAlone : List KeptReply → Type 0

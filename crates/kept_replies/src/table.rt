@@ -1,6 +1,6 @@
 //! The table of kept replies.
-ghost use Rattle.std.specs.Prelude.{◌≡◌, ◌≤◌, ◌<◌, ◌++◌, ◌∷◌, [], IfOk, OnOk, option_map};
-ghost use Rattle.kept_replies.specs.Kept.{Finds, IsAlone, IsFree, IsWord};
+ghost use Rattle.std.specs.Prelude.{◌≡◌, ◌≤◌, ◌<◌, ◌++◌, ◌∷◌, [], IfOk, OnOk};
+ghost use Rattle.kept_replies.specs.Kept.{IsAlone, IsFree, IsWord, place_for};
 ghost use Rattle.kept_replies.specs.Places.{key_of};
 
 use crate::keys::key_of;
@@ -71,23 +71,20 @@ impl KeptReplies {
         self.replies.as_slice()
     }
 
-    /// The reply that is kept for a caller's number, which has no blank: none, or the only one.
-    /// `Err` where there is no memory for the key.
+    /// The place of the reply that is kept for a caller's number, which has no blank: none, or the
+    /// only one. `Err` where there is no memory for the key.
     pub fn find(
         &self,
         alloc: Global,
         caller: &[u8],
         number: &[u8],
-    ) -> Result<Option<&KeptReply>, AllocError>
+    ) -> Result<Option<usize>, AllocError>
         requires { IsWord number.now }
-        ensures { IfOk result (λ found. Finds self.now.kept caller.now number.now
-            (option_map (λ reply. reply.now) found)) }
+        ensures { IfOk result (λ found. found
+            ≡ place_for caller.now number.now self.now.kept) }
     {
         let key = key_of(alloc, caller, number)?;
-        match self.places.get(&key) {
-            Some(place) => Ok(Some(&self.replies[*place])),
-            None => Ok(None),
-        }
+        Ok(self.places.get(&key).copied())
     }
 
     /// Makes a reply ready, with all room that it takes. Nothing is kept yet. `Err` where there is
