@@ -1,7 +1,8 @@
 -- Fields that may be unset, null or empty.
-use Rattle.std.proofs.Common.{◌≡◌, Bool, false, Option, Some, None, IfSome, refl, ◌∙◌}
+use Rattle.std.proofs.Common.{◌≡◌, Bool, false, Option, Some, None, IfSome, refl, subst, ◌∙◌}
 use Rattle.std.specs.Option.{ForSome}
 use Rattle.std.specs.Prelude.{option_and_then}
+use Rattle.std.proofs.lemmas.Option.{none-some, same_Some}
 use Rattle.serde_json.specs.Data.{Data, null, boolean, number, string, array, object, Members, put}
 use Rattle.json_fields.specs.Names.{NameForm}
 use Rattle.json_fields.specs.Faults.{moved}
@@ -77,10 +78,10 @@ filled_there n empty fault means law d h = there_by n fault means law (filled_at
 
 form_by : {A : Type 0} (n : NameForm) (fault : Data → Option FieldFault) (means : Data → A → Type 0) (P : A → Type 0)
     → GivesForm fault means P → (o : Option Data) (a : Option A) → fault_optional n fault o ≡ None → HoldsMaybe means o a → ForSome a P
-form_by n fault means P law None None none holds = tt
-form_by n fault means P law None (Some a) none holds = absurd holds
-form_by n fault means P law (Some d) None none holds = tt
-form_by n fault means P law (Some d) (Some a) none holds = law d a (moved_none (Member n) (fault d) none) holds
+form_by n fault means P law None None none holds b e = absurd (none-some b e)
+form_by n fault means P law None (Some a) none holds b e = absurd holds
+form_by n fault means P law (Some d) None none holds b e = absurd holds
+form_by n fault means P law (Some d) (Some a) none holds b e = subst P (same_Some a b e) (law d a (moved_none (Member n) (fault d) none) holds)
 
 pub filled_form : {A : Type 0} (n : NameForm) (empty : Data → Bool) (fault : Data → Option FieldFault) (means : Data → A → Type 0) (P : A → Type 0)
     → GivesForm fault means P → (d : Data) (a : Option A) → optional_filled n empty fault d ≡ None → HoldsMaybe means (filled_at n empty d) a → ForSome a P

@@ -12,16 +12,6 @@ pub enum KeptAnswer {
         deadline: Moment,
         tags: Listed<Pair>,
     },
-    /// So many test results, from this place on.
-    Results {
-        first: u32,
-        count: u32,
-    },
-    /// So many test exonerations, from this place on.
-    Exonerations {
-        first: u32,
-        count: u32,
-    },
 }
 
 /// An accepted numbered request: its caller's name, its number, the digest by which a repeat is

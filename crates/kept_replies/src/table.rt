@@ -1,5 +1,5 @@
 //! The table of kept replies.
-ghost use Rattle.std.specs.Prelude.{◌≡◌, ◌≤◌, ◌<◌, ◌++◌, ◌∷◌, [], IfOk, OnOk};
+ghost use Rattle.std.specs.Prelude.{◌≡◌, ◌≤◌, ◌<◌, ◌++◌, ◌∷◌, [], Some, IfOk, OnOk, length, slice_get};
 ghost use Rattle.kept_replies.specs.Kept.{IsAlone, IsFree, IsWord, place_for};
 ghost use Rattle.kept_replies.specs.Places.{key_of};
 
@@ -69,6 +69,14 @@ impl KeptReplies {
         ensures alone { IsAlone self.now.kept }
     {
         self.replies.as_slice()
+    }
+
+    /// The reply at a place, counted from 0.
+    pub fn reply(&self, place: usize) -> &KeptReply
+        requires { place < length self.now.kept }
+        ensures { slice_get self.now.kept place ≡ Some result.now }
+    {
+        &self.replies[place]
     }
 
     /// The place of the reply that is kept for a caller's number, which has no blank: none, or the

@@ -9,9 +9,7 @@ use Rattle.fault_counts.specs.Causes.{Rose}
 use Rattle.policy_tables.specs.declared.tables.PolicyTables.{PolicyTables}
 use Rattle.policy_reading.specs.Reading.{IsPolicyOf, IsFirstFault}
 use Rattle.permissions.specs.declared.faults.PolicyFault.{PolicyFault}
-use Rattle.invocation_world.specs.World.{World, empty_world}
-use Rattle.request_effects.specs.Shows.{Scene}
-use Rattle.service_core.specs.Step.{scene_of}
+use Rattle.service_core.specs.Service.{Service, ServiceWorld, empty_service, service_of}
 use Rattle.tellers.specs.Exchange.{Exchange}
 use Rattle.record_desk.specs.Clocked.{IsClocked}
 use Rattle.record_desk.specs.Standing.{Moves}
@@ -309,15 +307,15 @@ says_through words cb ca ib i ia j ob o oa p eb ea tb ta ending one two three fo
 
 -- ---- the history of a connection over an empty world
 
-pub history_from : {T : Type 0} (tells : T → List ℤ → Type 0) (tables shown : PolicyTables) (world : World) (last : Scene)
-    (start then now end : T) (es : List Exchange) → shown ≡ tables → world ≡ empty_world → start ≡ then → now ≡ end
-    → Moves (scene_of (record { policy = shown }) world) (tells start) es last (tells now) → IsHistory tables (tells then) es (tells end)
+pub history_from : {T : Type 0} (tells : T → List ℤ → Type 0) (tables shown : PolicyTables) (world : ServiceWorld) (last : Service)
+    (start then now end : T) (es : List Exchange) → shown ≡ tables → world ≡ empty_service → start ≡ then → now ≡ end
+    → Moves (service_of (record { policy = shown }) world) (tells start) es last (tells now) → IsHistory tables (tells then) es (tells end)
 history_from {T} tells tables shown world last start then now end es policy empty began ended moves =
-    let From : PolicyTables → World → T → T → Type 0 = λ p w s e. Moves (scene_of (record { policy = p }) w) (tells s) es last (tells e) in
+    let From : PolicyTables → ServiceWorld → T → T → Type 0 = λ p w s e. Moves (service_of (record { policy = p }) w) (tells s) es last (tells e) in
     record {
       last = last;
-      moves = subst (λ (p : PolicyTables). From p empty_world then end) policy
-          (subst (λ (w : World). From shown w then end) empty
+      moves = subst (λ (p : PolicyTables). From p empty_service then end) policy
+          (subst (λ (w : ServiceWorld). From shown w then end) empty
           (subst (λ (t : T). From shown world t end) began (subst (λ (t : T). From shown world start t) ended moves)));
     }
 

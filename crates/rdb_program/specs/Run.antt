@@ -6,9 +6,7 @@ use Rattle.outside.specs.declared.whole.WriteEnd.{WriteEnd}
 use Rattle.policy_tables.specs.declared.tables.PolicyTables.{PolicyTables}
 use Rattle.permissions.specs.Faults.{fault_number, fault_name}
 use Rattle.permissions.specs.declared.faults.PolicyFault.{PolicyFault}
-use Rattle.invocation_world.specs.World.{empty_world}
-use Rattle.request_effects.specs.Shows.{Scene}
-use Rattle.service_core.specs.Step.{scene_of}
+use Rattle.service_core.specs.Service.{Service, empty_service, service_of}
 use Rattle.tellers.specs.Exchange.{Exchange}
 use Rattle.record_desk.specs.Clocked.{IsClocked}
 use Rattle.record_desk.specs.Standing.{Moves}
@@ -67,8 +65,8 @@ line_of (Served ended) = (row_of ended.cause).line
 -- seat, at the moments that the clock's answers make.
 pub record IsHistory (tables : PolicyTables) (tells_before : List ℤ → Type 0)
     (exchanges : List Exchange) (tells_after : List ℤ → Type 0) : Type 0 where
-  pub last : Scene
-  pub moves : Moves (scene_of (record { policy = tables }) empty_world) tells_before exchanges
+  pub last : Service
+  pub moves : Moves (service_of (record { policy = tables }) empty_service) tells_before exchanges
       last tells_after
 
 -- The output got this text, as far as it took it, and nothing was read.

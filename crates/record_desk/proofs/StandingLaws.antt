@@ -2,8 +2,8 @@
 use Rattle.std.proofs.Common.{◌≡◌, ℕ, ℤ, List, [], ◌∷◌, ◌++◌, map, refl, sym, ap, ◌∙◌}
 use Rattle.std.proofs.lemmas.List.{map-append}
 use Rattle.std.specs.List.{AllByRecursion}
-use Rattle.request_effects.specs.Shows.{Scene}
 use Rattle.service_core.specs.History.{Entry, Serves, entry_at}
+use Rattle.service_core.specs.Service.{Service}
 use Rattle.call_forms.specs.declared.asked.Asked.{Asked}
 use Rattle.call_forms.specs.declared.forms.Told.{Told}
 use Rattle.service_core.proofs.HistoryLaws.{timed_goes_on}
@@ -11,7 +11,7 @@ use Rattle.tellers.specs.Exchange.{Exchange}
 use Rattle.record_desk.specs.Standing.{Moves, exchange_of}
 use Rattle.record_desk.proofs.ClockedLaws.{clocked_nothing, clocked_more}
 
-pub moves_nowhere : (s : Scene) (tells : List ℤ → Type 0) → Moves s tells [] s tells
+pub moves_nowhere : (s : Service) (tells : List ℤ → Type 0) → Moves s tells [] s tells
 moves_nowhere s tells = record {
   history = [];
   answers = [];
@@ -27,7 +27,7 @@ seats_more [] e all here = (here, tt)
 seats_more (x ∷ h) e all here = (all.0, seats_more h e all.1 here)
 
 -- one call of the clock and one of the core
-pub moves_more : (first now after : Scene) (tf tn ta : List ℤ → Type 0) (exchanges : List Exchange) (answer : ℤ) (asked : Asked) (told : Told)
+pub moves_more : (first now after : Service) (tf tn ta : List ℤ → Type 0) (exchanges : List Exchange) (answer : ℤ) (asked : Asked) (told : Told)
     → Moves first tf exchanges now tn
     → Serves now.settings now.world 0 answer asked told after.world → after.settings ≡ now.settings
     → ((given : ℤ) (others : List ℤ) → tn (given ∷ others) → (answer ≡ given) × ta others)

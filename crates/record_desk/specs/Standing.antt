@@ -1,8 +1,8 @@
 -- What a service and its clock went through.
 use Rattle.std.specs.Prelude.{◌≡◌, ℕ, ℤ, List, map}
 use Rattle.std.specs.List.{AllByRecursion}
-use Rattle.request_effects.specs.Shows.{Scene}
 use Rattle.service_core.specs.History.{Entry, IsTimed}
+use Rattle.service_core.specs.Service.{Service}
 use Rattle.record_desk.specs.Clocked.{IsClocked}
 use Rattle.tellers.specs.Exchange.{Exchange}
 
@@ -12,7 +12,7 @@ exchange_of e = record { asked = e.asked; told = e.told }
 
 -- From the one to the other led a history of one seat, an entry for each exchange, in order, at the moments that the
 -- clock's answers make.
-pub record Moves (before : Scene) (tells_before : List ℤ → Type 0) (exchanges : List Exchange) (after : Scene)
+pub record Moves (before : Service) (tells_before : List ℤ → Type 0) (exchanges : List Exchange) (after : Service)
     (tells_after : List ℤ → Type 0) : Type 0 where
   pub history : List Entry
   pub answers : List ℤ

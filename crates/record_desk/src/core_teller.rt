@@ -1,7 +1,8 @@
 //! A core and its clock as a teller.
 ghost use Rattle.std.specs.Prelude.{◌≡◌, List, [], ◌∷◌, ◌++◌};
 ghost use Rattle.tellers.specs.Exchange.{Exchange};
-ghost use Rattle.service_core.specs.Step.{scene_of};
+ghost use Rattle.service_core.specs.CoreState.{world_in};
+ghost use Rattle.service_core.specs.Service.{service_of};
 ghost use Rattle.record_desk.specs.Standing.{Moves};
 
 use call_forms::{Asked, Told};
@@ -45,13 +46,14 @@ impl<'a, C: Clock> CoreTeller<'a, C> {
 
 impl<'a, C: Clock> Teller for CoreTeller<'a, C> {
     ghost use Rattle.std.specs.Prelude.{[], ◌∷◌};
-    ghost use Rattle.service_core.specs.Step.{scene_of};
+    ghost use Rattle.service_core.specs.CoreState.{world_in};
+ghost use Rattle.service_core.specs.Service.{service_of};
     ghost use Rattle.record_desk.specs.Standing.{Moves};
 
     ghost stands = { λ first now exchanges.
-        Moves (scene_of (record { policy = first.policy.now }) first.core.now.held.world)
+        Moves (service_of (record { policy = first.policy.now }) (world_in first.core.now))
         (C.tells (C.state first.clock.now)) exchanges
-        (scene_of (record { policy = now.policy.now }) now.core.now.held.world)
+        (service_of (record { policy = now.policy.now }) (world_in now.core.now))
         (C.tells (C.state now.clock.now)) };
 
     ghost holds = { λ t. t.core.ghost_name ∷ t.clock.ghost_name ∷ [] };

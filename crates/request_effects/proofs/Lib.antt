@@ -4,3 +4,4 @@ pub mod EffectLaws
 pub mod FullLaws
 pub mod DoneFacts
 pub mod AheadFacts
+pub mod KeepLaws

@@ -3,5 +3,6 @@ pub mod Fitting
 pub mod Full
 pub mod Foreseen
 pub mod Shows
+pub mod Keeps
 pub mod Laws
 pub mod Planned

@@ -7,6 +7,7 @@ ghost use Rattle.invocation_world.specs.Changes.{updated};
 ghost use Rattle.request_effects.specs.Fitting.{Suits};
 ghost use Rattle.request_effects.specs.Foreseen.{Foresees, IsFinalTold, IsHere, Leaves, ended_if};
 ghost use Rattle.invocation_world.specs.States.{IsRoomier};
+ghost use Rattle.request_effects.specs.Keeps.{as_made};
 ghost use Rattle.request_effects.specs.Shows.{ids_at};
 
 use crate::effect::Effect;
@@ -53,6 +54,20 @@ impl<'r> Seen<'r> {
             finished: row.finished,
             state: row.state,
             tags: row.tags.as_slice(),
+        }
+    }
+
+    /// An invocation as it was made, with this deadline and these tags.
+    pub(crate) fn made(row: &'r Invocation, deadline: Moment, tags: &'r [Pair]) -> Seen<'r>
+        ensures { result ≡ as_made deadline tags.now row.now }
+    {
+        Seen {
+            row,
+            deadline,
+            started: None,
+            finished: None,
+            state: State::Active,
+            tags,
         }
     }
 

@@ -5,6 +5,7 @@ ghost use Rattle.request_effects.specs.Effects.{Does};
 ghost use Rattle.request_effects.specs.Fitting.{IsTimely, Suits};
 ghost use Rattle.request_effects.specs.Foreseen.{Foresees, IsHere, IsOwn, Leaves};
 ghost use Rattle.invocation_world.specs.States.{IsRoomier};
+ghost use Rattle.request_effects.specs.Keeps.{kept_answer, made_answer};
 ghost use Rattle.request_effects.specs.Shows.{answer_of, done, ids_at, reply_at, shown_with, token_at};
 
 use crate::ahead::{Ahead, Seen, ends_at_once};
@@ -12,8 +13,10 @@ use crate::effect::Change;
 use crate::shows::Shows;
 use call_forms::Answer;
 use invocation_world::InvocationWorld;
+use invocations::Invocation;
+use kept_replies::KeptAnswer;
 use message_forms::{Reply, ShownInvocation, write_reply};
-use names_realms::{InvocationId, Moment};
+use names_realms::{InvocationId, Moment, Pair};
 use permissions::Policy;
 use std::alloc::{AllocError, Global};
 use update_tokens::update_token;
@@ -145,4 +148,48 @@ pub fn show(
         is_final,
     };
     ahead.show(alloc, policy, shows)
+}
+
+/// The answer that showed a new invocation, made again with the deadline and the tags that it had.
+/// `Err` where there is no memory for it.
+fn show_made(
+    alloc: Global,
+    policy: &Policy,
+    row: &Invocation,
+    deadline: Moment,
+    tags: &[Pair],
+) -> Result<Answer, AllocError>
+    ensures { IfOk result (λ answer. answer ≡ made_answer (record { policy = policy.now })
+        deadline tags.now (Some row.now)) }
+{
+    let token = update_token(policy.secret(), &row.id);
+    let seen = Seen::made(row, deadline, tags);
+    let shown = shown_with(&seen, &[]);
+    done(alloc, Some(token), &Reply::Invocation(shown))
+}
+
+/// The answer to a repeat, made again of what is kept. Where no invocation stands at a place that
+/// is kept, none is shown. `Err` where there is no memory for it.
+pub fn show_kept(
+    alloc: Global,
+    world: &InvocationWorld,
+    policy: &Policy,
+    kept: &KeptAnswer,
+) -> Result<Answer, AllocError>
+    ensures { IfOk result (λ answer. answer ≡ kept_answer
+        (record { settings = record { policy = policy.now }; world = world.now.world }) kept.now) }
+{
+    match kept {
+        KeptAnswer::Created {
+            place,
+            deadline,
+            tags,
+        } => {
+            if *place < world.count() {
+                show_made(alloc, policy, world.row(*place), *deadline, tags.as_slice())
+            } else {
+                done(alloc, None, &Reply::Empty)
+            }
+        }
+    }
 }

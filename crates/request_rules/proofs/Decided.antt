@@ -10,6 +10,7 @@ use Rattle.std.proofs.lemmas.Option.{none-some, same_Some}
 use Rattle.names_realms.specs.Names.{invocation_name}
 use Rattle.names_realms.specs.declared.states.State.{State}
 use Rattle.names_realms.specs.declared.states.State.TheVariants.{Active, Finalizing, Finalized}
+use Rattle.kept_replies.specs.declared.reply.KeptReply.{KeptReply}
 use Rattle.policy_tables.specs.declared.tables.PolicyTables.{PolicyTables}
 use Rattle.permissions.proofs.AllowLaws.{allows_or_not}
 use Rattle.update_tokens.specs.Hash.{token_text}
@@ -24,11 +25,12 @@ use Rattle.message_forms.specs.Replies.{state_text}
 use Rattle.message_forms.proofs.FaultLaws.{asks_or_has_fault, fault_is_refused}
 use Rattle.request_rules.specs.declared.rules.Rule.{Rule}
 use Rattle.request_rules.specs.declared.rules.Rule.TheVariants as rule
-use Rattle.request_rules.specs.Settings.{Settings, caller_of, secret_of}
+use Rattle.request_rules.specs.Settings.{Settings, caller_name, caller_of, secret_of}
 use Rattle.request_rules.specs.Demands.{Demand, Right, rights_taken}
+use Rattle.request_rules.specs.Numbered.{digest_of, kept_for}
 use Rattle.request_rules.specs.Named.{named, place_named}
 use Rattle.request_rules.specs.Order.{FirstOf, IsUnbroken}
-use Rattle.request_rules.specs.Broken.{BadUpdateToken, Case, DeadlineRange, Denied, HasNoMethod, IsBroken, IsInReach, IsMissing, IsRefusedAlone, Itself, Lacks, NoUpdateToken, NotActive, NotFound, Taken, TooMany, Wants, denied, greatest_lifetime, least_lifetime, of_invocation, out_of_reach, refusal, target_of}
+use Rattle.request_rules.specs.Broken.{BadUpdateToken, Case, DeadlineRange, Denied, HasNoMethod, IsBroken, IsInReach, IsMissing, IsRefusedAlone, IsRepeat, Itself, Lacks, NoUpdateToken, NotActive, NotFound, RequestIdReused, Taken, TooMany, Wants, denied, greatest_lifetime, least_lifetime, of_invocation, out_of_reach, refusal, target_of}
 use Rattle.request_rules.proofs.Firsts.{no_first}
 use Rattle.request_rules.proofs.Judged.{Told}
 
@@ -64,6 +66,49 @@ missing_at rows id (Some p) e = inr (λ none. none-some p (sym none ∙ e))
 
 missing_or_not : (rows : List Invocation) (id : List ℕ) → IsMissing rows id ⊎ (IsMissing rows id → ⊥)
 missing_or_not rows id = missing_at rows id (place_named rows id) refl
+
+-- ---- numbers
+
+reused_told : (kept : List KeptReply) (name : List ℕ) (asked : Asked) (d : Demand) (number : Option (List ℕ)) (o : Option KeptReply)
+    → d.number ≡ number → kept_for kept name d ≡ o → Told (RequestIdReused kept name asked d)
+reused_told kept name asked d None o e f = inr (λ r is. none-some is.number (sym e ∙ is.shows))
+reused_told kept name asked d (Some number) None e f = inr (λ r is. none-some is.reply (sym f ∙ is.reused.found))
+reused_told kept name asked d (Some number) (Some reply) e f =
+    elim (cases_Bool (bytes_eq reply.digest (digest_of asked))) [
+      | inl same ↦ inr (λ r is.
+          is.reused.other (ap (λ (k : KeptReply). k.digest) (same_Some is.reply reply (sym is.reused.found ∙ f))
+          ∙ (bytes_decides reply.digest (digest_of asked)).0 same))
+      | inr other ↦ inl (
+        refusal 7 number,
+        record {
+          number = number;
+          shows = e;
+          reply = reply;
+          reused = record {
+            found = f;
+            other = λ same. false≢true (sym other ∙ (bytes_decides reply.digest (digest_of asked)).1 same);
+          };
+          refusal_is = refl;
+        },
+      )
+    ]
+
+repeat_at : (x : Case) (d : Demand) (o : Option KeptReply) → kept_for x.kept (caller_name x.settings x.caller) d ≡ o
+    → ((reply : KeptReply) × IsRepeat x d reply) ⊎ ((reply : KeptReply) → IsRepeat x d reply → ⊥)
+repeat_at x d None e = inr (λ reply is. none-some reply (sym e ∙ is.found))
+repeat_at x d (Some reply) e =
+    elim (cases_Bool (bytes_eq reply.digest (digest_of x.asked))) [
+      | inl same ↦ inl (reply, record { found = e; same = (bytes_decides reply.digest (digest_of x.asked)).0 same })
+      | inr other ↦ inr (λ again is.
+          let digests : reply.digest ≡ digest_of x.asked =
+          ap (λ (k : KeptReply). k.digest) (same_Some reply again (sym e ∙ is.found)) ∙ is.same in
+          false≢true (sym other ∙ (bytes_decides reply.digest (digest_of x.asked)).1 digests))
+    ]
+
+-- whether a request is a repeat can be told
+pub repeat_or_not : (x : Case) (d : Demand)
+    → ((reply : KeptReply) × IsRepeat x d reply) ⊎ ((reply : KeptReply) → IsRepeat x d reply → ⊥)
+repeat_or_not x d = repeat_at x d (kept_for x.kept (caller_name x.settings x.caller) d) refl
 
 -- ---- rules
 
@@ -183,6 +228,9 @@ lacks_or_not policy caller x =
     elim (allows_or_not policy caller x.permission x.realm) [ inl is ↦ inr (λ none. none is) | inr none ↦ inl none ]
 
 pub broken_told : (x : Case) (d : Demand) (k : Rule) → Told (IsBroken x d k)
+broken_told x d rule.RequestIdReused =
+    let name = caller_name x.settings x.caller in
+    reused_told x.kept name x.asked d d.number (kept_for x.kept name d) refl refl
 broken_told x d rule.NotFound =
     let first = first_there (IsMissing x.rows) (missing_or_not x.rows) (d.named ++ d.included) in
     not_found_told x.rows d first.0 first.1

@@ -7,3 +7,4 @@ pub mod ReadLaws
 pub mod CauseLaws
 pub mod RightLaws
 pub mod Decided
+pub mod NumberLaws

@@ -2,6 +2,7 @@
 use Rattle.std.proofs.Common.{◌≡◌, ◌++◌, ℕ, ℤ, List, Some, sym, ap, ◌∙◌}
 use Rattle.std.specs.Prelude.{codes}
 use Rattle.names_realms.specs.Names.{invocation_name}
+use Rattle.kept_replies.specs.declared.reply.KeptReply.{KeptReply}
 use Rattle.policy_tables.specs.declared.tables.PolicyTables.{PolicyTables}
 use Rattle.invocations.specs.declared.invocation.Invocation.{Invocation}
 use Rattle.call_forms.specs.declared.asked.Asked.{Asked}
@@ -11,10 +12,10 @@ use Rattle.message_forms.specs.Refusals.{refusal_of}
 use Rattle.message_forms.specs.Replies.{state_text}
 use Rattle.request_rules.specs.declared.rules.Rule.{Rule}
 use Rattle.request_rules.specs.declared.rules.Rule.TheVariants as rule
-use Rattle.request_rules.specs.Settings.{Settings}
+use Rattle.request_rules.specs.Settings.{Settings, caller_name}
 use Rattle.request_rules.specs.Named.{named}
 use Rattle.request_rules.specs.Demands.{Demand, rights_taken}
-use Rattle.request_rules.specs.Broken.{Alone, BadUpdateToken, Case, DeadlineRange, Denied, HasBadBody, IsBroken, IsBrokenAlone, IsMissing, IsRefusedAlone, Itself, Lacks, NoUpdateToken, NotActive, NotFound, Taken, Wants, body_right, caller_known, denied, method_known, of_invocation, order_alone, out_of_reach, refusal, target_of}
+use Rattle.request_rules.specs.Broken.{Alone, BadUpdateToken, Case, DeadlineRange, Denied, HasBadBody, IsBroken, IsBrokenAlone, IsMissing, IsRefusedAlone, Itself, Lacks, NoUpdateToken, NotActive, NotFound, RequestIdReused, Taken, Wants, body_right, caller_known, denied, method_known, of_invocation, order_alone, out_of_reach, refusal, target_of}
 use Rattle.request_rules.proofs.Firsts.{one_first}
 use Rattle.message_forms.proofs.FaultLaws.{one_fault}
 use Rattle.message_forms.proofs.RequestLaws.{one_request_asked}
@@ -37,6 +38,11 @@ one_alone s asked body_right r p this that = one_bad_body asked r p this that
 pub one_refused_alone : (s : Settings) (asked : Asked) (r p : Refusal) → IsRefusedAlone s asked r → IsRefusedAlone s asked p → r ≡ p
 one_refused_alone s asked r p this that =
     let both : Some r ≡ Some p = one_judged (IsBrokenAlone s asked) (one_alone s asked) order_alone (Some r) (Some p) this that in cc
+
+one_reused : (kept : List KeptReply) (name : List ℕ) (asked : Asked) (d : Demand) → IsOne (RequestIdReused kept name asked d)
+one_reused kept name asked d r p this that =
+    let both : Some this.number ≡ Some that.number = sym this.shows ∙ that.shows in
+    one_of this.number that.number r p (refusal 7) (cc) this.refusal_is that.refusal_is
 
 one_not_found : (rows : List Invocation) (d : Demand) → IsOne (NotFound rows d)
 one_not_found rows d r p this that =
@@ -85,6 +91,7 @@ one_taken rows d r p this that =
     one_of this.id that.id r p (of_invocation 19) (cc) this.refusal_is that.refusal_is
 
 pub one_broken : (x : Case) (d : Demand) (k : Rule) → IsOne (IsBroken x d k)
+one_broken x d rule.RequestIdReused r p this that = one_reused x.kept (caller_name x.settings x.caller) x.asked d r p this that
 one_broken x d rule.NotFound r p this that = one_not_found x.rows d r p this that
 one_broken x d rule.NoUpdateToken r p this that = one_no_token x.asked d r p this that
 one_broken x d rule.BadUpdateToken r p this that = one_bad_token x.settings x.asked d r p this that

@@ -1,17 +1,19 @@
 -- The code's own words: a broken rule whose text isn't written yet.
-use Rattle.std.specs.Prelude.{◌++◌, ℕ, Option, None, Some, codes, decimal}
+use Rattle.std.specs.Prelude.{◌++◌, ℕ, List, Option, None, Some, codes, decimal}
 use Rattle.names_realms.specs.Names.{invocation_name}
+use Rattle.kept_replies.specs.declared.reply.KeptReply.{KeptReply}
 use Rattle.call_forms.specs.declared.asked.Asked.{Asked}
 use Rattle.call_forms.specs.declared.forms.Refusal.{Refusal}
 use Rattle.message_forms.specs.Replies.{state_text}
 use Rattle.request_rules.specs.declared.breaches.Breach.{Breach}
-use Rattle.request_rules.specs.declared.breaches.Breach.TheVariants.{NotFound, NoUpdateToken, BadUpdateToken, Denied, NotActive, DeadlineRange, Itself, TooMany, Taken}
+use Rattle.request_rules.specs.declared.breaches.Breach.TheVariants.{RequestIdReused, NotFound, NoUpdateToken, BadUpdateToken, Denied, NotActive, DeadlineRange, Itself, TooMany, Taken}
 use Rattle.request_rules.specs.declared.judging.Situation.{Situation}
 use Rattle.request_rules.specs.Demands.{right}
 use Rattle.request_rules.specs.Order.{IsUnbroken}
 use Rattle.request_rules.specs.Broken.{Case, refusal, of_invocation, denied, out_of_reach}
 
 abbrev pub refusal_of : Breach → Refusal
+refusal_of (RequestIdReused number) = refusal 7 number.now
 refusal_of (NotFound id) = of_invocation 8 id.now
 refusal_of (NoUpdateToken id) = of_invocation 9 id.now
 refusal_of (BadUpdateToken id) = of_invocation 10 id.now
@@ -28,11 +30,12 @@ abbrev pub Finds : (Refusal → Type 0) → Option Breach → Type 0
 Finds Breaks None = IsUnbroken Breaks
 Finds Breaks (Some breach) = Breaks (refusal_of breach)
 
--- what a call is judged by, for what this caller asks
-abbrev pub case_of : Situation → Asked → ℕ → Case
-case_of x asked caller = record {
+-- what a call is judged by, for what this caller asks, where this is kept
+abbrev pub case_of : Situation → List KeptReply → Asked → ℕ → Case
+case_of x kept asked caller = record {
   settings = record { policy = x.policy.now };
   rows = x.table.now.rows;
+  kept = kept;
   moment = x.moment;
   asked = asked;
   caller = caller;

@@ -7,6 +7,7 @@ use Rattle.policy_tables.specs.declared.tables.PolicyTables.{PolicyTables}
 use Rattle.policy_checks.specs.Permissions.{permission_text}
 use Rattle.permissions.specs.Allows.{Allows}
 use Rattle.update_tokens.specs.Hash.{token_text}
+use Rattle.kept_replies.specs.declared.reply.KeptReply.{KeptReply}
 use Rattle.invocations.specs.declared.invocation.Invocation.{Invocation}
 use Rattle.call_forms.specs.declared.asked.Asked.{Asked}
 use Rattle.call_forms.specs.declared.forms.Refusal.{Refusal}
@@ -19,9 +20,10 @@ use Rattle.message_forms.specs.Refusals.{refusal_of}
 use Rattle.message_forms.specs.Replies.{state_text}
 use Rattle.request_rules.specs.declared.rules.Rule.{Rule}
 use Rattle.request_rules.specs.declared.rules.Rule.TheVariants as rule
-use Rattle.request_rules.specs.Settings.{Settings, caller_of, secret_of}
+use Rattle.request_rules.specs.Settings.{Settings, caller_name, caller_of, secret_of}
 use Rattle.request_rules.specs.Named.{named, place_named}
 use Rattle.request_rules.specs.Demands.{Demand, Right, rights_taken}
+use Rattle.request_rules.specs.Numbered.{IsReused, IsRepeatOf}
 use Rattle.request_rules.specs.Order.{FirstOf, Judges}
 
 abbrev pub refusal : ℕ → List ℕ → Refusal
@@ -78,6 +80,15 @@ IsRefusedAlone s asked r = Judges (IsBrokenAlone s asked) order_alone (Some r)
 pub record Wants (s : Settings) (asked : Asked) (caller : ℕ) (request : Request) : Type 0 where
   pub caller_is : caller_of s asked.bearer ≡ Some caller
   pub asks : Asks asked.service asked.method asked.body request
+
+-- Rule 7: no other request of the caller was accepted under the number of the request.
+pub record RequestIdReused (kept : List KeptReply) (name : List ℕ) (asked : Asked) (d : Demand)
+    (r : Refusal) : Type 0 where
+  pub number : List ℕ
+  pub shows : d.number ≡ Some number
+  pub reply : KeptReply
+  pub reused : IsReused kept name asked d reply
+  pub refusal_is : r ≡ refusal 7 number
 
 -- No invocation has this id.
 abbrev pub IsMissing : List Invocation → List ℕ → Type 0
@@ -170,17 +181,25 @@ pub record Taken (rows : List Invocation) (d : Demand) (r : Refusal) : Type 0 wh
   pub taken : place_named rows id ≢ None
   pub refusal_is : r ≡ of_invocation 19 id
 
--- What rules look at: what the service is set up with, the invocations that are there, the moment
--- of the call, and what was asked and by whom.
+-- What rules look at: what the service is set up with, the invocations that are there and what is
+-- kept of numbered requests, the moment of the call, and what was asked and by whom.
 pub record Case : Type 0 where
   pub settings : Settings
   pub rows : List Invocation
+  pub kept : List KeptReply
   pub moment : ℤ
   pub asked : Asked
   pub caller : ℕ
 
+-- The request was accepted before under its number, and this is kept of it.
+abbrev pub IsRepeat : Case → Demand → KeptReply → Type 0
+IsRepeat x d reply =
+    IsRepeatOf x.kept (caller_name x.settings x.caller) x.asked d reply
+
 -- The rule is broken, and this is its refusal.
 abbrev pub IsBroken : Case → Demand → Rule → Refusal → Type 0
+IsBroken x d rule.RequestIdReused r =
+    RequestIdReused x.kept (caller_name x.settings x.caller) x.asked d r
 IsBroken x d rule.NotFound r = NotFound x.rows d r
 IsBroken x d rule.NoUpdateToken r = NoUpdateToken x.asked d r
 IsBroken x d rule.BadUpdateToken r = BadUpdateToken x.settings x.asked d r
@@ -194,7 +213,8 @@ IsBroken x d rule.Taken r = Taken x.rows d r
 -- The order in which rules are asked of what a caller demands.
 abbrev pub order : List Rule
 order =
-    rule.NotFound
+    rule.RequestIdReused
+    ∷ rule.NotFound
     ∷ rule.NoUpdateToken
     ∷ rule.BadUpdateToken
     ∷ rule.Denied
@@ -207,6 +227,7 @@ order =
 
 -- the number by which a refusal names a rule
 abbrev pub number_of : Rule → ℕ
+number_of rule.RequestIdReused = 7
 number_of rule.NotFound = 8
 number_of rule.NoUpdateToken = 9
 number_of rule.BadUpdateToken = 10

@@ -10,6 +10,8 @@ use Rattle.request_rules.specs.Named.{places_in, row_at}
 
 -- What has to be so for a request to be accepted.
 pub record Demand : Type 0 where
+  -- the number of the request
+  pub number : Option (List ℕ)
   -- the invocations that have to be there, in the order in which they are looked for
   pub named : List (List ℕ)
   -- those to be included, which have to be there after them
@@ -32,6 +34,7 @@ pub record Demand : Type 0 where
 
 abbrev pub nothing : Demand
 nothing = record {
+  number = None;
   named = [];
   included = [];
   changed = None;
@@ -53,6 +56,7 @@ to_create id =
 
 abbrev pub demand_of : Request → Demand
 demand_of (asks.CreateInvocation r) = record nothing {
+  number = r.request_id;
   makes = Some r.id;
   realm = Some r.invocation.realm;
   takes = to_create r.id;

@@ -1,6 +1,7 @@
 pub mod Named
 pub mod Settings
 pub mod Demands
+pub mod Numbered
 pub mod Locating
 pub mod Broken
 pub mod Order

@@ -1,5 +1,5 @@
 -- What a request says by itself, whatever the world and the moment.
-use Rattle.std.specs.Prelude.{◌≡◌, ◌≢◌, ℕ, List, Some, None}
+use Rattle.std.specs.Prelude.{◌≡◌, ◌≢◌, ℕ, List, Option, Some, None}
 use Rattle.update_tokens.specs.Hash.{token_text}
 use Rattle.call_forms.specs.declared.asked.Asked.{Asked}
 use Rattle.call_forms.specs.declared.forms.Refusal.{Refusal}
@@ -11,6 +11,7 @@ use Rattle.request_rules.specs.declared.reading.Understood.{Understood}
 use Rattle.request_rules.specs.declared.reading.Understood.TheVariants.{Refused, Wanted}
 use Rattle.request_rules.specs.Settings.{Settings, secret_of}
 use Rattle.request_rules.specs.Demands.{Demand, demand_of}
+use Rattle.request_rules.specs.Numbered.{digest_of}
 use Rattle.request_rules.specs.Broken.{Wants, IsRefusedAlone}
 
 -- The update token of the invocation with this id.
@@ -29,10 +30,17 @@ IsChecked s asked d Right =
     (id : List ℕ) × (d.changed ≡ Some id) × (asked.update_token ≡ Some (token_for s id))
 IsChecked s asked d Unasked = d.changed ≡ None
 
--- A call is what a caller asks for, with what its update token comes to.
+-- The digest of a request that has a number.
+abbrev pub IsDigested : Asked → Demand → Option (List ℕ) → Type 0
+IsDigested asked d None = d.number ≡ None
+IsDigested asked d (Some digest) = (digest ≡ digest_of asked) × (d.number ≢ None)
+
+-- A call is what a caller asks for, with what its update token comes to, and with its digest where
+-- it has a number.
 pub record IsCallOf (s : Settings) (asked : Asked) (call : Call) : Type 0 where
   pub wants : Wants s asked call.caller call.request
   pub token_is : IsChecked s asked (demand_of call.request) call.token
+  pub digest_is : IsDigested asked (demand_of call.request) call.digest
 
 -- The request breaks a rule by itself, and this answers the first one; or a caller wants this, and
 -- so it breaks none.

@@ -10,7 +10,7 @@ ghost use Rattle.request_rules.specs.Breaches.{refusal_of};
 use crate::refusals::refused;
 use crate::rules::Rule;
 use call_forms::Answer;
-use message_forms::state_name;
+use message_forms::{LimitedText, RequestId, state_name};
 use names_realms::{InvocationId, Moment, Realm, State};
 use permissions::Permission;
 use std::alloc::{AllocError, Global};
@@ -18,6 +18,10 @@ use std::alloc::{AllocError, Global};
 /// A rule that a request breaks, with what breaks it. It is found without memory.
 #[derive(Clone, Copy)]
 pub enum Breach<'r> {
+    /// Another request was accepted under the number of the request.
+    RequestIdReused {
+        number: &'r LimitedText<RequestId>,
+    },
     /// An invocation that the request names isn't there.
     NotFound {
         id: &'r InvocationId,
@@ -113,6 +117,7 @@ impl Breach<'_> {
         ensures { number_of result ≡ (refusal_of self.now).rule }
     {
         match self {
+            Breach::RequestIdReused { .. } => Rule::RequestIdReused,
             Breach::NotFound { .. } => Rule::NotFound,
             Breach::NoUpdateToken { .. } => Rule::NoUpdateToken,
             Breach::BadUpdateToken { .. } => Rule::BadUpdateToken,
@@ -130,6 +135,9 @@ impl Breach<'_> {
         ensures { IfOk result (λ text. text.items ≡ (refusal_of self.now).subject) }
     {
         match *self {
+            Breach::RequestIdReused { number } => {
+                Vec::from_slice(alloc, number.as_str().as_bytes())
+            }
             Breach::NotFound { id } => name_text(alloc, id),
             Breach::NoUpdateToken { id } => name_text(alloc, id),
             Breach::BadUpdateToken { id } => name_text(alloc, id),

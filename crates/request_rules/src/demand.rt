@@ -2,7 +2,7 @@
 ghost use Rattle.std.specs.Prelude.{◌≡◌};
 ghost use Rattle.request_rules.specs.Demands.{demand_of, nothing, to_create};
 
-use message_forms::Request;
+use message_forms::{LimitedText, Request, RequestId};
 use names_realms::{InvocationId, Moment, Realm};
 use permissions::Permission;
 use std::marker::Model;
@@ -11,6 +11,8 @@ use std::slice::from_ref;
 /// What has to be so for a request to be accepted.
 #[derive(Drop)]
 pub struct Demand<'r> {
+    /// The number of the request.
+    pub number: Option<&'r LimitedText<RequestId>>,
     /// The invocations that have to be there, in the order in which they are looked for.
     pub named: &'r [InvocationId],
     /// Those to be included, which have to be there after them.
@@ -39,6 +41,7 @@ impl<'r> Model for Demand<'r> {
     ghost Value = { Demand };
 
     ghost view = { λ d. record {
+      number = option_map (λ number. number.now) d.number;
       named = d.named.now;
       included = d.included.now;
       changed = option_map (λ id. id.now) d.changed;
@@ -58,6 +61,7 @@ impl<'r> Demand<'r> {
         ensures { result ≡ nothing }
     {
         Demand {
+            number: None,
             named: &[],
             included: &[],
             changed: None,
@@ -93,6 +97,7 @@ pub fn demand_of(request: &Request) -> Demand<'_>
 {
     match request {
         Request::CreateInvocation(r) => Demand {
+            number: r.request_id.as_ref(),
             makes: Some(&r.id),
             realm: Some(&r.invocation.realm),
             takes: to_create(&r.id),

@@ -1,12 +1,14 @@
 //! Which rule a demand breaks, if any. Nothing here takes memory.
-ghost use Rattle.std.specs.Prelude.{◌≡◌, ◌↔◌, IsTrue, Contains, List, option_map};
+ghost use Rattle.std.specs.Prelude.{◌≡◌, ◌↔◌, ℕ, IsTrue, Contains, List, option_map};
 ghost use Rattle.invocations.specs.declared.invocation.Invocation.{Invocation};
 ghost use Rattle.call_forms.specs.declared.asked.Asked.{Asked};
+ghost use Rattle.kept_replies.specs.declared.reply.KeptReply.{KeptReply};
 ghost use Rattle.request_rules.specs.Demands.{demand_of};
 ghost use Rattle.request_rules.specs.Locating.{located};
-ghost use Rattle.request_rules.specs.Broken.{IsBroken, BadUpdateToken, DeadlineRange, Denied, IsInReach, Itself, NoUpdateToken, NotActive, NotFound, Taken, TooMany};
+ghost use Rattle.request_rules.specs.Broken.{IsBroken, BadUpdateToken, DeadlineRange, Denied, IsInReach, Itself, NoUpdateToken, NotActive, NotFound, RequestIdReused, Taken, TooMany};
 ghost use Rattle.request_rules.specs.Order.{Judges};
-ghost use Rattle.request_rules.specs.Settings.{Settings};
+ghost use Rattle.request_rules.specs.Settings.{Settings, caller_name};
+ghost use Rattle.request_rules.specs.Numbered.{IsNumbered};
 ghost use Rattle.request_rules.specs.Understood.{IsCallOf, IsChecked};
 ghost use Rattle.request_rules.specs.Breaches.{Finds, case_of, refusal_of};
 ghost use Rattle.request_rules.specs.Askers.{IsAsker, MayJudge};
@@ -14,6 +16,7 @@ ghost use Rattle.request_rules.specs.Askers.{IsAsker, MayJudge};
 use crate::breaches::Breach;
 use crate::demand::{Demand, demand_of};
 use crate::locating::{Located, first_missing, place_of, row_of};
+use crate::numbers::NumberCheck;
 use crate::reading::{Call, TokenCheck};
 use crate::rights::{Asker, Holding};
 use crate::rules::Rule;
@@ -29,6 +32,19 @@ const GREATEST_LIFETIME: i64 = 432_000_000_000;
 
 /// How many invocations a request may name to include.
 const MOST_NAMES: usize = 500;
+
+/// The number under which another request was accepted.
+fn request_id_reused<'r>(check: NumberCheck, demand: &Demand<'r>) -> Option<Breach<'r>>
+    ensures { (kept : List KeptReply) (name : List ℕ) (asked : Asked)
+        → IsNumbered kept name asked demand.now check
+        → Finds (RequestIdReused kept name asked demand.now) result }
+{
+    let number = demand.number?;
+    match check {
+        NumberCheck::Reused => Some(Breach::RequestIdReused { number }),
+        _ => None,
+    }
+}
 
 /// The first invocation that is named and isn't there.
 fn not_found<'r>(places: &Located, demand: &Demand<'r>) -> Option<Breach<'r>>
@@ -177,15 +193,20 @@ pub struct Situation<'r> {
     pub holding: &'r Option<Holding<'r>>,
     /// Where the invocations stand that the call names.
     pub located: &'r Located,
+    /// What the number of the call comes to.
+    pub number: NumberCheck,
 }
 
 impl<'r> Situation<'r> {
     /// What breaks one rule, if it is broken.
     fn broken_by(&self, call: &Call, demand: &Demand<'r>, rule: Rule) -> Option<Breach<'r>>
         requires { MayJudge self.now call.now.caller demand.now }
-        ensures { (asked : Asked)
+        ensures { (kept : List KeptReply) (asked : Asked)
             → IsChecked (record { policy = self.now.policy.now }) asked demand.now call.now.token
-            → Finds (IsBroken (case_of self.now asked call.now.caller) demand.now rule) result }
+            → IsNumbered kept (caller_name (record { policy = self.now.policy.now })
+            call.now.caller) asked demand.now self.now.number
+            → Finds (IsBroken (case_of self.now kept asked call.now.caller) demand.now rule)
+            result }
     {
         let asker = Asker {
             policy: self.policy,
@@ -193,6 +214,7 @@ impl<'r> Situation<'r> {
             holding: self.holding,
         };
         match rule {
+            Rule::RequestIdReused => request_id_reused(self.number, demand),
             Rule::NotFound => not_found(self.located, demand),
             Rule::NoUpdateToken => no_update_token(call.token, demand),
             Rule::BadUpdateToken => bad_update_token(call.token, demand),
@@ -208,9 +230,11 @@ impl<'r> Situation<'r> {
     /// The first of these rules that a demand breaks, if any.
     fn judge_demand(&self, rules: &[Rule], call: &Call, demand: &Demand<'r>) -> Option<Breach<'r>>
         requires { MayJudge self.now call.now.caller demand.now }
-        ensures { (asked : Asked)
+        ensures { (kept : List KeptReply) (asked : Asked)
             → IsChecked (record { policy = self.now.policy.now }) asked demand.now call.now.token
-            → Judges (IsBroken (case_of self.now asked call.now.caller) demand.now) rules.now
+            → IsNumbered kept (caller_name (record { policy = self.now.policy.now })
+            call.now.caller) asked demand.now self.now.number
+            → Judges (IsBroken (case_of self.now kept asked call.now.caller) demand.now) rules.now
             (option_map refusal_of result) }
     {
         for rule in rules {
@@ -224,10 +248,12 @@ impl<'r> Situation<'r> {
     /// The first of these rules that a call breaks, if any.
     pub fn judge(&self, rules: &[Rule], call: &'r Call) -> Option<Breach<'r>>
         requires { MayJudge self.now call.now.caller (demand_of call.now.request) }
-        ensures { (asked : Asked)
+        ensures { (kept : List KeptReply) (asked : Asked)
             → IsCallOf (record { policy = self.now.policy.now }) asked call.now
+            → IsNumbered kept (caller_name (record { policy = self.now.policy.now })
+            call.now.caller) asked (demand_of call.now.request) self.now.number
             → Judges
-            (IsBroken (case_of self.now asked call.now.caller) (demand_of call.now.request))
+            (IsBroken (case_of self.now kept asked call.now.caller) (demand_of call.now.request))
             rules.now (option_map refusal_of result) }
     {
         self.judge_demand(rules, call, &demand_of(&call.request))

@@ -6,6 +6,7 @@ ghost use Rattle.request_rules.specs.Demands.{Demand, demand_of};
 ghost use Rattle.request_rules.specs.Understood.{IsChecked, IsUnderstood};
 
 use crate::demand::{Demand, demand_of};
+use crate::numbers::digest_for;
 use crate::refusals::{bad_body, no_caller, no_method};
 use call_forms::{Answer, Asked};
 use message_forms::{Method, Request, read_request};
@@ -27,12 +28,14 @@ pub enum TokenCheck {
     Unasked,
 }
 
-/// What a caller asks for, with what its update token comes to.
+/// What a caller asks for, with what its update token comes to, and the digest by which a repeat of
+/// it is known, where it has a number.
 #[derive(Drop)]
 pub struct Call {
     pub caller: CallerId,
     pub request: Request,
     pub token: TokenCheck,
+    pub digest: Option<[u8; 32]>,
 }
 
 /// What is understood of a request.
@@ -106,10 +109,12 @@ fn understand_body(
     match read_request(alloc, service, method, asked.body.as_slice()) {
         Ok(request) => {
             let token = check_token(policy, asked, &request);
+            let digest = digest_for(asked, &request);
             Ok(Understood::Wanted(Call {
                 caller,
                 request,
                 token,
+                digest,
             }))
         }
         Err(fault) => Ok(Understood::Refused(bad_body(alloc, asked, &fault)?)),

@@ -6,6 +6,8 @@ ghost use Rattle.request_rules.specs.Broken.{number_of, order};
 /// A rule for what is demanded. Each is named as a refusal names it.
 #[derive(Clone, Copy, Debug, PartialEq, Eq)]
 pub enum Rule {
+    /// No other request of the caller was accepted under the number of the request.
+    RequestIdReused,
     /// Each invocation that is named is there.
     NotFound,
     /// A request that changes an invocation shows an update token.
@@ -27,7 +29,8 @@ pub enum Rule {
 }
 
 /// The rules, in the order in which they are asked.
-const ORDER: [Rule; 9] = [
+const ORDER: [Rule; 10] = [
+    Rule::RequestIdReused,
     Rule::NotFound,
     Rule::NoUpdateToken,
     Rule::BadUpdateToken,
@@ -53,6 +56,7 @@ impl Rule {
         ensures known { IsRuleNumber result }
     {
         match self {
+            Rule::RequestIdReused => 7,
             Rule::NotFound => 8,
             Rule::NoUpdateToken => 9,
             Rule::BadUpdateToken => 10,

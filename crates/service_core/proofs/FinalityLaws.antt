@@ -12,7 +12,6 @@ use Rattle.invocations.specs.Rows.{IsInState, begun, ended, with_changed}
 use Rattle.invocations.proofs.RowLemmas.{at_front, at_place}
 use Rattle.call_forms.specs.declared.asked.Asked.{Asked}
 use Rattle.call_forms.specs.declared.forms.Answer.{Answer}
-use Rattle.call_forms.specs.declared.forms.Standin.TheVariants.{Unavailable, Memory, Spent}
 use Rattle.call_forms.specs.declared.forms.Told.{Told}
 use Rattle.call_forms.specs.declared.forms.Told.TheVariants.{Made, Standin as Instead}
 use Rattle.invocation_world.specs.World.{World, IsCallMoment, IsRow, IsStage, IsValid}
@@ -26,19 +25,20 @@ use Rattle.invocation_world.proofs.RowFacts.{active≢finalizing, active≢final
 use Rattle.invocation_world.proofs.SettleFacts.{ended_or_same, row_stays}
 use Rattle.invocation_world.proofs.ValidFacts.{all_begin, valid_settled}
 use Rattle.request_rules.specs.Settings.{Settings, HasNames}
-use Rattle.service_core.specs.Finality.{CarriesInTime, EndsInTime, ToldInTime}
+use Rattle.service_core.specs.Finality.{CarriesInTime, EndsInTime, IsInTime, ToldInTime}
 use Rattle.request_effects.specs.declared.effect.Effect.{Effect}
 use Rattle.request_effects.specs.Effects.{with_effect}
 use Rattle.request_effects.specs.Fitting.{IsTimely, Suits}
-use Rattle.service_core.specs.Step.{Performs, Refuses, effect_for}
+use Rattle.service_core.specs.Service.{ServiceWorld}
+use Rattle.service_core.specs.Service as services
+use Rattle.service_core.specs.Step.{Step}
 use Rattle.service_core.specs.History.{Entry, Leads, Tells}
 use Rattle.service_core.specs.Laws.{FinalInTime}
 use Rattle.service_core.proofs.ChangeLaws.{effect_keeps}
 use Rattle.service_core.proofs.StayLaws.{advanced_rows}
-use Rattle.service_core.proofs.ClearedLaws.{accepted_suits}
+use Rattle.service_core.proofs.MoveLaws.{IsMoved, Moves, tells_moves, told_moved}
 use Rattle.service_core.proofs.HistoryLaws.{advanced_timely, leads_valid}
-use Rattle.invocation_world.proofs.FinalFacts.{itself_final}
-use Rattle.service_core.proofs.FinalLaws.{judged_final}
+use Rattle.service_core.proofs.FinalLaws.{moved_final}
 
 -- the rows that a change made final got its time as their end
 abbrev AreEndedAt : ℤ → List Invocation → List Invocation → Type 0
@@ -215,17 +215,14 @@ effect_was w moment effect may =
 none_ended : (time : ℤ) (rows : List Invocation) → AreEndedAt time rows rows
 none_ended time rows p row e is not = absurd (not (state_is Finalized rows p row e is))
 
-judged_at : (s : Settings) (w : World) (moment : ℤ) (asked : Asked) (answer : Answer) (after : World) → HasNames s → IsTimely w moment
-    → Refuses s w moment asked after answer ⊎ Performs s w moment asked after answer
+moved_at : (s : Settings) (w : World) (moment : ℤ) (after : World) → HasNames s → IsTimely w moment → IsMoved s w moment after
     → AreEndedAt moment w.invocations after.invocations
-judged_at s w moment asked answer after names timely (inl refused) =
-    subst (λ (v : World). AreEndedAt moment w.invocations v.invocations) (sym refused.same) (none_ended moment w.invocations)
-judged_at s w moment asked answer after names timely (inr performs) =
-    let effect = effect_for s w moment performs.caller performs.request in
-    let mid = with_effect moment effect w in
+moved_at s w moment after names timely (inl same) =
+    subst (λ (v : World). AreEndedAt moment w.invocations v.invocations) (sym same) (none_ended moment w.invocations)
+moved_at s w moment after names timely (inr done) =
+    let mid = with_effect moment done.effect w in
     settled_at moment mid.inclusions w.invocations mid.invocations after.invocations
-    (effect_was w moment effect (accepted_suits s w moment asked performs.caller performs.request names timely performs.accepted))
-    performs.acts.rows
+    (effect_was w moment done.effect (done.suits names timely)) done.does.rows
 
 -- what is changed is an active row, or a new one
 all_waiting : (rows : List Invocation) → WaitingStay rows rows
@@ -252,16 +249,14 @@ effect_waiting w moment effect may =
       when_begun = changed_waiting (begun moment) w.invocations;
     })
 
-judged_kept : (s : Settings) (w : World) (moment : ℤ) (asked : Asked) (answer : Answer) (after : World) → HasNames s → IsTimely w moment
-    → Refuses s w moment asked after answer ⊎ Performs s w moment asked after answer → AreKept moment w.invocations after.invocations
-judged_kept s w moment asked answer after names timely (inl refused) =
-    subst (λ (v : World). AreKept moment w.invocations v.invocations) (sym refused.same) (λ p row e is. inl e)
-judged_kept s w moment asked answer after names timely (inr performs) =
-    let effect = effect_for s w moment performs.caller performs.request in
-    let mid = with_effect moment effect w in
+moved_kept : (s : Settings) (w : World) (moment : ℤ) (after : World) → HasNames s → IsTimely w moment → IsMoved s w moment after
+    → AreKept moment w.invocations after.invocations
+moved_kept s w moment after names timely (inl same) =
+    subst (λ (v : World). AreKept moment w.invocations v.invocations) (sym same) (λ p row e is. inl e)
+moved_kept s w moment after names timely (inr done) =
+    let mid = with_effect moment done.effect w in
     settled_kept moment mid.inclusions w.invocations mid.invocations after.invocations
-    (effect_waiting w moment effect (accepted_suits s w moment asked performs.caller performs.request names timely performs.accepted))
-    performs.acts.rows
+    (effect_waiting w moment done.effect (done.suits names timely)) done.does.rows
 
 ends_in_time : (time : ℤ) (w after : World) → IsValid after → KeepsFinal w after → AreKept time w.invocations after.invocations
     → AreEndedAt time w.invocations after.invocations → EndsInTime after.inclusions time w.invocations after.invocations
@@ -273,41 +268,45 @@ ends_in_time time w after valid keeps kept at = record {
   stays = keeps.rows;
 }
 
--- a valid world in which nothing else changes
-nothing_else : (time : ℤ) (w : World) → IsValid w → EndsInTime w.inclusions time w.invocations w.invocations
-nothing_else time w valid = ends_in_time time w w valid (itself_final w) (λ p row e is. inl e) (none_ended time w.invocations)
+-- a move, which is a call's or nothing
+moves_in_time : (s : Settings) (w : World) (e : Entry) (after : World) → HasNames s → IsValid w → IsCallMoment e.moment → w.last ≤ℤ e.moment
+    → IsValid after → Moves s w e.moment after → IsInTime w e after
+moves_in_time s w e after names valid call later right h =
+    let may = advanced_timely w h.between e.moment valid call later h.advances in
+    record {
+      deadlines = h.advances.deadlines;
+      between = h.between.invocations;
+      due = advanced_in_time e.moment w h.between valid call h.advances;
+      asked = ends_in_time e.moment h.between after right (moved_final s h.between e.moment after names may h.moved)
+          (moved_kept s h.between e.moment after names may h.moved) (moved_at s h.between e.moment after names may h.moved);
+    }
 
 -- ---- entries
 
-tells_in_time : (s : Settings) (w : World) (e : Entry) (told : Told) (after : World) → HasNames s → IsValid w → IsCallMoment e.moment
-    → w.last ≤ℤ e.moment → IsValid after → Tells s w e.moment e.asked told after → ToldInTime w e told after
-tells_in_time s w e (Made answer) after names valid call later right step =
-    let between = step.between in
-    let may = advanced_timely w between e.moment valid call later step.advances in
-    record {
-      deadlines = step.advances.deadlines;
-      between = between.invocations;
-      due = advanced_in_time e.moment w between valid call step.advances;
-      asked = ends_in_time e.moment between after right
-          (judged_final s between e.moment e.asked answer after names may step.judged)
-          (judged_kept s between e.moment e.asked answer after names may step.judged)
-          (judged_at s between e.moment e.asked answer after names may step.judged);
-    }
-tells_in_time s w e (Instead Memory) after names valid call later right (inl same) = inl same
-tells_in_time s w e (Instead Memory) after names valid call later right (inr advances) =
-    inr (record {
-      deadlines = advances.deadlines;
-      between = after.invocations;
-      due = advanced_in_time e.moment w after valid call advances;
-      asked = nothing_else e.moment after right;
-    })
-tells_in_time s w e (Instead Unavailable) after names valid call later right never = absurd never
-tells_in_time s w e (Instead Spent) after names valid call later right never = absurd never
+-- what was answered was moved, and what was told in place of an answer may have been
+told_in_time : (w : ServiceWorld) (e : Entry) (told : Told) (after : ServiceWorld) → ((answer : Answer) → told ≡ Made answer → IsInTime w.rows e after.rows)
+    → (after ≡ w) ⊎ IsInTime w.rows e after.rows → ToldInTime w e told after
+told_in_time w e (Made answer) after made either = made answer refl
+told_in_time w e (Instead standin) after made either = either
 
-leads_in_time : (s : Settings) (w : World) (e : Entry) (after : World) → HasNames s → IsValid w → Leads s w e after
+answered_moves : (s : Settings) (w : ServiceWorld) (moment : ℤ) (asked : Asked) (told : Told) (answer : Answer) (after : ServiceWorld)
+    → told ≡ Made answer → Tells s w moment asked told after → Moves s w.rows moment after.rows
+answered_moves s w moment asked told answer after is tells =
+    let step : Step s w moment asked after answer = subst (λ (t : Told). Tells s w moment asked t after) is tells in
+    record {
+      between = step.between.rows;
+      advances = step.advances.rows;
+      moved = told_moved s step.between moment asked after answer step.judged;
+    }
+
+leads_in_time : (s : Settings) (w : ServiceWorld) (e : Entry) (after : ServiceWorld) → HasNames s → services.IsValid w → Leads s w e after
     → ToldInTime w e e.told after
 leads_in_time s w e after names valid leads =
-    tells_in_time s w e e.told after names valid leads.moment leads.later (leads_valid s w e after names leads valid) leads.tells
+    let right = (leads_valid s w e after names leads valid).rows in
+    let in_time : Moves s w.rows e.moment after.rows → IsInTime w.rows e after.rows =
+    moves_in_time s w.rows e after.rows names valid.rows leads.moment leads.later right in
+    told_in_time w e e.told after (λ answer is. in_time (answered_moves s w e.moment e.asked e.told answer after is leads.tells))
+    (elim (tells_moves s w e.moment e.asked e.told after leads.tells) [ inl same ↦ inl same | inr moves ↦ inr (in_time moves) ])
 
 pub final_in_time : FinalInTime
 final_in_time s w [] v names valid end = end

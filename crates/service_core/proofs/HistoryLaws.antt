@@ -1,22 +1,24 @@
 -- Histories keep worlds valid, and go on by one call.
-use Rattle.std.proofs.Common.{◌⊎◌, ℤ, ◌≤ℤ◌, List, [], ◌∷◌, inl, inr, refl, sym, subst, arith}
+use Rattle.std.proofs.Common.{ℤ, ◌≤ℤ◌, List, [], ◌∷◌, inl, inr, refl, sym, subst, arith}
 use Rattle.std.proofs.lemmas.Int.{ints}
 use Rattle.invocations.specs.declared.invocation.Invocation.{Invocation}
 use Rattle.call_forms.specs.declared.asked.Asked.{Asked}
-use Rattle.call_forms.specs.declared.forms.Answer.{Answer}
 use Rattle.call_forms.specs.declared.forms.Standin.TheVariants.{Unavailable, Memory, Spent}
 use Rattle.call_forms.specs.declared.forms.Told.{Told}
 use Rattle.call_forms.specs.declared.forms.Told.TheVariants.{Made, Standin as Instead}
-use Rattle.invocation_world.specs.World.{World, IsCallMoment, IsValid}
+use Rattle.invocation_world.specs.World.{World, IsCallMoment}
+use Rattle.invocation_world.specs.World as worlds
 use Rattle.invocation_world.specs.Advancing.{Advances, after_deadlines}
 use Rattle.invocation_world.proofs.AdvanceFacts.{advance_valid}
 use Rattle.request_rules.specs.Settings.{Settings, HasNames}
 use Rattle.request_effects.specs.Fitting.{IsTimely}
 use Rattle.request_effects.proofs.EffectLaws.{effect_valid}
-use Rattle.service_core.specs.Step.{Performs, Refuses, effect_for}
+use Rattle.service_core.specs.Service.{CatchesUp, IsValid, ServiceWorld}
 use Rattle.service_core.specs.History.{Entry, IsTimed, Leads, Tells}
 use Rattle.service_core.specs.Laws.{LegalKeepsValid, TimedGoesOn, TimedIsLegal}
-use Rattle.service_core.proofs.ClearedLaws.{accepted_suits}
+use Rattle.service_core.proofs.KeptLaws.{IsKeptWell, told_well, well_later}
+use Rattle.service_core.proofs.MoveLaws.{IsMoved, Moves, tells_moves}
+use Rattle.service_core.proofs.StayLaws.{advance_stay}
 
 last_after : (moment : ℤ) (ds : List ℤ) (rows : List Invocation) (w : World) → w.last ≤ℤ moment
     → (after_deadlines moment ds rows w).last ≤ℤ moment
@@ -24,7 +26,7 @@ last_after moment [] rows w later = later
 last_after moment (d ∷ ds) rows w later = omega (arith, ints)
 
 -- once due deadlines are carried out, nothing is due
-pub advanced_timely : (w between : World) (moment : ℤ) → IsValid w → IsCallMoment moment → w.last ≤ℤ moment → Advances w moment between
+pub advanced_timely : (w between : World) (moment : ℤ) → worlds.IsValid w → IsCallMoment moment → w.last ≤ℤ moment → Advances w moment between
     → IsTimely between moment
 advanced_timely w between moment valid call later advances =
     let both = advance_valid moment w between valid call later advances in
@@ -35,27 +37,45 @@ advanced_timely w between moment valid call later advances =
       quiet = both.1;
     }
 
-judged_valid : (s : Settings) (w : World) (moment : ℤ) (asked : Asked) (answer : Answer) (after : World) → HasNames s
-    → IsTimely w moment → Refuses s w moment asked after answer ⊎ Performs s w moment asked after answer → IsValid after
-judged_valid s w moment asked answer after names may (inl refused) = subst IsValid (sym refused.same) may.valid
-judged_valid s w moment asked answer after names may (inr performs) =
-    effect_valid w after moment (effect_for s w moment performs.caller performs.request) may
-    (accepted_suits s w moment asked performs.caller performs.request names may performs.accepted) performs.accepted.room performs.acts
+moved_valid : (s : Settings) (w : World) (moment : ℤ) (after : World) → HasNames s → IsTimely w moment → IsMoved s w moment after
+    → worlds.IsValid after
+moved_valid s w moment after names timely (inl same) = subst worlds.IsValid (sym same) timely.valid
+moved_valid s w moment after names timely (inr done) =
+    effect_valid w after moment done.effect timely (done.suits names timely) done.room done.does
 
-tells_valid : (s : Settings) (w : World) (moment : ℤ) (asked : Asked) (told : Told) (after : World) → HasNames s
-    → IsCallMoment moment → w.last ≤ℤ moment → Tells s w moment asked told after → IsValid w → IsValid after
-tells_valid s w moment asked (Made answer) after names call later step valid =
-    judged_valid s step.between moment asked answer after names (advanced_timely w step.between moment valid call later step.advances)
-    step.judged
-tells_valid s w moment asked (Instead Memory) after names call later (inl same) valid = subst IsValid (sym same) valid
-tells_valid s w moment asked (Instead Memory) after names call later (inr advances) valid =
-    (advanced_timely w after moment valid call later advances).valid
-tells_valid s w moment asked (Instead Unavailable) after names call later never valid = absurd never
-tells_valid s w moment asked (Instead Spent) after names call later never valid = absurd never
+moves_valid : (s : Settings) (w : World) (moment : ℤ) (after : World) → HasNames s → worlds.IsValid w → IsCallMoment moment → w.last ≤ℤ moment
+    → Moves s w moment after → worlds.IsValid after
+moves_valid s w moment after names valid call later h =
+    moved_valid s h.between moment after names (advanced_timely w h.between moment valid call later h.advances) h.moved
 
-pub leads_valid : (s : Settings) (w : World) (e : Entry) (after : World) → HasNames s → Leads s w e after → IsValid w → IsValid after
+-- what is kept is well kept by each entry
+caught_well : (w : ServiceWorld) (moment : ℤ) (after : ServiceWorld) → CatchesUp w moment after → IsKeptWell w.rows w.kept
+    → IsKeptWell after.rows after.kept
+caught_well w moment after due well =
+    subst (IsKeptWell after.rows) (sym due.kept)
+    (well_later w.rows after.rows w.kept (advance_stay moment w.rows after.rows due.rows) well)
+
+tells_well : (s : Settings) (w : ServiceWorld) (moment : ℤ) (asked : Asked) (told : Told) (after : ServiceWorld) → Tells s w moment asked told after
+    → IsKeptWell w.rows w.kept → IsKeptWell after.rows after.kept
+tells_well s w moment asked (Made answer) after step well =
+    told_well s step.between moment asked after answer step.judged (caught_well w moment step.between step.advances well)
+tells_well s w moment asked (Instead Memory) after (inl same) well = subst (λ (v : ServiceWorld). IsKeptWell v.rows v.kept) (sym same) well
+tells_well s w moment asked (Instead Memory) after (inr due) well = caught_well w moment after due well
+tells_well s w moment asked (Instead Unavailable) after never well = absurd never
+tells_well s w moment asked (Instead Spent) after never well = absurd never
+
+rows_valid : (s : Settings) (w : ServiceWorld) (e : Entry) (after : ServiceWorld) → HasNames s → Leads s w e after → worlds.IsValid w.rows
+    → worlds.IsValid after.rows
+rows_valid s w e after names leads valid =
+    elim (tells_moves s w e.moment e.asked e.told after leads.tells) [
+      | inl same ↦ subst (λ (v : ServiceWorld). worlds.IsValid v.rows) (sym same) valid
+      | inr moves ↦ moves_valid s w.rows e.moment after.rows names valid leads.moment leads.later moves
+    ]
+
+pub leads_valid : (s : Settings) (w : ServiceWorld) (e : Entry) (after : ServiceWorld) → HasNames s → Leads s w e after → IsValid w → IsValid after
 leads_valid s w e after names leads valid =
-    tells_valid s w e.moment e.asked e.told after names leads.moment leads.later leads.tells valid
+    let well = tells_well s w e.moment e.asked e.told after leads.tells (record { alone = valid.alone; stand = valid.stand }) in
+    record { rows = rows_valid s w e after names leads valid.rows; alone = well.alone; stand = well.stand }
 
 pub legal_keeps_valid : LegalKeepsValid
 legal_keeps_valid s w [] v names end valid = subst IsValid (sym end) valid
@@ -70,7 +90,7 @@ timed_is_legal s w (e ∷ h) (now ∷ answers) v timed = (timed.0, timed.1, time
 
 pub timed_goes_on : TimedGoesOn
 timed_goes_on s w [] [] v e now x end leads at =
-    subst (λ (u : World). IsTimed s u (e ∷ []) (now ∷ []) x) end (x, leads, at, refl)
+    subst (λ (u : ServiceWorld). IsTimed s u (e ∷ []) (now ∷ []) x) end (x, leads, at, refl)
 timed_goes_on s w [] (n ∷ answers) v e now x never leads at = absurd never
 timed_goes_on s w (f ∷ h) [] v e now x never leads at = absurd never
 timed_goes_on s w (f ∷ h) (n ∷ answers) v e now x timed leads at =

@@ -1,7 +1,9 @@
 pub mod ClearedLaws
 pub mod DecideLaws
 pub mod ChangeLaws
+pub mod MoveLaws
 pub mod StayLaws
+pub mod KeptLaws
 pub mod HistoryLaws
 pub mod FinalLaws
 pub mod FinalityLaws

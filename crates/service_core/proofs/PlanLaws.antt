@@ -1,6 +1,6 @@
 -- What a call was planned to is what its request comes to.
-use Rattle.std.proofs.Common.{◌≡◌, ◌⊎◌, ◌<◌, ℕ, ℤ, List, length, Option, Some, None, refl, sym, ◌∙◌, subst, inl, inr}
-use Rattle.std.specs.Prelude.{slice_get}
+use Rattle.std.proofs.Common.{◌≡◌, ◌<◌, ℕ, ℤ, List, length, Option, Some, None, refl, sym, ap, ◌∙◌, subst, inl, inr}
+use Rattle.std.specs.Prelude.{IfSome, slice_get}
 use Rattle.std.proofs.lemmas.Bool.{cases_Bool, cond-false, cond-true}
 use Rattle.std.proofs.lemmas.Option.{same_Some}
 use Rattle.names_realms.specs.declared.pairs.Pair.{Pair}
@@ -8,6 +8,7 @@ use Rattle.names_realms.specs.declared.states.State.{State}
 use Rattle.names_realms.specs.declared.states.State.TheVariants.{Active, Finalizing, Finalized}
 use Rattle.invocations.specs.declared.invocation.Invocation.{Invocation}
 use Rattle.invocations.specs.Rows.{states_of}
+use Rattle.kept_replies.specs.declared.reply.KeptReply.{KeptReply}
 use Rattle.call_forms.specs.declared.asked.Asked.{Asked}
 use Rattle.call_forms.specs.declared.forms.Answer.{Answer}
 use Rattle.message_forms.specs.declared.requests.Request.{Request}
@@ -15,7 +16,8 @@ use Rattle.message_forms.specs.declared.requests.Request.TheVariants as asks
 use Rattle.invocation_world.specs.World.{World}
 use Rattle.invocation_world.specs.Changes.{is_update}
 use Rattle.invocation_world.proofs.ValidFacts.{valid_settles}
-use Rattle.request_rules.specs.Settings.{Settings}
+use Rattle.request_rules.specs.Demands.{demand_of}
+use Rattle.request_rules.specs.Settings.{Settings, caller_name}
 use Rattle.request_rules.specs.Named.{place_named}
 use Rattle.request_rules.proofs.PlaceLaws.{place-within}
 use Rattle.request_effects.specs.declared.effect.Effect.{Effect}
@@ -24,87 +26,117 @@ use Rattle.request_effects.specs.declared.shows.Shows.{Shows}
 use Rattle.request_effects.specs.Effects.{Does, effect_of, end_at, end_of, update_at, update_of}
 use Rattle.request_effects.specs.Fitting.{IsTimely}
 use Rattle.request_effects.specs.Foreseen.{IsHere, IsOwn}
+use Rattle.request_effects.specs.Keeps.{kept_of, numbered_of, with_kept}
 use Rattle.request_effects.specs.Shows.{shows_of, shows_row}
 use Rattle.request_effects.proofs.EffectLaws.{effects_change}
 use Rattle.request_effects.proofs.FullLaws.{unfull}
+use Rattle.request_effects.proofs.KeepLaws.{nothing_kept}
 use Rattle.service_core.specs.declared.plan.Prepared.{Prepared}
 use Rattle.service_core.specs.declared.plan.Prepared.TheVariants as prepared
-use Rattle.service_core.specs.CoreState.{CoreState, PlanState}
+use Rattle.service_core.specs.CoreState.{CoreState, IsRoomier, PlanState, world_in}
 use Rattle.service_core.specs.Planning.{ComesTo}
-use Rattle.service_core.specs.Plans.{Carries, Fits, IsPlanOf, IsPrepared}
-use Rattle.service_core.specs.Step.{Performs, Refuses, effect_for}
-use Rattle.service_core.proofs.ClearedLaws.{IsCleared}
+use Rattle.service_core.specs.Plans.{CanKeep, Carries, Fits, IsPlanOf, IsPrepared}
+use Rattle.service_core.specs.Service.{ServiceWorld}
+use Rattle.service_core.specs.Step.{IsTold, Performs, effect_for, keep_for, performed}
+use Rattle.service_core.proofs.ClearedLaws.{IsCleared, kept_free}
+
+-- what is to be kept can be kept where there is room
+can_keep : (s : Settings) (core : CoreState) (moment : ℤ) (asked : Asked) (caller : ℕ) (request : Request) (keep : Option KeptReply)
+    → IsCleared s (world_in core) moment asked caller request → keep_for s (world_in core) moment asked caller request ≡ keep
+    → IfSome keep (λ reply. 0 < core.keeps.room) → CanKeep core.keeps keep
+can_keep s core moment asked caller request None h is room = tt
+can_keep s core moment asked caller request (Some reply) h is room =
+    let free = kept_free s (world_in core) moment asked caller request reply h is in (room, free.0, free.1)
+
+-- nothing is kept of what does nothing
+kept_same : (s : Settings) (w : ServiceWorld) (moment : ℤ) (asked : Asked) (caller : ℕ) (request : Request)
+    → effect_for s w moment caller request ≡ does.Nothing → w.kept ≡ with_kept w.kept (keep_for s w moment asked caller request)
+kept_same s w moment asked caller request is =
+    let name = caller_name s caller in
+    let numbered = numbered_of asked (demand_of request) in
+    sym (ap (with_kept w.kept) (ap (kept_of w.rows name numbered) is ∙ nothing_kept w.rows name numbered))
 
 pub comes_prepared : (s : Settings) (core : CoreState) (moment : ℤ) (asked : Asked) (caller : ℕ) (request : Request) (p : Prepared)
-    → IsTimely core.held.world moment → IsCleared s core.held.world moment asked caller request
-    → ComesTo s core moment caller request p → IsPrepared s core moment asked p
+    → IsTimely core.held.world moment → IsCleared s (world_in core) moment asked caller request
+    → ComesTo s core moment asked caller request p → IsPrepared s core moment asked p
 comes_prepared s core moment asked caller request (prepared.Refused answer) timely h comes = record {
   refusal = comes.0;
-  is_refusal = inr (caller, request, h.wants, inr (h.judged, comes.1));
+  is_refusal = inr (caller, request, h.new, inr (h.judged, comes.1));
   same = refl;
   answer_is = comes.2;
 }
+comes_prepared s core moment asked caller request (prepared.Repeated answer) timely h comes = absurd comes
 comes_prepared s core moment asked caller request (prepared.Answered answer) timely h comes =
     let w : World = core.held.world in
-    let effect : Effect = effect_for s w moment caller request in
+    let effect : Effect = effect_for s (world_in core) moment caller request in
     let acts : Does moment effect w w =
-    subst (λ (e : Effect). Does moment e w w) (sym comes.1.0) (valid_settles moment w timely.valid) in
+    subst (λ (e : Effect). Does moment e w w) (sym comes.2.0) (valid_settles moment w timely.valid) in
     record {
       caller = caller;
       request = request;
-      accepted = record { wants = h.wants; judged = h.judged; room = unfull core.held effect comes.0.room };
-      acts = acts;
-      answer_is = comes.1.1 w acts;
+      accepted = record { new = h.new; judged = h.judged; room = unfull core.held effect comes.0.room };
+      acts = record { rows = acts; kept = kept_same s (world_in core) moment asked caller request comes.2.0 };
+      answer_is = comes.2.1 w acts;
     }
 comes_prepared s core moment asked caller request (prepared.Change plan) timely h comes =
     let w : World = core.held.world in
-    let effect : Effect = effect_for s w moment caller request in
+    let effect : Effect = effect_for s (world_in core) moment caller request in
     let room = unfull core.held effect comes.0.room in
-    let shown = comes.1.1 in
-    subst (λ (p : PlanState). IsPlanOf s w moment asked p × Fits core p) (sym shown.1) (
+    let shown = comes.2.1 in
+    subst (λ (p : PlanState). IsPlanOf s (world_in core) moment asked p × Fits core p) (sym shown.1) (
       record {
         caller = caller;
         request = request;
-        accepted = record { wants = h.wants; judged = h.judged; room = room };
+        accepted = record { new = h.new; judged = h.judged; room = room };
         answer = shown.0;
         answer_is = refl;
-        acts = λ after carries. (carries, shown.2 after carries);
-        changes = λ after carries. (effects_change w after moment effect timely comes.0.suits room carries).1 comes.1.0;
+        acts = λ after carries. (record { rows = carries.rows; kept = carries.kept }, shown.2 after.rows carries.rows);
+        changes = λ after carries same.
+            (effects_change w after.rows moment effect timely comes.0.suits room carries.rows).1 comes.2.0
+            (ap (λ (v : ServiceWorld). v.rows) same);
       },
-      record { made = refl; can = comes.0 },
+      record {
+        made = refl;
+        can = comes.0;
+        keep = can_keep s core moment asked caller request (keep_for s (world_in core) moment asked caller request) h refl comes.1;
+      },
     )
 
 -- in a core with another room
 pub prepared_in : (s : Settings) (old new : CoreState) (moment : ℤ) (asked : Asked) (caller : ℕ) (request : Request) (p : Prepared)
-    → new.held.world ≡ old.held.world → IsTimely old.held.world moment → IsCleared s old.held.world moment asked caller request
-    → ComesTo s new moment caller request p → IsPrepared s new moment asked p
+    → world_in new ≡ world_in old → IsTimely old.held.world moment → IsCleared s (world_in old) moment asked caller request
+    → ComesTo s new moment asked caller request p → IsPrepared s new moment asked p
 prepared_in s old new moment asked caller request p same timely h comes =
-    comes_prepared s new moment asked caller request p (subst (λ (w : World). IsTimely w moment) (sym same) timely)
-    (subst (λ (w : World). IsCleared s w moment asked caller request) (sym same) h) comes
+    comes_prepared s new moment asked caller request p (subst (λ (w : ServiceWorld). IsTimely w.rows moment) (sym same) timely)
+    (subst (λ (w : ServiceWorld). IsCleared s w moment asked caller request) (sym same) h) comes
+
+-- a core with another room has the same world
+pub same_world : (old new : CoreState) → IsRoomier old new → world_in new ≡ world_in old
+same_world old new roomier =
+    ap (λ (r : World). record { rows = r; kept = new.keeps.kept }) roomier.held.world
+    ∙ ap (λ (k : List KeptReply). record { rows = old.held.world; kept = k }) roomier.kept
 
 -- a plan that was carried out is told as it was planned
 pub told_of : (s : Settings) (old mid : CoreState) (moment : ℤ) (asked : Asked) (p : Prepared) (plan : PlanState) (result : Option Answer)
-    (answer : Answer) (after : World) → mid.held.world ≡ old.held.world → p ≡ prepared.Change plan → IsPrepared s mid moment asked p
-    → Carries mid.held.world plan.work after → result ≡ plan.answer → result ≡ Some answer
-    → Refuses s old.held.world moment asked after answer ⊎ Performs s old.held.world moment asked after answer
+    (answer : Answer) (after : ServiceWorld) → world_in mid ≡ world_in old → p ≡ prepared.Change plan → IsPrepared s mid moment asked p
+    → Carries (world_in mid) plan after → result ≡ plan.answer → result ≡ Some answer
+    → IsTold s (world_in old) moment asked after answer
 told_of s old mid moment asked p plan result answer after same p_is prepared carries result_is some =
     let is = (subst (IsPrepared s mid moment asked) p_is prepared).0 in
     let both = is.acts after carries in
-    let here : Performs s mid.held.world moment asked after answer = record {
+    let here : Performs s (world_in mid) moment asked after answer = record {
       caller = is.caller;
       request = is.request;
       accepted = is.accepted;
       acts = both.0;
       answer_is = same_Some answer is.answer (sym some ∙ (result_is ∙ is.answer_is)) ∙ both.1;
     } in
-    inr (subst (λ (w : World). Performs s w moment asked after answer) same here)
+    subst (λ (w : ServiceWorld). IsTold s w moment asked after answer) same (performed here)
 
 -- what was prepared without a change is told as it was prepared
-pub told_at_once : (s : Settings) (old mid : CoreState) (moment : ℤ) (asked : Asked) (answer : Answer) → mid.held.world ≡ old.held.world
-    → Refuses s mid.held.world moment asked mid.held.world answer ⊎ Performs s mid.held.world moment asked mid.held.world answer
-    → Refuses s old.held.world moment asked mid.held.world answer ⊎ Performs s old.held.world moment asked mid.held.world answer
-told_at_once s old mid moment asked answer same told =
-    subst (λ (w : World). Refuses s w moment asked mid.held.world answer ⊎ Performs s w moment asked mid.held.world answer) same told
+pub told_at_once : (s : Settings) (old mid : CoreState) (moment : ℤ) (asked : Asked) (answer : Answer) → world_in mid ≡ world_in old
+    → IsTold s (world_in mid) moment asked (world_in mid) answer → IsTold s (world_in old) moment asked (world_in mid) answer
+told_at_once s old mid moment asked answer same told = subst (λ (w : ServiceWorld). IsTold s w moment asked (world_in mid) answer) same told
 
 pub fits_as : (s : Settings) (core : CoreState) (moment : ℤ) (asked : Asked) (p : Prepared) (plan : PlanState) → p ≡ prepared.Change plan
     → IsPrepared s core moment asked p → Fits core plan

@@ -1,5 +1,6 @@
 -- Calls that are judged, and due deadlines that are carried out.
-use Rattle.std.proofs.Common.{◌≡◌, ℕ, ℤ, ◌≤ℤ◌, List, Option, Some, refl, sym, subst, inl, inr}
+use Rattle.std.proofs.Common.{◌≡◌, ◌≢◌, ℕ, ℤ, ◌≤ℤ◌, List, Option, Some, None, refl, sym, ap, ◌∙◌, subst, inl, inr}
+use Rattle.std.specs.Prelude.{slice_get}
 use Rattle.invocations.specs.declared.invocation.Invocation.{Invocation}
 use Rattle.call_forms.specs.declared.asked.Asked.{Asked}
 use Rattle.call_forms.specs.declared.forms.Answer.{Answer}
@@ -8,57 +9,69 @@ use Rattle.call_forms.specs.declared.forms.Standin.TheVariants.{Memory, Spent, U
 use Rattle.call_forms.specs.declared.forms.Told.{Told}
 use Rattle.call_forms.specs.declared.forms.Told.TheVariants.{Made, Standin as Instead}
 use Rattle.call_forms.specs.Rules.{refusal_answer}
-use Rattle.invocation_world.specs.World.{World, IsCallMoment, IsValid}
-use Rattle.invocation_world.specs.Advancing.{Advances}
+use Rattle.kept_replies.specs.declared.reply.KeptReply.{KeptReply}
+use Rattle.invocation_world.specs.World.{IsCallMoment, IsValid}
 use Rattle.request_rules.specs.declared.reading.Call.{Call}
+use Rattle.request_rules.specs.declared.numbers.NumberCheck.{NumberCheck}
+use Rattle.request_rules.specs.declared.numbers.NumberCheck.TheVariants.{Repeat}
 use Rattle.request_rules.specs.declared.rules.Rule.{Rule}
 use Rattle.request_rules.specs.declared.reading.Understood.{Understood}
 use Rattle.request_rules.specs.declared.reading.Understood.TheVariants.{Refused}
-use Rattle.request_rules.specs.Settings.{Settings}
+use Rattle.request_rules.specs.Settings.{Settings, caller_name}
 use Rattle.request_rules.specs.Demands.{demand_of}
+use Rattle.request_rules.specs.Numbered.{IsNumbered, IsRepeatOf}
+use Rattle.request_rules.proofs.NumberLaws.{fresh_as}
 use Rattle.request_rules.specs.Order.{Judges}
 use Rattle.request_rules.specs.Broken.{IsBroken, order}
 use Rattle.request_rules.specs.Understood.{IsCallOf, IsUnderstood}
 use Rattle.request_effects.specs.Fitting.{IsTimely}
+use Rattle.request_effects.specs.Keeps.{kept_answer, with_kept}
 use Rattle.service_core.specs.declared.plan.Work.{Work}
 use Rattle.service_core.specs.declared.plan.Work.TheVariants.{Tick}
-use Rattle.service_core.specs.CoreState.{CoreState}
-use Rattle.service_core.specs.Plans.{Carries}
-use Rattle.service_core.specs.Step.{IsJudgedAs, Refuses, moment_of}
+use Rattle.service_core.specs.CoreState.{CoreState, PlanState, world_in}
+use Rattle.service_core.specs.Plans.{Carries, Works}
+use Rattle.service_core.specs.Service.{CatchesUp, ServiceWorld}
+use Rattle.service_core.specs.Step.{IsJudgedAs, IsNew, Refuses, Repeats, moment_of, scene_of}
 use Rattle.service_core.specs.Judged.{IsAnswered}
 use Rattle.service_core.specs.History.{Leads, Tells, entry_at}
 use Rattle.service_core.proofs.HistoryLaws.{advanced_timely}
 
-pub ticked : (old new : CoreState) (work : Work) (after : World) (moment : ℤ) → IsValid old.held.world → IsCallMoment moment
-    → old.held.world.last ≤ℤ moment → new ≡ old → work ≡ Tick moment → Carries new.held.world work after → IsTimely after moment
-ticked old new work after moment valid call later same is carries =
-    advanced_timely old.held.world after moment valid call later
-    (subst (λ (x : Work). Carries old.held.world x after) is
-    (subst (λ (core : CoreState). Carries core.held.world work after) same carries))
+-- due deadlines that were carried out by a plan that keeps nothing
+pub ticked : (old new : CoreState) (plan : PlanState) (after : ServiceWorld) (moment : ℤ) → new ≡ old → plan.work ≡ Tick moment
+    → plan.keep ≡ None → Carries (world_in new) plan after → CatchesUp (world_in old) moment after
+ticked old new plan after moment same is none carries =
+    subst (λ (core : CoreState). CatchesUp (world_in core) moment after) same (record {
+      rows = subst (λ (x : Work). Works new.held.world x after.rows) is carries.rows;
+      kept = carries.kept ∙ ap (with_kept new.keeps.kept) none;
+    })
+
+pub caught_up : (old : CoreState) (after : ServiceWorld) (moment : ℤ) → IsValid old.held.world → IsCallMoment moment
+    → old.held.world.last ≤ℤ moment → CatchesUp (world_in old) moment after → IsTimely after.rows moment
+caught_up old after moment valid call later due = advanced_timely old.held.world after.rows moment valid call later due.rows
 
 -- whatever was found of a call among these rows, which are those of a world
-pub found_there : (s : Settings) (w : World) (moment : ℤ) (rows : List Invocation) (asked : Asked) (call : Call) (ks : List Rule)
-    (found : Option Refusal) → rows ≡ w.invocations → ks ≡ order
-    → Judges (IsBroken (record { settings = s; rows = rows; moment = moment; asked = asked; caller = call.caller }) (demand_of call.request)) ks found
+pub found_there : (s : Settings) (w : ServiceWorld) (moment : ℤ) (rows : List Invocation) (asked : Asked) (call : Call) (ks : List Rule)
+    (found : Option Refusal) → rows ≡ w.rows.invocations → ks ≡ order
+    → Judges (IsBroken (record { settings = s; rows = rows; kept = w.kept; moment = moment; asked = asked; caller = call.caller }) (demand_of call.request)) ks found
     → IsJudgedAs s w moment asked call.caller call.request found
 found_there s w moment rows asked call ks found same all judged =
     let Found : List Invocation → List Rule → Type 0 =
-    λ rs ls. Judges (IsBroken (record { settings = s; rows = rs; moment = moment; asked = asked; caller = call.caller }) (demand_of call.request)) ls found in
-    subst (λ (ls : List Rule). Found w.invocations ls) all (subst (λ (rs : List Invocation). Found rs ks) same judged)
+    λ rs ls. Judges (IsBroken (record { settings = s; rows = rs; kept = w.kept; moment = moment; asked = asked; caller = call.caller }) (demand_of call.request)) ls found in
+    subst (λ (ls : List Rule). Found w.rows.invocations ls) all (subst (λ (rs : List Invocation). Found rs ks) same judged)
 
-pub refuses_first : (s : Settings) (w : World) (moment : ℤ) (asked : Asked) (call : Call) (r : Refusal) (answer : Answer)
-    → IsCallOf s asked call → IsJudgedAs s w moment asked call.caller call.request (Some r) → answer ≡ refusal_answer r
+pub refuses_first : (s : Settings) (w : ServiceWorld) (moment : ℤ) (asked : Asked) (call : Call) (r : Refusal) (answer : Answer)
+    → IsNew s w moment asked call.caller call.request → IsJudgedAs s w moment asked call.caller call.request (Some r) → answer ≡ refusal_answer r
     → Refuses s w moment asked w answer
-refuses_first s w moment asked call r answer is first told = record {
+refuses_first s w moment asked call r answer new first told = record {
   refusal = r;
-  is_refusal = inr (call.caller, call.request, is.wants, inl first);
+  is_refusal = inr (call.caller, call.request, new, inl first);
   same = refl;
   answer_is = told;
 }
 
 -- what is refused by itself is refused in each world
 pub refuses_alone : (s : Settings) (core : CoreState) (moment : ℤ) (asked : Asked) (understood : Understood) (answer : Answer)
-    → understood ≡ Refused answer → IsUnderstood s asked understood → Refuses s core.held.world moment asked core.held.world answer
+    → understood ≡ Refused answer → IsUnderstood s asked understood → Refuses s (world_in core) moment asked (world_in core) answer
 refuses_alone s core moment asked understood answer is told =
     let alone = subst (IsUnderstood s asked) is told in
     record {
@@ -68,30 +81,54 @@ refuses_alone s core moment asked understood answer is told =
       answer_is = alone.2;
     }
 
-told_after : (s : Settings) (w between after : World) (moment : ℤ) (asked : Asked) → Advances w moment between → (told : Told)
+-- a call whose number is checked to be no repeat's is new
+pub new_as : (s : Settings) (w : ServiceWorld) (moment : ℤ) (asked : Asked) (call : Call) (check : NumberCheck) → IsCallOf s asked call
+    → IsNumbered w.kept (caller_name s call.caller) asked (demand_of call.request) check → ((place : ℕ) → check ≢ Repeat place)
+    → IsNew s w moment asked call.caller call.request
+new_as s w moment asked call check is numbered other = record {
+  wants = is.wants;
+  fresh = fresh_as w.kept (caller_name s call.caller) asked (demand_of call.request) check numbered other;
+}
+
+-- and one that is a repeat is answered by what is kept
+pub repeats_as : (s : Settings) (w : ServiceWorld) (moment : ℤ) (asked : Asked) (call : Call) (place : ℕ) (answer : Answer) → IsCallOf s asked call
+    → (at : (reply : KeptReply) × IsRepeatOf w.kept (caller_name s call.caller) asked (demand_of call.request) reply
+    × (slice_get w.kept place ≡ Some reply))
+    → answer ≡ kept_answer (scene_of s w) at.0.answer → Repeats s w moment asked w answer
+repeats_as s w moment asked call place answer is at told = record {
+  caller = call.caller;
+  request = call.request;
+  wants = is.wants;
+  reply = at.0;
+  repeated = at.1;
+  same = refl;
+  answer_is = told;
+}
+
+told_after : (s : Settings) (w between after : ServiceWorld) (moment : ℤ) (asked : Asked) → CatchesUp w moment between → (told : Told)
     → IsAnswered s between moment asked told after → Tells s w moment asked told after
 told_after s w between after moment asked due (Made answer) answered = record { between = between; advances = due; judged = answered }
-told_after s w between after moment asked due (Instead Memory) answered = inr (subst (Advances w moment) (sym answered) due)
+told_after s w between after moment asked due (Instead Memory) answered = inr (subst (CatchesUp w moment) (sym answered) due)
 told_after s w between after moment asked due (Instead Unavailable) answered = absurd answered
 told_after s w between after moment asked due (Instead Spent) answered = absurd answered
 
 -- what is answered after what was due is served
-pub serves_after : (s : Settings) (w between after : World) (seat : ℕ) (now moment : ℤ) (asked : Asked) (told : Told)
-    → moment ≡ moment_of w.last now → IsCallMoment moment → w.last ≤ℤ moment → Advances w moment between
+pub serves_after : (s : Settings) (w between after : ServiceWorld) (seat : ℕ) (now moment : ℤ) (asked : Asked) (told : Told)
+    → moment ≡ moment_of w.rows.last now → IsCallMoment moment → w.rows.last ≤ℤ moment → CatchesUp w moment between
     → IsAnswered s between moment asked told after → Leads s w (entry_at w seat now asked told) after
 serves_after s w between after seat now moment asked told is call later due answered =
     let tells : (told : Told) → IsAnswered s between moment asked told after → Tells s w moment asked told after = told_after s w between after moment asked due in
     record {
       moment = subst IsCallMoment is call;
-      later = subst (λ (t : ℤ). w.last ≤ℤ t) is later;
+      later = subst (λ (t : ℤ). w.rows.last ≤ℤ t) is later;
       tells = subst (λ (t : ℤ). Tells s w t asked told after) is (tells told answered);
     }
 
 -- want of memory leaves the world, and is served
-pub serves_nothing : (s : Settings) (w after : World) (seat : ℕ) (now moment : ℤ) (asked : Asked) → moment ≡ moment_of w.last now
-    → IsCallMoment moment → w.last ≤ℤ moment → after ≡ w → Leads s w (entry_at w seat now asked (Instead Memory)) after
+pub serves_nothing : (s : Settings) (w after : ServiceWorld) (seat : ℕ) (now moment : ℤ) (asked : Asked) → moment ≡ moment_of w.rows.last now
+    → IsCallMoment moment → w.rows.last ≤ℤ moment → after ≡ w → Leads s w (entry_at w seat now asked (Instead Memory)) after
 serves_nothing s w after seat now moment asked is call later same = record {
   moment = subst IsCallMoment is call;
-  later = subst (λ (t : ℤ). w.last ≤ℤ t) is later;
+  later = subst (λ (t : ℤ). w.rows.last ≤ℤ t) is later;
   tells = inl same;
 }

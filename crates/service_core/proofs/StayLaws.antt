@@ -9,11 +9,6 @@ use Rattle.inclusion_graph.specs.Edges.{edges_from}
 use Rattle.invocations.specs.declared.invocation.Invocation.{Invocation}
 use Rattle.invocations.specs.Rows.{ids_of, begun, ended, with_changed}
 use Rattle.invocations.proofs.RowLemmas.{at_end, at_front}
-use Rattle.call_forms.specs.declared.asked.Asked.{Asked}
-use Rattle.call_forms.specs.declared.forms.Answer.{Answer}
-use Rattle.call_forms.specs.declared.forms.Standin.TheVariants.{Unavailable, Memory, Spent}
-use Rattle.call_forms.specs.declared.forms.Told.{Told}
-use Rattle.call_forms.specs.declared.forms.Told.TheVariants.{Made, Standin as Instead}
 use Rattle.invocation_world.specs.World.{World, IsValid}
 use Rattle.invocation_world.specs.Settling.{SettlesRows}
 use Rattle.invocation_world.specs.Advancing.{Advances, CarriesOut, after_deadlines, all_begun}
@@ -28,10 +23,11 @@ use Rattle.request_effects.proofs.PlaceFacts.{id_at, row_placed}
 use Rattle.request_effects.specs.declared.effect.Effect.{Effect}
 use Rattle.request_effects.specs.declared.effect.Effect.TheVariants as does
 use Rattle.request_effects.specs.Effects.{Does, with_effect}
-use Rattle.service_core.specs.Step.{Performs, Refuses, effect_for}
-use Rattle.service_core.specs.History.{Tells}
+use Rattle.service_core.specs.Service.{ServiceWorld}
+use Rattle.service_core.specs.History.{Entry, Leads}
 use Rattle.service_core.specs.Laws.{IsSameInvocation, RowsStay, ShownIsNamed}
 use Rattle.service_core.proofs.ChangeLaws.{edges_keep}
+use Rattle.service_core.proofs.MoveLaws.{IsMoved, Moves, tells_moves}
 
 -- each row stands at its place later, the same invocation
 abbrev pub AllStay : List Invocation → List Invocation → Type 0
@@ -98,7 +94,7 @@ pub advanced_rows : (moment : ℤ) (ds : List ℤ) (rows : List Invocation) (w :
 advanced_rows moment [] rows w h = sym h.1
 advanced_rows moment (d ∷ ds) rows w h = refl
 
-advance_stay : (moment : ℤ) (w after : World) → Advances w moment after → AllStay w.invocations after.invocations
+pub advance_stay : (moment : ℤ) (w after : World) → Advances w moment after → AllStay w.invocations after.invocations
 advance_stay moment w after h =
     subst (AllStay w.invocations)
     (sym (ap (λ (v : World). v.invocations) h.after_is ∙ advanced_rows moment h.deadlines h.rows w h.carried))
@@ -160,26 +156,27 @@ acted_stay w moment effect after acts =
     stay_both w.invocations mid.invocations after.invocations (effect_stay w moment effect)
     (settled_stay moment mid.inclusions mid.invocations after.invocations acts.rows)
 
-judged_stay : (s : Settings) (w : World) (moment : ℤ) (asked : Asked) (answer : Answer) (after : World)
-    → Refuses s w moment asked after answer ⊎ Performs s w moment asked after answer → AllStay w.invocations after.invocations
-judged_stay s w moment asked answer after (inl refused) = stay_same w.invocations after.invocations (ap (λ (v : World). v.invocations) refused.same)
-judged_stay s w moment asked answer after (inr performs) =
-    acted_stay w moment (effect_for s w moment performs.caller performs.request) after performs.acts
+moved_stay : (s : Settings) (w : World) (moment : ℤ) (after : World) → IsMoved s w moment after → AllStay w.invocations after.invocations
+moved_stay s w moment after (inl same) = stay_same w.invocations after.invocations (ap (λ (v : World). v.invocations) same)
+moved_stay s w moment after (inr done) = acted_stay w moment done.effect after done.does
 
-tells_stay : (s : Settings) (w : World) (moment : ℤ) (asked : Asked) (told : Told) (after : World) → Tells s w moment asked told after
-    → AllStay w.invocations after.invocations
-tells_stay s w moment asked (Made answer) after step =
-    stay_both w.invocations step.between.invocations after.invocations (advance_stay moment w step.between step.advances)
-    (judged_stay s step.between moment asked answer after step.judged)
-tells_stay s w moment asked (Instead Memory) after (inl same) = stay_same w.invocations after.invocations (ap (λ (v : World). v.invocations) same)
-tells_stay s w moment asked (Instead Memory) after (inr advances) = advance_stay moment w after advances
-tells_stay s w moment asked (Instead Unavailable) after never = absurd never
-tells_stay s w moment asked (Instead Spent) after never = absurd never
+moves_stay : (s : Settings) (w : World) (moment : ℤ) (after : World) → Moves s w moment after → AllStay w.invocations after.invocations
+moves_stay s w moment after h =
+    stay_both w.invocations h.between.invocations after.invocations (advance_stay moment w h.between h.advances)
+    (moved_stay s h.between moment after h.moved)
+
+pub leads_stay : (s : Settings) (w : ServiceWorld) (e : Entry) (after : ServiceWorld) → Leads s w e after
+    → AllStay w.rows.invocations after.rows.invocations
+leads_stay s w e after leads =
+    elim (tells_moves s w e.moment e.asked e.told after leads.tells) [
+      | inl same ↦ stay_same w.rows.invocations after.rows.invocations (ap (λ (v : ServiceWorld). v.rows.invocations) same)
+      | inr moves ↦ moves_stay s w.rows e.moment after.rows moves
+    ]
 
 pub rows_stay : RowsStay
-rows_stay s w [] v end = stay_same w.invocations v.invocations (ap (λ (u : World). u.invocations) end)
+rows_stay s w [] v end = stay_same w.rows.invocations v.rows.invocations (ap (λ (u : ServiceWorld). u.rows.invocations) end)
 rows_stay s w (e ∷ h) v legal =
-    stay_both w.invocations legal.0.invocations v.invocations (tells_stay s w e.moment e.asked e.told legal.0 legal.1.tells)
+    stay_both w.rows.invocations legal.0.rows.invocations v.rows.invocations (leads_stay s w e legal.0 legal.1)
     (rows_stay s legal.0 h v legal.2)
 
 -- what stands at a place is found there by its id, in a valid world

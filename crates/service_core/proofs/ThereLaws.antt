@@ -4,76 +4,105 @@ use Rattle.call_forms.specs.declared.asked.Asked.{Asked}
 use Rattle.call_forms.specs.declared.forms.Refusal.{Refusal}
 use Rattle.call_forms.specs.Rules.{refusal_answer}
 use Rattle.message_forms.specs.declared.requests.Request.{Request}
-use Rattle.invocation_world.specs.World.{World}
-use Rattle.invocation_world.specs.Advancing.{Advances}
 use Rattle.invocation_world.proofs.ExistFacts.{advance_there, settling_there}
 use Rattle.request_rules.specs.Settings.{Settings}
 use Rattle.request_rules.specs.Order.{IsUnbroken}
+use Rattle.kept_replies.specs.declared.reply.KeptReply.{KeptReply}
 use Rattle.request_rules.specs.Broken.{Wants}
 use Rattle.request_rules.proofs.Decided.{said}
 use Rattle.request_effects.specs.Effects.{with_effect}
 use Rattle.request_effects.specs.Full.{TableFull}
+use Rattle.request_effects.specs.Keeps.{kept_answer, with_kept}
 use Rattle.request_effects.specs.Shows.{answer_of, shows_of}
 use Rattle.request_effects.proofs.FullLaws.{full_or_not}
-use Rattle.service_core.specs.Step.{IsJudgedAs, IsRefusal, effect_for, scene_of}
+use Rattle.service_core.specs.Service.{CatchesUp, ServiceWorld}
+use Rattle.service_core.specs.Step.{IsJudgedAs, IsNew, IsRefusal, IsRepeated, effect_for, keep_for, performed, refused, repeated, scene_of}
 use Rattle.service_core.specs.Laws.{HasStep, HasSteps}
-use Rattle.service_core.proofs.DecideLaws.{judged_as}
+use Rattle.service_core.proofs.DecideLaws.{judged_as, repeated_or_fresh}
 
-refused_there : (s : Settings) (w : World) (moment : ℤ) (asked : Asked) (between : World) (r : Refusal) → Advances w moment between
-    → IsRefusal s between moment asked r → HasStep s w moment asked
+refused_there : (s : Settings) (w : ServiceWorld) (moment : ℤ) (asked : Asked) (between : ServiceWorld) (r : Refusal)
+    → CatchesUp w moment between → IsRefusal s between moment asked r → HasStep s w moment asked
 refused_there s w moment asked between r advances first = record {
   after = between;
   answer = refusal_answer r;
   step = record {
     between = between;
     advances = advances;
-    judged = inl (record { refusal = r; is_refusal = first; same = refl; answer_is = refl });
+    judged = refused (record { refusal = r; is_refusal = first; same = refl; answer_is = refl });
   };
 }
 
-performed_there : (s : Settings) (w : World) (moment : ℤ) (asked : Asked) (between : World) (caller : ℕ) (request : Request)
-    → Advances w moment between → Wants s asked caller request
-    → IsJudgedAs s between moment asked caller request None → IsUnbroken (TableFull between (effect_for s between moment caller request))
+repeated_there : (s : Settings) (w : ServiceWorld) (moment : ℤ) (asked : Asked) (between : ServiceWorld) (caller : ℕ) (request : Request)
+    (reply : KeptReply) → CatchesUp w moment between → Wants s asked caller request
+    → IsRepeated s between moment asked caller request reply → HasStep s w moment asked
+repeated_there s w moment asked between caller request reply advances wants again = record {
+  after = between;
+  answer = kept_answer (scene_of s between) reply.answer;
+  step = record {
+    between = between;
+    advances = advances;
+    judged = repeated (record {
+      caller = caller;
+      request = request;
+      wants = wants;
+      reply = reply;
+      repeated = again;
+      same = refl;
+      answer_is = refl;
+    });
+  };
+}
+
+performed_there : (s : Settings) (w : ServiceWorld) (moment : ℤ) (asked : Asked) (between : ServiceWorld) (caller : ℕ) (request : Request)
+    → CatchesUp w moment between → IsNew s between moment asked caller request
+    → IsJudgedAs s between moment asked caller request None → IsUnbroken (TableFull between.rows (effect_for s between moment caller request))
     → HasStep s w moment asked
-performed_there s w moment asked between caller request advances wants judged room =
-    let settled = settling_there moment (with_effect moment (effect_for s between moment caller request) between) in
+performed_there s w moment asked between caller request advances new judged room =
+    let settled = settling_there moment (with_effect moment (effect_for s between moment caller request) between.rows) in
+    let after : ServiceWorld = record { rows = settled.0; kept = with_kept between.kept (keep_for s between moment asked caller request) } in
     record {
-      after = settled.0;
-      answer = answer_of (scene_of s settled.0) (shows_of between request);
+      after = after;
+      answer = answer_of (scene_of s after) (shows_of between.rows request);
       step = record {
         between = between;
         advances = advances;
-        judged = inr (record {
+        judged = performed (record {
           caller = caller;
           request = request;
-          accepted = record { wants = wants; judged = judged; room = room };
-          acts = settled.1;
+          accepted = record { new = new; judged = judged; room = room };
+          acts = record { rows = settled.1; kept = refl };
           answer_is = refl;
         });
       };
     }
 
-judged_there : (s : Settings) (w : World) (moment : ℤ) (asked : Asked) (between : World) (caller : ℕ) (request : Request)
-    (found : Option Refusal) → Advances w moment between → Wants s asked caller request
+judged_there : (s : Settings) (w : ServiceWorld) (moment : ℤ) (asked : Asked) (between : ServiceWorld) (caller : ℕ) (request : Request)
+    (found : Option Refusal) → CatchesUp w moment between → IsNew s between moment asked caller request
     → IsJudgedAs s between moment asked caller request found → HasStep s w moment asked
-judged_there s w moment asked between caller request (Some r) advances wants judged =
-    refused_there s w moment asked between r advances (inr (caller, request, wants, inl judged))
-judged_there s w moment asked between caller request None advances wants judged =
-    elim (full_or_not between (effect_for s between moment caller request)) [
-      | inl full ↦ refused_there s w moment asked between full.0 advances (inr (caller, request, wants, inr (judged, full.1)))
-      | inr room ↦ performed_there s w moment asked between caller request advances wants judged room
+judged_there s w moment asked between caller request (Some r) advances new judged =
+    refused_there s w moment asked between r advances (inr (caller, request, new, inl judged))
+judged_there s w moment asked between caller request None advances new judged =
+    elim (full_or_not between.rows (effect_for s between moment caller request)) [
+      | inl full ↦ refused_there s w moment asked between full.0 advances (inr (caller, request, new, inr (judged, full.1)))
+      | inr room ↦ performed_there s w moment asked between caller request advances new judged room
     ]
 
-wanted_there : (s : Settings) (w : World) (moment : ℤ) (asked : Asked) (between : World) (caller : ℕ) (request : Request)
-    → Advances w moment between → Wants s asked caller request → HasStep s w moment asked
+wanted_there : (s : Settings) (w : ServiceWorld) (moment : ℤ) (asked : Asked) (between : ServiceWorld) (caller : ℕ) (request : Request)
+    → CatchesUp w moment between → Wants s asked caller request → HasStep s w moment asked
 wanted_there s w moment asked between caller request advances wants =
-    let judged = judged_as s between moment asked caller request in
-    judged_there s w moment asked between caller request judged.0 advances wants judged.1
+    elim (repeated_or_fresh s between moment asked caller request) [
+      | inl again ↦ repeated_there s w moment asked between caller request again.0 advances wants again.1
+      | inr fresh ↦
+          let judged = judged_as s between moment asked caller request in
+          judged_there s w moment asked between caller request judged.0 advances (record { wants = wants; fresh = fresh }) judged.1
+    ]
 
 pub step_there : HasSteps
 step_there s w moment asked =
-    let due = advance_there moment w in
+    let due = advance_there moment w.rows in
+    let between : ServiceWorld = record { rows = due.0; kept = w.kept } in
+    let advances : CatchesUp w moment between = record { rows = due.1; kept = refl } in
     elim (said s asked) [
-      | inl h ↦ refused_there s w moment asked due.0 h.0 due.1 (inl h.1)
-      | inr h ↦ wanted_there s w moment asked due.0 h.0 h.1 due.1 h.2
+      | inl h ↦ refused_there s w moment asked between h.0 advances (inl h.1)
+      | inr h ↦ wanted_there s w moment asked between h.0 h.1 advances h.2
     ]

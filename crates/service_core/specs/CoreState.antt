@@ -1,15 +1,22 @@
 -- What the core and its plans show of themselves.
-use Rattle.std.specs.Prelude.{◌≡◌, ℕ, ◌+◌, Option, min}
+use Rattle.std.specs.Prelude.{◌≡◌, ◌≤◌, ℕ, ◌+◌, Option, min}
+use Rattle.kept_replies.specs.declared.reply.KeptReply.{KeptReply}
+use Rattle.kept_replies.specs.Kept.{KeptState}
 use Rattle.call_forms.specs.declared.forms.Answer.{Answer}
 use Rattle.invocation_world.specs.States as worlds
 use Rattle.invocation_world.specs.States.{WorldState}
 use Rattle.service_core.specs.declared.plan.Work.{Work}
+use Rattle.service_core.specs.Service.{ServiceWorld}
 
--- A core: its world with its room, and how many changes were made in it, counted as far as the
--- count goes.
+-- A core: the parts of its world, each with its room, and how many changes were made in it, counted
+-- as far as the count goes.
 pub record CoreState : Type 0 where
   pub held : WorldState
+  pub keeps : KeptState
   pub changes : ℕ
+
+abbrev pub world_in : CoreState → ServiceWorld
+world_in core = record { rows = core.held.world; kept = core.keeps.kept }
 
 -- one change more
 abbrev pub more_changes : ℕ → ℕ
@@ -18,11 +25,14 @@ more_changes changes = min (changes + 1) 18_446_744_073_709_551_615
 -- The world stays, no change was made, and there is room for no less.
 pub record IsRoomier (before after : CoreState) : Type 0 where
   pub held : worlds.IsRoomier before.held after.held
+  pub kept : after.keeps.kept ≡ before.keeps.kept
+  pub room : before.keeps.room ≤ after.keeps.room
   pub changes : after.changes ≡ before.changes
 
--- A plan: what is to be done, the answer that it gives, and how many changes there were when it was
--- made. The plan that carries out due deadlines gives no answer.
+-- A plan: what is to be done, what is to be kept, the answer that it gives, and how many changes
+-- there were when it was made. The plan that carries out due deadlines gives no answer.
 pub record PlanState : Type 0 where
   pub work : Work
+  pub keep : Option KeptReply
   pub answer : Option Answer
   pub made_at : ℕ

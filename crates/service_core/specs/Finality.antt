@@ -11,6 +11,7 @@ use Rattle.invocation_world.specs.World.{World}
 use Rattle.invocation_world.specs.Advancing.{AreQuiet, IsLeast}
 use Rattle.request_rules.specs.Settings.{Settings}
 use Rattle.service_core.specs.History.{Entry, Leads}
+use Rattle.service_core.specs.Service.{ServiceWorld}
 
 -- One change, at this time. A row that was finalizing stays as it is, or it is ended at this time.
 -- Afterwards a finalizing row reaches an active one, and a final row reaches none. So a row whose
@@ -49,12 +50,12 @@ pub record IsInTime (w : World) (e : Entry) (after : World) : Type 0 where
   pub asked : EndsInTime after.inclusions e.moment between after.invocations
 
 -- So does an entry that was answered. One that was told a stand-in may change nothing.
-abbrev pub ToldInTime : World → Entry → Told → World → Type 0
-ToldInTime w e (Made answer) after = IsInTime w e after
-ToldInTime w e (Instead standin) after = (after ≡ w) ⊎ IsInTime w e after
+abbrev pub ToldInTime : ServiceWorld → Entry → Told → ServiceWorld → Type 0
+ToldInTime w e (Made answer) after = IsInTime w.rows e after.rows
+ToldInTime w e (Instead standin) after = (after ≡ w) ⊎ IsInTime w.rows e after.rows
 
 -- So it is with each entry of a history.
-abbrev pub AllInTime : Settings → World → List Entry → World → Type 0
+abbrev pub AllInTime : Settings → ServiceWorld → List Entry → ServiceWorld → Type 0
 AllInTime s w [] end = end ≡ w
 AllInTime s w (e ∷ h) end =
-    (after : World) × Leads s w e after × ToldInTime w e e.told after × AllInTime s after h end
+    (after : ServiceWorld) × Leads s w e after × ToldInTime w e e.told after × AllInTime s after h end

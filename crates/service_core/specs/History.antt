@@ -5,8 +5,8 @@ use Rattle.call_forms.specs.declared.asked.Asked.{Asked}
 use Rattle.call_forms.specs.declared.forms.Standin.TheVariants.{Unavailable, Memory, Spent}
 use Rattle.call_forms.specs.declared.forms.Told.{Told}
 use Rattle.call_forms.specs.declared.forms.Told.TheVariants.{Made, Standin as Instead}
-use Rattle.invocation_world.specs.World.{World, IsCallMoment}
-use Rattle.invocation_world.specs.Advancing.{Advances}
+use Rattle.invocation_world.specs.World.{IsCallMoment}
+use Rattle.service_core.specs.Service.{CatchesUp, ServiceWorld}
 use Rattle.service_core.specs.Step.{Step, moment_of}
 
 -- One call: whose seat it came from, its moment, what was asked and what was told.
@@ -18,36 +18,36 @@ pub record Entry : Type 0 where
 
 -- What a call may be told, and the world after it. Want of memory changes nothing but due
 -- deadlines. As there is no disk and no turn to wait for, no call is told Unavailable or Spent.
-abbrev pub Tells : Settings → World → ℤ → Asked → Told → World → Type 0
+abbrev pub Tells : Settings → ServiceWorld → ℤ → Asked → Told → ServiceWorld → Type 0
 Tells s w moment asked (Made answer) after = Step s w moment asked after answer
-Tells s w moment asked (Instead Memory) after = (after ≡ w) ⊎ Advances w moment after
+Tells s w moment asked (Instead Memory) after = (after ≡ w) ⊎ CatchesUp w moment after
 Tells s w moment asked (Instead Unavailable) after = ⊥
 Tells s w moment asked (Instead Spent) after = ⊥
 
 -- The entry leads from the world w to the world after.
-pub record Leads (s : Settings) (w : World) (e : Entry) (after : World) : Type 0 where
+pub record Leads (s : Settings) (w : ServiceWorld) (e : Entry) (after : ServiceWorld) : Type 0 where
   pub moment : IsCallMoment e.moment
-  pub later : w.last ≤ℤ e.moment
+  pub later : w.rows.last ≤ℤ e.moment
   pub tells : Tells s w e.moment e.asked e.told after
 
 -- One call of a seat, at the moment that this answer of a clock makes of the world.
-abbrev pub entry_at : World → ℕ → ℤ → Asked → Told → Entry
+abbrev pub entry_at : ServiceWorld → ℕ → ℤ → Asked → Told → Entry
 entry_at w seat now asked told =
-    record { seat = seat; moment = moment_of w.last now; asked = asked; told = told }
+    record { seat = seat; moment = moment_of w.rows.last now; asked = asked; told = told }
 
-abbrev pub Serves : Settings → World → ℕ → ℤ → Asked → Told → World → Type 0
+abbrev pub Serves : Settings → ServiceWorld → ℕ → ℤ → Asked → Told → ServiceWorld → Type 0
 Serves s w seat now asked told after = Leads s w (entry_at w seat now asked told) after
 
 -- Each entry leads from the world that the one before it left.
-abbrev pub IsLegal : Settings → World → List Entry → World → Type 0
+abbrev pub IsLegal : Settings → ServiceWorld → List Entry → ServiceWorld → Type 0
 IsLegal s w [] end = end ≡ w
-IsLegal s w (e ∷ h) end = (after : World) × Leads s w e after × IsLegal s after h end
+IsLegal s w (e ∷ h) end = (after : ServiceWorld) × Leads s w e after × IsLegal s after h end
 
 -- The entries have the moments that these answers of a clock make, one answer for each.
-abbrev pub IsTimed : Settings → World → List Entry → List ℤ → World → Type 0
+abbrev pub IsTimed : Settings → ServiceWorld → List Entry → List ℤ → ServiceWorld → Type 0
 IsTimed s w [] [] end = end ≡ w
 IsTimed s w [] (now ∷ answers) end = ⊥
 IsTimed s w (e ∷ h) [] end = ⊥
 IsTimed s w (e ∷ h) (now ∷ answers) end =
-    (after : World) × Leads s w e after × (e.moment ≡ moment_of w.last now)
+    (after : ServiceWorld) × Leads s w e after × (e.moment ≡ moment_of w.rows.last now)
     × IsTimed s after h answers end

@@ -1,6 +1,6 @@
 -- The code's own words: a call that was judged, and what was told for a request at a moment at
 -- which nothing is due.
-use Rattle.std.specs.Prelude.{◌≡◌, ◌⊎◌, ℤ, Option, Some, None}
+use Rattle.std.specs.Prelude.{◌≡◌, ℤ, Option, Some, None}
 use Rattle.call_forms.specs.declared.asked.Asked.{Asked}
 use Rattle.call_forms.specs.declared.forms.Answer.{Answer}
 use Rattle.call_forms.specs.declared.forms.Refusal.{Refusal}
@@ -8,24 +8,23 @@ use Rattle.call_forms.specs.Rules.{refusal_answer}
 use Rattle.call_forms.specs.declared.forms.Standin.TheVariants.{Unavailable, Memory, Spent}
 use Rattle.call_forms.specs.declared.forms.Told.{Told}
 use Rattle.call_forms.specs.declared.forms.Told.TheVariants.{Made, Standin as Instead}
-use Rattle.invocation_world.specs.World.{World}
 use Rattle.request_rules.specs.declared.reading.Call.{Call}
 use Rattle.request_rules.specs.Settings.{Settings}
-use Rattle.service_core.specs.Step.{IsJudgedAs, Refuses, Performs}
+use Rattle.service_core.specs.Service.{ServiceWorld}
+use Rattle.service_core.specs.Step.{IsJudgedAs, IsTold}
 
 -- The answer refuses the call, by the first rule for what is demanded that it breaks; or it breaks
 -- none.
-abbrev pub TellsRefusal : Settings → World → ℤ → Asked → Call → Option Answer → Type 0
+abbrev pub TellsRefusal : Settings → ServiceWorld → ℤ → Asked → Call → Option Answer → Type 0
 TellsRefusal s w moment asked call None =
     IsJudgedAs s w moment asked call.caller call.request None
 TellsRefusal s w moment asked call (Some answer) =
     (r : Refusal) × IsJudgedAs s w moment asked call.caller call.request (Some r)
     × (answer ≡ refusal_answer r)
 
--- The request is refused or performed, or want of memory was told and nothing changed.
-abbrev pub IsAnswered : Settings → World → ℤ → Asked → Told → World → Type 0
-IsAnswered s w moment asked (Made answer) after =
-    Refuses s w moment asked after answer ⊎ Performs s w moment asked after answer
+-- The request is refused, repeated or performed, or want of memory was told and nothing changed.
+abbrev pub IsAnswered : Settings → ServiceWorld → ℤ → Asked → Told → ServiceWorld → Type 0
+IsAnswered s w moment asked (Made answer) after = IsTold s w moment asked after answer
 IsAnswered s w moment asked (Instead Memory) after = after ≡ w
 IsAnswered s w moment asked (Instead Unavailable) after = ⊥
 IsAnswered s w moment asked (Instead Spent) after = ⊥

@@ -1,3 +1,4 @@
+pub mod Service
 pub mod Step
 pub mod History
 pub mod CoreState

@@ -1,5 +1,7 @@
 -- The code's own words: what a request is planned to that breaks no rule for what is demanded.
-use Rattle.std.specs.Prelude.{◌≡◌, ◌≢◌, ℕ, ℤ, Some}
+use Rattle.std.specs.Prelude.{◌≡◌, ◌≢◌, ◌<◌, ℕ, ℤ, Option, Some, IfSome}
+use Rattle.kept_replies.specs.declared.reply.KeptReply.{KeptReply}
+use Rattle.call_forms.specs.declared.asked.Asked.{Asked}
 use Rattle.call_forms.specs.declared.forms.Answer.{Answer}
 use Rattle.call_forms.specs.declared.forms.Refusal.{Refusal}
 use Rattle.call_forms.specs.Rules.{refusal_answer}
@@ -16,48 +18,67 @@ use Rattle.request_effects.specs.Shows.{answer_of, shows_of}
 use Rattle.service_core.specs.declared.plan.Prepared.{Prepared}
 use Rattle.service_core.specs.declared.plan.Prepared.TheVariants as prepared
 use Rattle.service_core.specs.declared.plan.Work.TheVariants as work
-use Rattle.service_core.specs.CoreState.{CoreState, PlanState}
-use Rattle.service_core.specs.Step.{effect_for, scene_of}
+use Rattle.service_core.specs.CoreState.{CoreState, PlanState, world_in}
+use Rattle.service_core.specs.Step.{effect_for, keep_for}
 
--- the answer shows this of the world that a change leaves
+-- the answer shows this of the invocations that a change leaves
 abbrev pub Answers : Settings → World → Change → Shows → Answer → Type 0
 Answers s w change shows answer =
     (after : World) → Does change.moment change.effect w after
-    → answer ≡ answer_of (scene_of s after) shows
+    → answer ≡ answer_of (record { settings = s; world = after }) shows
 
--- the plan of a change that shows this, made in this core
-abbrev pub plan_of : Change → Answer → CoreState → PlanState
-plan_of change answer core =
-    record { work = work.Change change; answer = Some answer; made_at = core.changes }
+-- What is done and kept of a request.
+pub record Deed : Type 0 where
+  pub change : Change
+  pub keep : Option KeptReply
+
+-- the plan of what shows this, made in this core
+abbrev pub plan_of : Deed → Answer → CoreState → PlanState
+plan_of deed answer core = record {
+  work = work.Change deed.change;
+  keep = deed.keep;
+  answer = Some answer;
+  made_at = core.changes;
+}
 
 -- A change that does nothing is answered; another one is planned, with its answer.
-abbrev pub IsShown : Settings → CoreState → Change → Shows → Prepared → Type 0
-IsShown s core change shows (prepared.Refused answer) = ⊥
-IsShown s core change shows (prepared.Answered answer) =
-    (change.effect ≡ does.Nothing) × Answers s core.held.world change shows answer
-IsShown s core change shows (prepared.Change plan) =
-    (change.effect ≢ does.Nothing)
-    × ((answer : Answer) × (plan ≡ plan_of change answer core)
-    × Answers s core.held.world change shows answer)
+abbrev pub IsShown : Settings → CoreState → Deed → Shows → Prepared → Type 0
+IsShown s core deed shows (prepared.Refused answer) = ⊥
+IsShown s core deed shows (prepared.Repeated answer) = ⊥
+IsShown s core deed shows (prepared.Answered answer) =
+    (deed.change.effect ≡ does.Nothing) × Answers s core.held.world deed.change shows answer
+IsShown s core deed shows (prepared.Change plan) =
+    (deed.change.effect ≢ does.Nothing)
+    × ((answer : Answer) × (plan ≡ plan_of deed answer core)
+    × Answers s core.held.world deed.change shows answer)
 
--- what a caller's request does at a moment
-abbrev pub change_for : Settings → World → ℤ → ℕ → Request → Change
-change_for s w moment caller request =
-    record { moment = moment; effect = effect_for s w moment caller request }
+-- what is done and kept of a caller's request at a moment
+abbrev pub deed_for : Settings → CoreState → ℤ → Asked → ℕ → Request → Deed
+deed_for s core moment asked caller request = record {
+  change = record {
+    moment = moment;
+    effect = effect_for s (world_in core) moment caller request;
+  };
+  keep = keep_for s (world_in core) moment asked caller request;
+}
 
--- What the request does can be done, and it is shown.
-abbrev pub IsReady : Settings → CoreState → ℤ → ℕ → Request → Prepared → Type 0
-IsReady s core moment caller request p =
-    Fits core.held moment (effect_for s core.held.world moment caller request)
-    × IsShown s core (change_for s core.held.world moment caller request)
+-- What the request does can be done, there is room for what is kept of it, and it is shown.
+abbrev pub IsReady : Settings → CoreState → ℤ → Asked → ℕ → Request → Prepared → Type 0
+IsReady s core moment asked caller request p =
+    Fits core.held moment (effect_for s (world_in core) moment caller request)
+    × IfSome (keep_for s (world_in core) moment asked caller request)
+    (λ reply. 0 < core.keeps.room)
+    × IsShown s core (deed_for s core moment asked caller request)
     (shows_of core.held.world request) p
 
 -- The request is refused, since a table is full; or there is room, and what it does is shown.
-abbrev pub ComesTo : Settings → CoreState → ℤ → ℕ → Request → Prepared → Type 0
-ComesTo s core moment caller request (prepared.Refused answer) =
-    (r : Refusal) × TableFull core.held.world (effect_for s core.held.world moment caller request) r
+abbrev pub ComesTo : Settings → CoreState → ℤ → Asked → ℕ → Request → Prepared → Type 0
+ComesTo s core moment asked caller request (prepared.Refused answer) =
+    (r : Refusal)
+    × TableFull core.held.world (effect_for s (world_in core) moment caller request) r
     × (answer ≡ refusal_answer r)
-ComesTo s core moment caller request (prepared.Answered answer) =
-    IsReady s core moment caller request (prepared.Answered answer)
-ComesTo s core moment caller request (prepared.Change plan) =
-    IsReady s core moment caller request (prepared.Change plan)
+ComesTo s core moment asked caller request (prepared.Repeated answer) = ⊥
+ComesTo s core moment asked caller request (prepared.Answered answer) =
+    IsReady s core moment asked caller request (prepared.Answered answer)
+ComesTo s core moment asked caller request (prepared.Change plan) =
+    IsReady s core moment asked caller request (prepared.Change plan)

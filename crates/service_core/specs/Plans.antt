@@ -1,5 +1,7 @@
 -- What a request is prepared to.
-use Rattle.std.specs.Prelude.{◌≡◌, ◌≢◌, ℕ, ℤ, ◌≤ℤ◌, Some}
+use Rattle.std.specs.Prelude.{⊤, ◌≡◌, ◌≢◌, ◌<◌, ℕ, ℤ, ◌≤ℤ◌, Option, Some, None}
+use Rattle.kept_replies.specs.declared.reply.KeptReply.{KeptReply}
+use Rattle.kept_replies.specs.Kept.{IsFree, IsWord, KeptState}
 use Rattle.call_forms.specs.declared.forms.Answer.{Answer}
 use Rattle.call_forms.specs.declared.asked.Asked.{Asked}
 use Rattle.message_forms.specs.declared.requests.Request.{Request}
@@ -9,50 +11,67 @@ use Rattle.invocation_world.specs.States.{WorldState}
 use Rattle.request_rules.specs.Settings.{Settings}
 use Rattle.request_effects.specs.Effects.{Does}
 use Rattle.request_effects.specs.Fitting as effects
+use Rattle.request_effects.specs.Keeps.{with_kept}
 use Rattle.request_effects.specs.Shows.{answer_of, shows_of}
 use Rattle.service_core.specs.declared.plan.Work.{Work}
 use Rattle.service_core.specs.declared.plan.Work.TheVariants.{Tick, Change}
 use Rattle.service_core.specs.declared.plan.Prepared.{Prepared}
 use Rattle.service_core.specs.declared.plan.Prepared.TheVariants as prepared
-use Rattle.service_core.specs.CoreState.{CoreState, PlanState}
-use Rattle.service_core.specs.Step.{IsAccepted, Acts, Refuses, Performs, scene_of}
+use Rattle.service_core.specs.CoreState.{CoreState, PlanState, world_in}
+use Rattle.service_core.specs.Service.{ServiceWorld}
+use Rattle.service_core.specs.Step.{IsAccepted, Acts, Refuses, Repeats, Performs, scene_of}
 
--- What is planned makes this of a world: due deadlines are carried out at a moment; or a request's
--- change is made.
-abbrev pub Carries : World → Work → World → Type 0
-Carries w (Tick moment) after = Advances w moment after
-Carries w (Change change) after = Does change.moment change.effect w after
+-- What is planned makes this of the invocations: due deadlines are carried out at a moment; or a
+-- request's change is made.
+abbrev pub Works : World → Work → World → Type 0
+Works w (Tick moment) after = Advances w moment after
+Works w (Change change) after = Does change.moment change.effect w after
+
+-- A plan makes this of a world, part by part.
+pub record Carries (w : ServiceWorld) (plan : PlanState) (after : ServiceWorld) : Type 0 where
+  pub rows : Works w.rows plan.work after.rows
+  pub kept : after.kept ≡ with_kept w.kept plan.keep
 
 -- It can be done in the world that is held, without memory.
 abbrev pub CanDo : WorldState → Work → Type 0
 CanDo held (Tick moment) = IsCallMoment moment × (held.world.last ≤ℤ moment)
 CanDo held (Change change) = effects.Fits held change.moment change.effect
 
+-- What is to be kept has a number for which nothing is kept, and there is room for it.
+abbrev pub CanKeep : KeptState → Option KeptReply → Type 0
+CanKeep keeps None = ⊤
+CanKeep keeps (Some reply) =
+    (0 < keeps.room) × IsWord reply.number × IsFree keeps.kept reply.caller reply.number
+
 -- The plan was made for this core: no change was made since, and it can be done.
 pub record Fits (core : CoreState) (plan : PlanState) : Type 0 where
   pub made : plan.made_at ≡ core.changes
   pub can : CanDo core.held plan.work
+  pub keep : CanKeep core.keeps plan.keep
 
 -- The plan does what a caller asks for and is granted, and gives the reply to it. It changes the
 -- world: what changes nothing is answered and not planned.
-pub record IsPlanOf (s : Settings) (w : World) (moment : ℤ) (asked : Asked) (plan : PlanState)
-    : Type 0 where
+pub record IsPlanOf (s : Settings) (w : ServiceWorld) (moment : ℤ) (asked : Asked)
+    (plan : PlanState) : Type 0 where
   pub caller : ℕ
   pub request : Request
   pub accepted : IsAccepted s w moment asked caller request
   pub answer : Answer
   pub answer_is : plan.answer ≡ Some answer
-  pub acts : (after : World) → Carries w plan.work after
-      → Acts s w moment caller request after
-      × (answer ≡ answer_of (scene_of s after) (shows_of w request))
-  pub changes : (after : World) → Carries w plan.work after → after ≢ w
+  pub acts : (after : ServiceWorld) → Carries w plan after
+      → Acts s w moment asked caller request after
+      × (answer ≡ answer_of (scene_of s after) (shows_of w.rows request))
+  pub changes : (after : ServiceWorld) → Carries w plan after → after ≢ w
 
--- A request is refused by the answer of the rule that it breaks; or it is accepted, and answered
--- without a change; or it is accepted, and its plan fits the core.
+-- A request is refused by the answer of the rule that it breaks; or it is a repeat, and this is the
+-- answer to it; or it is accepted, and answered without a change; or it is accepted, and its plan
+-- fits the core.
 abbrev pub IsPrepared : Settings → CoreState → ℤ → Asked → Prepared → Type 0
 IsPrepared s core moment asked (prepared.Refused answer) =
-    Refuses s core.held.world moment asked core.held.world answer
+    Refuses s (world_in core) moment asked (world_in core) answer
+IsPrepared s core moment asked (prepared.Repeated answer) =
+    Repeats s (world_in core) moment asked (world_in core) answer
 IsPrepared s core moment asked (prepared.Answered answer) =
-    Performs s core.held.world moment asked core.held.world answer
+    Performs s (world_in core) moment asked (world_in core) answer
 IsPrepared s core moment asked (prepared.Change plan) =
-    IsPlanOf s core.held.world moment asked plan × Fits core plan
+    IsPlanOf s (world_in core) moment asked plan × Fits core plan

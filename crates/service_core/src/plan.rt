@@ -2,6 +2,7 @@
 ghost use Rattle.std.specs.Prelude.{◌≡◌};
 
 use call_forms::Answer;
+use kept_replies::Ready;
 use names_realms::Moment;
 use request_effects::Change;
 use std::marker::Model;
@@ -15,10 +16,11 @@ pub enum Work {
     Change(Change),
 }
 
-/// What is ready to be done, and the answer that it gives, where it answers a request.
+/// What is ready to be done and to be kept, and the answer that it gives, where it answers a request.
 #[derive(Drop)]
 pub struct Plan {
     work: Work,
+    keep: Option<Ready>,
     answer: Option<Answer>,
     made_at: u64,
 }
@@ -28,27 +30,40 @@ impl Model for Plan {
 
     ghost Value = { PlanState };
 
-    ghost view = { λ p. record { work = p.work; answer = p.answer; made_at = p.made_at } };
+    ghost view = { λ p. record {
+      work = p.work;
+      keep = p.keep;
+      answer = p.answer;
+      made_at = p.made_at;
+    } };
 }
 
 impl Plan {
-    /// The plan of what is to be done, with its answer, made after this many changes.
-    pub(crate) fn new(work: Work, answer: Option<Answer>, made_at: u64) -> Plan
-        ensures { result ≡ record { work = work; answer = answer; made_at = made_at } }
+    /// The plan of what is to be done and to be kept, with its answer, made after this many changes.
+    pub(crate) fn new(
+        work: Work,
+        keep: Option<Ready>,
+        answer: Option<Answer>,
+        made_at: u64,
+    ) -> Plan
+        ensures { result ≡
+            record { work = work; keep = keep; answer = answer; made_at = made_at } }
     {
         Plan {
             work,
+            keep,
             answer,
             made_at,
         }
     }
 
-    /// What is to be done, and the answer.
-    pub(crate) fn into_parts(self) -> (Work, Option<Answer>)
+    /// What is to be done and to be kept, and the answer.
+    pub(crate) fn into_parts(self) -> (Work, Option<Ready>, Option<Answer>)
         ensures work { result.0 ≡ self.work }
-        ensures answer { result.1 ≡ self.answer }
+        ensures keep { result.1 ≡ self.keep }
+        ensures answer { result.2 ≡ self.answer }
     {
-        (self.work, self.answer)
+        (self.work, self.keep, self.answer)
     }
 }
 
@@ -57,6 +72,8 @@ impl Plan {
 pub enum Prepared {
     /// It is refused, by this answer.
     Refused(Answer),
+    /// It is a repeat, and this is the answer that it got before.
+    Repeated(Answer),
     /// It is accepted and changes nothing, and this is its answer.
     Answered(Answer),
     /// It is accepted, and this is left to be done.

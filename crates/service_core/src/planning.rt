@@ -1,42 +1,71 @@
 //! The plan of a request that breaks no rule for what is demanded.
-ghost use Rattle.std.specs.Prelude.{◌≡◌, ◌<◌, IfOk, length};
+ghost use Rattle.std.specs.Prelude.{◌≡◌, ◌<◌, IfOk, IfSome, length};
+ghost use Rattle.call_forms.specs.declared.asked.Asked.{Asked};
 ghost use Rattle.request_rules.specs.Demands.{demand_of};
 ghost use Rattle.request_rules.specs.Locating.{located};
 ghost use Rattle.request_rules.specs.Settings.{caller_name};
+ghost use Rattle.request_rules.specs.Understood.{IsDigested};
 ghost use Rattle.request_effects.specs.Fitting.{Fits, IsTimely};
 ghost use Rattle.request_effects.specs.Foreseen.{IsOwn};
+ghost use Rattle.request_effects.specs.Keeps.{kept_of};
 ghost use Rattle.request_effects.specs.Planned.{IsSafe};
 ghost use Rattle.service_core.specs.CoreState.{IsRoomier};
 ghost use Rattle.service_core.specs.Planning.{ComesTo, IsShown};
 
 use crate::plan::{Plan, Prepared, Work};
 use crate::serving::Core;
+use kept_replies::Ready;
 use names_realms::Moment;
 use permissions::Policy;
-use request_effects::{Change, Context, Planned, Shows, plan_change, show, shows_of};
+use request_effects::{
+    Change, Context, Effect, Numbered, Planned, Shows, keep_of, numbered_of, plan_change, show,
+    shows_of,
+};
 use request_rules::{Call, Located};
 use std::alloc::{AllocError, Global};
 
 impl Core {
+    /// What is to be kept of a request of a caller of this name that has this effect, with all room
+    /// that it takes. `Err` where there is no memory.
+    fn ready(
+        &mut self,
+        alloc: Global,
+        name: &[u8],
+        numbered: Option<Numbered>,
+        effect: &Effect,
+    ) -> Result<Option<Ready>, AllocError>
+        ensures roomier { IsRoomier self.old self.new }
+        ensures keep { IfOk result (λ keep. keep
+            ≡ kept_of self.old.held.world name.now numbered effect.now) }
+        ensures room { IfOk result (λ keep. IfSome keep (λ _. 0 < self.new.keeps.room)) }
+    {
+        let Some(reply) = keep_of(alloc, &self.world, name, numbered, effect)? else {
+            return Ok(None);
+        };
+        Ok(Some(self.kept.prepare(alloc, reply)?))
+    }
+
     /// The answer that shows what a change will leave, with the change, where it is one.
     fn with_answer(
         &mut self,
         alloc: Global,
         policy: &Policy,
         change: Change,
+        keep: Option<Ready>,
         shows: Shows,
     ) -> Result<Prepared, AllocError>
         requires fits { Fits self.old.held change.moment change.effect }
         requires own { IsOwn self.old.held.world change.effect shows }
         ensures roomier { IsRoomier self.old self.new }
-        ensures shown { IfOk result (IsShown (record { policy = policy.now }) self.old change shows) }
+        ensures shown { IfOk result (IsShown (record { policy = policy.now }) self.old
+            (record { change = change; keep = keep }) shows) }
     {
         let answer = show(alloc, &mut self.world, policy, &change, shows)?;
         if change.effect.is_nothing() {
             return Ok(Prepared::Answered(answer));
         }
         let work = Work::Change(change);
-        Ok(Prepared::Change(Plan::new(work, Some(answer), self.changes)))
+        Ok(Prepared::Change(Plan::new(work, keep, Some(answer), self.changes)))
     }
 
     /// What a call comes to that breaks no rule for what is demanded, where the invocations that it
@@ -56,19 +85,24 @@ impl Core {
         requires safe { IsSafe self.old.held.world moment
             (caller_name (record { policy = policy.now }) call.caller) call.request }
         ensures roomier { IsRoomier self.old self.new }
-        ensures comes { IfOk result (ComesTo (record { policy = policy.now }) self.new moment
+        ensures comes { (asked : Asked) → IsDigested asked (demand_of call.request) call.digest
+            → IfOk result (ComesTo (record { policy = policy.now }) self.new moment asked
             call.caller call.request) }
     {
         let shows = shows_of(&self.world, places, &call.request);
+        let numbered = numbered_of(alloc, &call)?;
+        let name = policy.name_of(call.caller);
         let context = Context {
             moment,
-            name: policy.name_of(call.caller),
+            name,
             located: places,
         };
         match plan_change(alloc, &mut self.world, &context, call.request)? {
             Planned::Full(table) => Ok(Prepared::Refused(table.answer(alloc)?)),
             Planned::Ready(effect) => {
-                self.with_answer(alloc, policy, Change { moment, effect }, shows)
+                let keep = self.ready(alloc, name, numbered, &effect)?;
+                let change = Change { moment, effect };
+                self.with_answer(alloc, policy, change, keep, shows)
             }
         }
     }

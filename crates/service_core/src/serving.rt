@@ -1,15 +1,20 @@
 //! The core: the world in memory, and its steps.
-ghost use Rattle.std.specs.Prelude.{◌≡◌, ℕ, ◌≤ℤ◌, ◌<◌, pos, IfOk, MatchBool, None, OnErr, OnOk, length};
+ghost use Rattle.std.specs.Prelude.{◌≡◌, ◌≢◌, ℕ, ◌≤ℤ◌, ◌<◌, pos, IfOk, MatchBool, None, Some, OnErr, OnOk, length, slice_get};
 ghost use Rattle.std.specs.Int.{int_min, int_max};
-ghost use Rattle.invocation_world.specs.World.{empty_world, IsCallMoment, IsValid, latest_call};
-ghost use Rattle.invocation_world.specs.Advancing.{Advances, IsDueAt, IsQuiet};
+ghost use Rattle.kept_replies.specs.declared.reply.KeptReply.{KeptReply};
+ghost use Rattle.invocation_world.specs.World.{IsCallMoment, IsValid, latest_call};
+ghost use Rattle.invocation_world.specs.Advancing.{IsDueAt, IsQuiet};
 ghost use Rattle.request_rules.specs.Demands.{demand_of};
 ghost use Rattle.request_rules.specs.Locating.{located};
+ghost use Rattle.request_rules.specs.Numbered.{IsNumbered};
+ghost use Rattle.request_rules.specs.Settings.{caller_name};
 ghost use Rattle.request_rules.specs.Understood.{IsCallOf, IsUnderstood};
 ghost use Rattle.request_effects.specs.Fitting.{IsTimely};
-ghost use Rattle.service_core.specs.CoreState.{IsRoomier, more_changes};
+ghost use Rattle.service_core.specs.CoreState.{IsRoomier, more_changes, world_in};
+ghost use Rattle.service_core.specs.Service.{CatchesUp, empty_service};
 ghost use Rattle.service_core.specs.Step.{moment_of};
-ghost use Rattle.service_core.specs.Plans.{CanDo, Carries, Fits, IsPrepared};
+ghost use Rattle.service_core.specs.Plans.{CanDo, CanKeep, Carries, Fits, IsPrepared, Works};
+ghost use Rattle.request_effects.specs.Keeps.{kept_answer, with_kept};
 ghost use Rattle.call_forms.specs.declared.asked.Asked.{Asked};
 ghost use Rattle.service_core.specs.Judged.{IsAnswered, TellsRefusal};
 ghost use Rattle.service_core.specs.History.{Serves};
@@ -18,10 +23,13 @@ use crate::plan::{Plan, Prepared, Work};
 use call_forms::{Answer, Standin, Told};
 use invocation_world::InvocationWorld;
 use invocations::Invocation;
+use kept_replies::{KeptReplies, Ready};
 use names_realms::Moment;
 use permissions::Policy;
-use request_effects::carry_out;
-use request_rules::{Call, Located, Rule, Situation, Understood, holding_for};
+use request_effects::{carry_out, show_kept};
+use request_rules::{
+    Call, Located, NumberCheck, Rule, Situation, Understood, check_number, holding_for,
+};
 use std::alloc::{AllocError, Global};
 use std::marker::Model;
 
@@ -33,7 +41,15 @@ const LATEST_CALL: i64 = 253_370_764_800_000_000;
 #[derive(Drop)]
 pub struct Core {
     pub(crate) world: InvocationWorld,
+    pub(crate) kept: KeptReplies,
     pub(crate) changes: u64,
+}
+
+/// What was looked up for a call before it is judged: where the invocations stand that it names,
+/// and what its number comes to.
+struct LookedUp<'r> {
+    places: &'r Located,
+    number: NumberCheck,
 }
 
 impl Model for Core {
@@ -41,16 +57,21 @@ impl Model for Core {
 
     ghost Value = { CoreState };
 
-    ghost view = { λ c. record { held = c.world; changes = c.changes } };
+    ghost view = { λ c. record { held = c.world; keeps = c.kept; changes = c.changes } };
 }
 
 impl Core {
     /// The empty world. `Err` where there is no memory.
     pub fn new(alloc: Global) -> Result<Core, AllocError>
-        ensures { IfOk result (λ core. core.held.world ≡ empty_world) }
+        ensures { IfOk result (λ core. world_in core ≡ empty_service) }
     {
         let world = InvocationWorld::new(alloc)?;
-        Ok(Core { world, changes: 0 })
+        let kept = KeptReplies::new(alloc);
+        Ok(Core {
+            world,
+            kept,
+            changes: 0,
+        })
     }
 
     /// The invocations, in order of creation.
@@ -88,11 +109,12 @@ impl Core {
         requires due { IsDueAt self.old.held.world moment }
         ensures core { self.new ≡ self.old }
         ensures work { IfOk result (λ plan. plan.work ≡ Work.Tick moment) }
+        ensures keep { IfOk result (λ plan. plan.keep ≡ None) }
         ensures answer { IfOk result (λ plan. plan.answer ≡ None) }
         ensures fits { IfOk result (Fits self.new) }
     {
         let _ = alloc;
-        Ok(Plan::new(Work::Tick(moment), None, self.changes))
+        Ok(Plan::new(Work::Tick(moment), None, None, self.changes))
     }
 
     /// The answer that refuses a call at this moment, where it breaks a rule for what is demanded.
@@ -103,14 +125,17 @@ impl Core {
         policy: &Policy,
         moment: Moment,
         call: &Call,
-        places: &Located,
+        found: &LookedUp,
     ) -> Result<Option<Answer>, AllocError>
         requires there { call.now.caller < length policy.now.users }
-        requires places { places.now
+        requires places { found.now.places.now
             ≡ located self.now.held.world.invocations (demand_of call.now.request) }
         ensures valid { IfOk result (λ _. IsValid self.now.held.world) }
         ensures told { (asked : Asked) → IsCallOf (record { policy = policy.now }) asked call.now
-            → IfOk result (TellsRefusal (record { policy = policy.now }) self.now.held.world moment
+            → IsNumbered self.now.keeps.kept
+            (caller_name (record { policy = policy.now }) call.now.caller) asked
+            (demand_of call.now.request) found.now.number
+            → IfOk result (TellsRefusal (record { policy = policy.now }) (world_in self.now) moment
             asked call.now) }
     {
         let holding = holding_for(alloc, policy, call)?;
@@ -119,12 +144,68 @@ impl Core {
             table: self.world.table(),
             moment,
             holding: &holding,
-            located: places,
+            located: found.places,
+            number: found.number,
         };
         match situation.judge(Rule::order(), call) {
             Some(breach) => Ok(Some(breach.answer(alloc)?)),
             None => Ok(None),
         }
+    }
+
+    /// The answer to a repeat of the request that is kept at this place. `Err` where there is no
+    /// memory for it.
+    fn kept_answer(
+        &self,
+        alloc: Global,
+        policy: &Policy,
+        place: usize,
+    ) -> Result<Answer, AllocError>
+        requires { place < length self.now.keeps.kept }
+        ensures { (reply : KeptReply) → slice_get self.now.keeps.kept place ≡ Some reply
+            → IfOk result (λ answer. answer ≡ kept_answer (record {
+              settings = record { policy = policy.now };
+              world = self.now.held.world;
+            }) reply.answer) }
+    {
+        show_kept(alloc, &self.world, policy, &self.kept.reply(place).answer)
+    }
+
+    /// What a caller's request comes to at this moment that is no repeat, by what its number comes
+    /// to.
+    fn prepare_new(
+        &mut self,
+        alloc: Global,
+        policy: &Policy,
+        moment: Moment,
+        call: Call,
+        number: NumberCheck,
+    ) -> Result<Prepared, AllocError>
+        requires in_range { IsCallMoment moment }
+        requires later { self.old.held.world.last ≤ℤ moment }
+        requires quiet { IsQuiet self.old.held.world moment }
+        requires other { (place : ℕ) → number ≢ NumberCheck.Repeat place }
+        requires call { (asked : Asked) × IsCallOf (record { policy = policy.now }) asked call
+            × IsNumbered self.old.keeps.kept
+            (caller_name (record { policy = policy.now }) call.caller) asked
+            (demand_of call.request) number }
+        ensures roomier { IsRoomier self.old self.new }
+        ensures prepared { (asked : Asked) → IsCallOf (record { policy = policy.now }) asked call
+            → IsNumbered self.old.keeps.kept
+            (caller_name (record { policy = policy.now }) call.caller) asked
+            (demand_of call.request) number
+            → IfOk result (IsPrepared (record { policy = policy.now }) self.new moment asked) }
+    {
+        let _ = policy.tables();
+        let places = Located::of(alloc, self.world.table(), &call.request)?;
+        let found = LookedUp {
+            places: &places,
+            number,
+        };
+        if let Some(answer) = self.refused(alloc, policy, moment, &call, &found)? {
+            return Ok(Prepared::Refused(answer));
+        }
+        self.plan(alloc, policy, moment, call, &places)
     }
 
     /// What a caller's request comes to at this moment.
@@ -143,12 +224,14 @@ impl Core {
         ensures prepared { (asked : Asked) → IsCallOf (record { policy = policy.now }) asked call
             → IfOk result (IsPrepared (record { policy = policy.now }) self.new moment asked) }
     {
-        let _ = policy.tables();
-        let places = Located::of(alloc, self.world.table(), &call.request)?;
-        if let Some(answer) = self.refused(alloc, policy, moment, &call, &places)? {
-            return Ok(Prepared::Refused(answer));
+        let number = check_number(alloc, &self.kept, policy.name_of(call.caller), &call)?;
+        match number {
+            NumberCheck::Repeat(place) => {
+                Ok(Prepared::Repeated(self.kept_answer(alloc, policy, place)?))
+            }
+            NumberCheck::New => self.prepare_new(alloc, policy, moment, call, number),
+            NumberCheck::Reused => self.prepare_new(alloc, policy, moment, call, number),
         }
-        self.plan(alloc, policy, moment, call, &places)
     }
 
     /// What a request comes to at this moment, at which nothing is due, by what was understood of
@@ -180,7 +263,8 @@ impl Core {
     /// Does what was planned.
     fn work(&mut self, work: Work)
         requires { CanDo self.old.held work }
-        ensures world { Carries self.old.held.world work self.new.held.world }
+        ensures world { Works self.old.held.world work self.new.held.world }
+        ensures keeps { self.new.keeps ≡ self.old.keeps }
         ensures changes { self.new.changes ≡ self.old.changes }
     {
         match work {
@@ -189,16 +273,29 @@ impl Core {
         }
     }
 
+    /// Keeps what was made ready.
+    fn keep(&mut self, keep: Option<Ready>)
+        requires { CanKeep self.old.keeps keep }
+        ensures kept { self.new.keeps.kept ≡ with_kept self.old.keeps.kept keep }
+        ensures held { self.new.held ≡ self.old.held }
+        ensures changes { self.new.changes ≡ self.old.changes }
+    {
+        if let Some(ready) = keep {
+            self.kept.keep(ready);
+        }
+    }
+
     /// Makes a change that was prepared last, and gives its answer: none for due deadlines. It takes
     /// no memory.
     pub fn commit(&mut self, plan: Plan) -> Option<Answer>
         requires { Fits self.old plan }
-        ensures world { Carries self.old.held.world plan.work self.new.held.world }
+        ensures world { Carries (world_in self.old) plan (world_in self.new) }
         ensures changes { self.new.changes ≡ more_changes self.old.changes }
         ensures answer { result ≡ plan.answer }
     {
-        let (work, answer) = plan.into_parts();
+        let (work, keep, answer) = plan.into_parts();
         self.work(work);
+        self.keep(keep);
         self.changes = self.changes.saturating_add(1);
         answer
     }
@@ -208,9 +305,9 @@ impl Core {
     fn catch_up(&mut self, alloc: Global, moment: Moment) -> Result<(), AllocError>
         requires in_range { IsCallMoment moment }
         requires later { self.old.held.world.last ≤ℤ moment }
-        ensures ok { OnOk result (Advances self.old.held.world moment self.new.held.world) }
+        ensures ok { OnOk result (CatchesUp (world_in self.old) moment (world_in self.new)) }
         ensures timely { OnOk result (IsTimely self.new.held.world moment) }
-        ensures err { OnErr result (self.new.held.world ≡ self.old.held.world) }
+        ensures err { OnErr result (world_in self.new ≡ world_in self.old) }
     {
         if self.is_due(moment) {
             let plan = self.prepare_tick(alloc, moment)?;
@@ -254,11 +351,12 @@ impl Core {
             × IfOk understood (IsUnderstood (record { policy = policy.now }) asked) }
         ensures { (asked : Asked)
             → IfOk understood (IsUnderstood (record { policy = policy.now }) asked)
-            → IsAnswered (record { policy = policy.now }) self.old.held.world moment asked result
-            self.new.held.world }
+            → IsAnswered (record { policy = policy.now }) (world_in self.old) moment asked result
+            (world_in self.new) }
     {
         match self.prepare_if(alloc, policy, moment, understood) {
             Ok(Prepared::Refused(answer)) => Told::Made(answer),
+            Ok(Prepared::Repeated(answer)) => Told::Made(answer),
             Ok(Prepared::Answered(answer)) => Told::Made(answer),
             Ok(Prepared::Change(plan)) => match self.commit(plan) {
                 Some(answer) => Told::Made(answer),
@@ -283,8 +381,8 @@ impl Core {
             × IfOk understood (IsUnderstood (record { policy = policy.now }) asked) }
         ensures { (seat : ℕ) (asked : Asked)
             → IfOk understood (IsUnderstood (record { policy = policy.now }) asked)
-            → Serves (record { policy = policy.now }) self.old.held.world seat now asked result
-            self.new.held.world }
+            → Serves (record { policy = policy.now }) (world_in self.old) seat now asked result
+            (world_in self.new) }
     {
         let moment = self.moment_of(now);
         match self.catch_up(alloc, moment) {

@@ -1,5 +1,5 @@
--- Texts with a limit, and the ids of requests.
-use Rattle.std.proofs.Common.{◌≡◌, ◌≢◌, ◌≤◌, ◌==◌, ◌&&◌, ℕ, Bool, true, false, not, nat_lt, List, [], ◌∷◌, length, Option, None, refl, sym, subst, arith}
+-- Texts that are the value itself, and the ids of requests.
+use Rattle.std.proofs.Common.{◌≡◌, ◌≢◌, ◌≤◌, ℕ, true, false, not, nat_lt, List, [], ◌∷◌, length, Option, Some, None, refl, sym, subst, arith}
 use Rattle.std.specs.List.{All, list_all, position, position_or_len}
 use Rattle.std.proofs.lemmas.Bool.{and_from, and_parts}
 use Rattle.std.proofs.lemmas.Bool.Decides.{nat_tests}
@@ -9,14 +9,8 @@ use Rattle.json_fields.specs.Texts.{bad_value, IsText, IsSame}
 use Rattle.json_fields.specs.declared.whys.Why.{Why}
 use Rattle.json_fields.proofs.FormLaws.{GivesForm}
 use Rattle.text_kinds.specs.Laws.{OnlyRequestIdsAreRead}
-use Rattle.text_kinds.specs.Texts.{a_request_id, a_string, inked, is_blank, limited_why, request_id_why, IsRequestId}
+use Rattle.text_kinds.specs.Texts.{a_request_id, a_string, inked, is_blank, request_id_why, IsRequestId}
 use Rattle.text_kinds.proofs.HashLaws.{all_good, good_all, has_no_fault, no_fault, untold}
-
-pub empty_allowed : (least most : ℕ) (allowed : ℕ → Bool) → least ≡ 0 → limited_why least most allowed [] ≡ None
-empty_allowed least most allowed e =
-    let enough : nat_lt 0 least ≡ false = grind (arith, nat_tests, e) in
-    let few : nat_lt most 0 ≡ false = grind (arith, nat_tests) in
-    rw (enough, few) refl
 
 -- a text that is the value itself, by why it is refused
 pub string_there : (why : List ℕ → Option Why) (d : Data) → a_string why d ≡ None → (a : List ℕ) × IsText IsSame d a
@@ -40,23 +34,26 @@ string_form why P law (array ds) a none is = absurd is
 string_form why P law (object ms) a none is = absurd is
 
 -- the bytes of the ids of requests
-is_inked : (b : ℕ) → inked b ≡ true → (33 ≤ b) × (b ≤ 126)
+abbrev IsInk : ℕ → Type 0
+IsInk b = (33 ≤ b) × (b ≤ 126)
+
+is_inked : (b : ℕ) → inked b ≡ true → IsInk b
 is_inked b e = (grind (arith, nat_tests), grind (arith, nat_tests))
 
 inked_is : (b : ℕ) → 33 ≤ b → b ≤ 126 → inked b ≡ true
 inked_is b low high = grind (arith, nat_tests)
 
-all_inked : (text : List ℕ) → list_all inked text ≡ true → All (λ b. (33 ≤ b) × (b ≤ 126)) text
-all_inked [] e = All-nil _
+all_inked : (text : List ℕ) → list_all inked text ≡ true → All IsInk text
+all_inked [] e = All-nil IsInk
 all_inked (b ∷ bs) e =
     let both = and_parts (inked b) (list_all inked bs) e in
-    All-cons _ b bs (is_inked b both.0) (all_inked bs both.1)
+    All-cons IsInk b bs (is_inked b both.0) (all_inked bs both.1)
 
-inked_all : (text : List ℕ) → All (λ b. (33 ≤ b) × (b ≤ 126)) text → list_all inked text ≡ true
+inked_all : (text : List ℕ) → All IsInk text → list_all inked text ≡ true
 inked_all [] all = refl
 inked_all (b ∷ bs) all =
-    let one = All-head (λ c. (33 ≤ c) × (c ≤ 126)) b bs all in
-    and_from (inked b) (list_all inked bs) (inked_is b one.0 one.1) (inked_all bs (All-tail _ b bs all))
+    let one = All-head IsInk b bs all in
+    and_from (inked b) (list_all inked bs) (inked_is b one.0 one.1) (inked_all bs (All-tail IsInk b bs all))
 
 not_bare : (text : List ℕ) → nat_lt (length text) 1 ≡ false → text ≢ []
 not_bare [] few e = absurd cc

@@ -33,7 +33,7 @@ pub trait TextRule: Drop {
 
 /// A rule of texts that may be empty.
 pub trait MayBeEmpty: TextRule {
-    ghost from_nothing: { least ≡ 0 };
+    ghost from_nothing: { Self.least ≡ 0 };
 }
 
 /// Any text of at most 4,096 bytes: a summary, or an explanation.

@@ -1,6 +1,6 @@
 use Rattle.std.proofs.Common.{◌≡◌, [], sym, ap, ◌∙◌}
-use Rattle.service_core.specs.CoreState.{CoreState}
-use Rattle.service_core.specs.Step.{scene_of}
+use Rattle.service_core.specs.CoreState.{world_in}
+use Rattle.service_core.specs.Service.{service_of}
 use Rattle.record_desk.proofs.StandingLaws.{moves_nowhere}
 use Rattle.http_workers.proofs.FramingLaws.{asked_so}
 use Rattle.rdb_program.proofs.RunLaws.{history_from}
@@ -19,10 +19,10 @@ returns-clause-run g c = λ words before after are accepts.
       tables = _;
       config = accepts;
       served = asked_so _ _ _ _ _
-          (λ es asked. history_from (λ clock. g.C.Clock.tells (g.C.Clock.state clock)) _ first.policy.now first.core.now.held.world
-          (scene_of (record { policy = last.policy.now }) last.core.now.held.world) first.clock.now _ last.clock.now _ es
+          (λ es asked. history_from (λ clock. g.C.Clock.tells (g.C.Clock.state clock)) _ first.policy.now (world_in first.core.now)
+          (service_of (record { policy = last.policy.now }) (world_in last.core.now)) first.clock.now _ last.clock.now _ es
           c.new-teller.ensures.policy
-          (ap (λ (k : CoreState). k.held.world) c.new-teller.ensures.core_now ∙ c.in-Ok.ensures)
+          (ap world_in c.new-teller.ensures.core_now ∙ c.in-Ok.ensures)
           c.new-teller.ensures.clock_now (sym clock) (asked first [] (moves_nowhere _ _)))
           c.serve_connection.ensures.serves;
     }

@@ -1,20 +1,28 @@
-use Rattle.std.proofs.Common.{inl, inr, sym, ◌∙◌, subst}
+use Rattle.std.proofs.Common.{sym, ◌∙◌, subst}
 use Rattle.request_rules.specs.Settings.{Settings}
+use Rattle.service_core.specs.CoreState.{world_in}
 use Rattle.service_core.specs.Plans.{IsPrepared}
-use Rattle.service_core.proofs.PlanLaws.{answers_as, fits_as, told_at_once, told_of}
+use Rattle.service_core.specs.Step.{performed, refused, repeated}
+use Rattle.service_core.proofs.PlanLaws.{answers_as, fits_as, same_world, told_at_once, told_of}
 use Rattle.service_core.proofs.serving.Core.answer.Goals as goal
 
 pub returns-in-Ok-Refused : goal.returns-in-Ok-Refused
 returns-in-Ok-Refused c = λ asked is.
     let s : Settings = record { policy = c.args.policy.now } in
     let told = subst (IsPrepared s c.prepare_if.new.self c.args.moment asked) c.in-Ok-Refused.field-0-is (c.in-Ok-Refused.ensures.prepared asked is) in
-    told_at_once s c.args.self.now c.prepare_if.new.self c.args.moment asked c.in-Ok-Refused.answer c.prepare_if.ensures.roomier.held.world (inl told)
+    told_at_once s c.args.self.now c.prepare_if.new.self c.args.moment asked c.in-Ok-Refused.answer (same_world c.args.self.now c.prepare_if.new.self c.prepare_if.ensures.roomier) (refused told)
+
+pub returns-in-Ok-Repeated : goal.returns-in-Ok-Repeated
+returns-in-Ok-Repeated c = λ asked is.
+    let s : Settings = record { policy = c.args.policy.now } in
+    let told = subst (IsPrepared s c.prepare_if.new.self c.args.moment asked) c.in-Ok-Repeated.field-0-is (c.in-Ok-Repeated.ensures.prepared asked is) in
+    told_at_once s c.args.self.now c.prepare_if.new.self c.args.moment asked c.in-Ok-Repeated.answer (same_world c.args.self.now c.prepare_if.new.self c.prepare_if.ensures.roomier) (repeated told)
 
 pub returns-in-Ok-Answered : goal.returns-in-Ok-Answered
 returns-in-Ok-Answered c = λ asked is.
     let s : Settings = record { policy = c.args.policy.now } in
     let told = subst (IsPrepared s c.prepare_if.new.self c.args.moment asked) c.in-Ok-Answered.field-0-is (c.in-Ok-Answered.ensures.prepared asked is) in
-    told_at_once s c.args.self.now c.prepare_if.new.self c.args.moment asked c.in-Ok-Answered.answer c.prepare_if.ensures.roomier.held.world (inr told)
+    told_at_once s c.args.self.now c.prepare_if.new.self c.args.moment asked c.in-Ok-Answered.answer (same_world c.args.self.now c.prepare_if.new.self c.prepare_if.ensures.roomier) (performed told)
 
 pub commit-requires : goal.commit-requires
 commit-requires c =
@@ -31,5 +39,6 @@ unreachable-requires c =
 pub returns-in-Some : goal.returns-in-Some
 returns-in-Some c = λ asked is.
     told_of (record { policy = c.args.policy.now }) c.args.self.now c.prepare_if.new.self c.args.moment asked c.in-Ok-Change.field-0
-    c.in-Ok-Change.plan c.commit.result c.in-Some.answer c.commit.new.self.held.world c.prepare_if.ensures.roomier.held.world
+    c.in-Ok-Change.plan c.commit.result c.in-Some.answer (world_in c.commit.new.self)
+    (same_world c.args.self.now c.prepare_if.new.self c.prepare_if.ensures.roomier)
     c.in-Ok-Change.field-0-is (c.in-Ok-Change.ensures.prepared asked is) c.commit.ensures.world c.commit.ensures.answer c.in-Some.is

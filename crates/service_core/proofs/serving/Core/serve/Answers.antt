@@ -1,4 +1,5 @@
 use Rattle.std.proofs.Common.{FitsSigned, w64, to_z-of_z}
+use Rattle.service_core.specs.CoreState.{world_in}
 use Rattle.service_core.proofs.ServeLaws.{serves_after, serves_nothing}
 use Rattle.service_core.proofs.serving.Core.serve.Goals as goal
 
@@ -9,7 +10,7 @@ pub returns-in-Ok : goal.returns-in-Ok
 returns-in-Ok c = λ seat asked is.
     let fits : FitsSigned w64 c.args.now = c.ranges.now in
     let value = simp to_z-of_z at c.moment_of-moment.ensures.value in
-    serves_after (record { policy = c.args.policy.now }) c.args.self.now.held.world c.catch_up.new.self.held.world c.answer.new.self.held.world
+    serves_after (record { policy = c.args.policy.now }) (world_in c.args.self.now) (world_in c.catch_up.new.self) (world_in c.answer.new.self)
     seat c.args.now c.moment_of-moment.result asked c.answer.result value c.moment_of-moment.ensures.in_range
     c.moment_of-moment.ensures.later c.in-Ok.ensures.ok (c.answer.ensures asked is)
 
@@ -17,6 +18,6 @@ pub returns-in-Err : goal.returns-in-Err
 returns-in-Err c = λ seat asked is.
     let fits : FitsSigned w64 c.args.now = c.ranges.now in
     let value = simp to_z-of_z at c.moment_of-moment.ensures.value in
-    serves_nothing (record { policy = c.args.policy.now }) c.args.self.now.held.world c.catch_up.new.self.held.world seat c.args.now
+    serves_nothing (record { policy = c.args.policy.now }) (world_in c.args.self.now) (world_in c.catch_up.new.self) seat c.args.now
     c.moment_of-moment.result asked value c.moment_of-moment.ensures.in_range c.moment_of-moment.ensures.later
     c.in-Err.ensures.err

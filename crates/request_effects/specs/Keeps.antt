@@ -1,0 +1,73 @@
+-- What is kept of a numbered request, and the answer that is made of it again.
+use Rattle.std.specs.Prelude.{ℕ, ℤ, List, [], ◌∷◌, ◌++◌, Option, Some, None, option_map, length, slice_get}
+use Rattle.names_realms.specs.declared.pairs.Pair.{Pair}
+use Rattle.names_realms.specs.declared.states.State.TheVariants.{Active}
+use Rattle.invocations.specs.declared.invocation.Invocation.{Invocation}
+use Rattle.kept_replies.specs.declared.reply.KeptAnswer.{KeptAnswer}
+use Rattle.kept_replies.specs.declared.reply.KeptAnswer.TheVariants.{Created}
+use Rattle.kept_replies.specs.declared.reply.KeptReply.{KeptReply}
+use Rattle.call_forms.specs.declared.asked.Asked.{Asked}
+use Rattle.call_forms.specs.declared.forms.Answer.{Answer}
+use Rattle.message_forms.specs.declared.replies.Reply.{Reply}
+use Rattle.message_forms.specs.declared.replies.Reply.TheVariants as reply
+use Rattle.invocation_world.specs.World.{World}
+use Rattle.request_rules.specs.Demands.{Demand}
+use Rattle.request_rules.specs.Settings.{Settings}
+use Rattle.request_rules.specs.Numbered.{digest_of}
+use Rattle.request_effects.specs.declared.effect.Effect.{Effect}
+use Rattle.request_effects.specs.declared.effect.Effect.TheVariants as does
+use Rattle.request_effects.specs.declared.keeping.Numbered.{Numbered}
+use Rattle.request_effects.specs.Shows.{Scene, done, shown_with, token_at}
+
+-- what is kept of the answer to a request that has this effect, by the places in the world before
+-- it, an effect a row: what no later effect changes, and what the request gave
+abbrev pub answer_kept : World → Effect → Option KeptAnswer
+answer_kept w does.Nothing = None
+answer_kept w (does.Add row) = Some (Created (length w.invocations) row.deadline row.tags)
+answer_kept w (does.Update place deadline tags) = None
+answer_kept w (does.End place) = None
+answer_kept w (does.Include plan) = None
+
+-- the number of a request, with its digest
+abbrev pub numbered_of : Asked → Demand → Option Numbered
+numbered_of asked d =
+    option_map (λ number. record { number = number; digest = digest_of asked }) d.number
+
+-- what is kept of a numbered request of a caller of this name, if anything is
+abbrev pub kept_of : World → List ℕ → Option Numbered → Effect → Option KeptReply
+kept_of w name None effect = None
+kept_of w name (Some numbered) effect =
+    option_map (λ answer. record {
+      caller = name;
+      number = numbered.number;
+      digest = numbered.digest;
+      answer = answer;
+    }) (answer_kept w effect)
+
+-- the kept replies, with this one more
+abbrev pub with_kept : List KeptReply → Option KeptReply → List KeptReply
+with_kept kept None = kept
+with_kept kept (Some reply) = kept ++ reply ∷ []
+
+-- an invocation as it was made, with this deadline and these tags
+abbrev pub as_made : ℤ → List Pair → Invocation → Invocation
+as_made deadline tags row = record row {
+  deadline = deadline;
+  started = None;
+  finished = None;
+  state = Active;
+  tags = tags;
+}
+
+abbrev pub made_reply : ℤ → List Pair → Option Invocation → Reply
+made_reply deadline tags None = reply.Empty
+made_reply deadline tags (Some row) =
+    reply.Invocation (shown_with (as_made deadline tags row) [])
+
+-- the answer that is made again: a new invocation includes nothing
+abbrev pub made_answer : Settings → ℤ → List Pair → Option Invocation → Answer
+made_answer s deadline tags found = done (token_at s found) (made_reply deadline tags found)
+
+abbrev pub kept_answer : Scene → KeptAnswer → Answer
+kept_answer s (Created place deadline tags) =
+    made_answer s.settings deadline tags (slice_get s.world.invocations place)

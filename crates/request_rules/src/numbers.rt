@@ -1,0 +1,98 @@
+//! The numbers of requests, and whether a request is a repeat.
+ghost use Rattle.std.specs.Prelude.{◌≡◌, ◌≢◌, IfOk, None};
+ghost use Rattle.call_forms.specs.declared.asked.Asked.{Asked};
+ghost use Rattle.request_rules.specs.Demands.{demand_of};
+ghost use Rattle.request_rules.specs.Numbered.{IsNumbered, digest_of};
+ghost use Rattle.request_rules.specs.Understood.{IsCallOf, IsDigested};
+
+use crate::demand::{Demand, demand_of};
+use crate::reading::Call;
+use call_forms::Asked;
+use kept_replies::KeptReplies;
+use message_forms::Request;
+use sha2::{Digest, Sha256};
+use std::alloc::{AllocError, Global};
+
+/// What the number of a request comes to.
+#[derive(Clone, Copy, Debug, PartialEq, Eq)]
+pub enum NumberCheck {
+    /// It has none, or nothing is kept for it.
+    New,
+    /// The same request was accepted before under it. What is kept of it stands at this place, in
+    /// order of arrival and counted from 0.
+    Repeat(usize),
+    /// Another request was accepted under it.
+    Reused,
+}
+
+/// The digest by which a repeat of a request is known: SHA-256 of its service, method and body,
+/// with a line feed between.
+fn digest_of(asked: &Asked) -> [u8; 32]
+    ensures { result ≡ digest_of asked.now }
+{
+    let mut hasher = Sha256::new();
+    hasher.update(asked.service.as_slice());
+    hasher.update(b"\n");
+    hasher.update(asked.method.as_slice());
+    hasher.update(b"\n");
+    hasher.update(asked.body.as_slice());
+    hasher.finalize()
+}
+
+/// The digest of a request of which this is demanded, where it has a number.
+fn digest_if(asked: &Asked, demand: &Demand) -> Option<[u8; 32]>
+    ensures { IsDigested asked.now demand.now result }
+{
+    match demand.number {
+        Some(_) => Some(digest_of(asked)),
+        None => None,
+    }
+}
+
+/// The digest of a request, where it has a number.
+pub(crate) fn digest_for(asked: &Asked, request: &Request) -> Option<[u8; 32]>
+    ensures { IsDigested asked.now (demand_of request.now) result }
+{
+    digest_if(asked, &demand_of(request))
+}
+
+/// What the number comes to of a request with this digest.
+fn check_digest(
+    alloc: Global,
+    kept: &KeptReplies,
+    name: &[u8],
+    demand: &Demand,
+    digest: &Option<[u8; 32]>,
+) -> Result<NumberCheck, AllocError>
+    ensures { (asked : Asked) → IsDigested asked demand.now digest.now
+        → IfOk result (IsNumbered kept.now.kept name.now asked demand.now) }
+{
+    let Some(digest) = digest else {
+        return Ok(NumberCheck::New);
+    };
+    let Some(number) = demand.number else {
+        return Ok(NumberCheck::New);
+    };
+    let Some(place) = kept.find(alloc, name, number.as_str().as_bytes())? else {
+        return Ok(NumberCheck::New);
+    };
+    if kept.reply(place).digest == *digest {
+        Ok(NumberCheck::Repeat(place))
+    } else {
+        Ok(NumberCheck::Reused)
+    }
+}
+
+/// What the number of a call by a caller of this name comes to. `Err` where there is no memory to
+/// look it up.
+pub fn check_number(
+    alloc: Global,
+    kept: &KeptReplies,
+    name: &[u8],
+    call: &Call,
+) -> Result<NumberCheck, AllocError>
+    ensures { (asked : Asked) → IsDigested asked (demand_of call.now.request) call.now.digest
+        → IfOk result (IsNumbered kept.now.kept name.now asked (demand_of call.now.request)) }
+{
+    check_digest(alloc, kept, name, &demand_of(&call.request), &call.digest)
+}
