@@ -9,7 +9,7 @@ ghost use Rattle.field_kinds.specs.Defaults.{HoldsOr, IsReadAs, PutsUnless};
 use json_fields::{Name, ReadFault, Written, optional, write_required};
 use serde_json::{Map, Value};
 use std::alloc::{AllocError, Global};
-use text_kinds::{LimitedText, TextRule};
+use text_kinds::{LimitedText, MayBeEmpty};
 
 /// A kind with a default: `unset`, which an unset field stands for.
 pub trait Defaulted: Written {
@@ -24,17 +24,14 @@ pub trait Defaulted: Written {
         ensures { IsTrue result ↔ (self.now ≡ unset) };
 }
 
-/// The default of a text is the empty one.
-impl<R: TextRule> Defaulted for LimitedText<R> {
+/// The default of a text that may be empty is the empty one.
+impl<R: MayBeEmpty> Defaulted for LimitedText<R> {
     ghost use Rattle.std.specs.Prelude.{[]};
 
     ghost unset = { [] };
 
     fn default_value(alloc: Global) -> Result<LimitedText<R>, AllocError> {
-        match LimitedText::parse(alloc, "") {
-            Ok(text) => Ok(text),
-            Err(_) => Err(AllocError),
-        }
+        Ok(LimitedText::empty(alloc))
     }
 
     #[tactic(auto, using(crate::proofs::DefaultLaws::list_bare))]

@@ -6,13 +6,12 @@ use Rattle.std.proofs.lemmas.Bool.{and_from, and_parts, false≢true}
 use Rattle.std.proofs.lemmas.Bool.Decides.{nat_tests}
 use Rattle.name_parts.specs.Parts.{literal_bad_place}
 use Rattle.name_parts.proofs.CutLemmas.{literal_bad_place-None, literal_bad_place-literal}
-use Rattle.json_fields.specs.declared.whys.Why.{Why}
 use Rattle.json_fields.specs.declared.whys.Why.TheVariants.{Empty, TooLong, BadByte}
 use Rattle.text_kinds.specs.Hashes.{IsHash, is_lower_hex, digit_place, end_place, hash_why}
 use Rattle.text_kinds.specs.Laws.{OnlyHashesAreRead}
 
 -- none of three faults, and none of three places
-no_fault : (b c : Bool) (n : ℕ) (o : Option ℕ) → (if b then Some Empty else (if c then Some (TooLong n) else option_map BadByte o)) ≡ None
+pub no_fault : (b c : Bool) (n : ℕ) (o : Option ℕ) → (if b then Some Empty else (if c then Some (TooLong n) else option_map BadByte o)) ≡ None
     → (b ≡ false) × (c ≡ false) × (o ≡ None)
 no_fault true c n o e = absurd cc
 no_fault false true n o e = absurd cc
@@ -29,33 +28,30 @@ unmoved : (o : Option ℕ) → option_map (λ n. n + 7) o ≡ None → o ≡ Non
 unmoved None e = refl
 unmoved (Some n) e = absurd cc
 
-untold : (t : Bool) (n : ℕ) → cond t (Some n) None ≡ None → t ≡ false
+pub untold : (t : Bool) (n : ℕ) → cond t (Some n) None ≡ None → t ≡ false
 untold true n e = absurd cc
 untold false n e = refl
 
--- each byte is a digit where no place is told
-abbrev no_digit : ℕ → Bool
-no_digit b = not (is_lower_hex b)
+-- each byte is good where no place of another is told
+good_first : (t : Bool) (n m : ℕ) → nat_lt (cond (not (not t)) (1 + n) 0) (suc m) ≡ false → (t ≡ true) × (nat_lt n m ≡ false)
+good_first true n m e = (refl, grind (arith, nat_tests))
+good_first false n m e = absurd (grind (arith, nat_tests))
 
-digit_first : (t : Bool) (n m : ℕ) → nat_lt (cond (not (not t)) (1 + n) 0) (suc m) ≡ false → (t ≡ true) × (nat_lt n m ≡ false)
-digit_first true n m e = (refl, grind (arith, nat_tests))
-digit_first false n m e = absurd (grind (arith, nat_tests))
+pub all_good : (good : ℕ → Bool) (bs : List ℕ) → nat_lt (position_or_len (λ b. not (good b)) bs) (length bs) ≡ false → list_all good bs ≡ true
+all_good good [] e = refl
+all_good good (b ∷ bs) e =
+    let both = good_first (good b) (position_or_len (λ b. not (good b)) bs) (length bs) e in
+    and_from (good b) (list_all good bs) both.0 (all_good good bs both.1)
 
-all_digits : (ds : List ℕ) → nat_lt (position_or_len no_digit ds) (length ds) ≡ false → list_all is_lower_hex ds ≡ true
-all_digits [] e = refl
-all_digits (b ∷ ds) e =
-    let both = digit_first (is_lower_hex b) (position_or_len no_digit ds) (length ds) e in
-    and_from (is_lower_hex b) (list_all is_lower_hex ds) both.0 (all_digits ds both.1)
+first_good : (t : Bool) (n m : ℕ) → t ≡ true → nat_lt n m ≡ false → nat_lt (cond (not (not t)) (1 + n) 0) (suc m) ≡ false
+first_good true n m e f = grind (arith, nat_tests)
+first_good false n m e f = absurd (false≢true e)
 
-first_digit : (t : Bool) (n m : ℕ) → t ≡ true → nat_lt n m ≡ false → nat_lt (cond (not (not t)) (1 + n) 0) (suc m) ≡ false
-first_digit true n m e f = grind (arith, nat_tests)
-first_digit false n m e f = absurd (false≢true e)
-
-digits_all : (ds : List ℕ) → list_all is_lower_hex ds ≡ true → nat_lt (position_or_len no_digit ds) (length ds) ≡ false
-digits_all [] e = refl
-digits_all (b ∷ ds) e =
-    let both = and_parts (is_lower_hex b) (list_all is_lower_hex ds) e in
-    first_digit (is_lower_hex b) (position_or_len no_digit ds) (length ds) both.0 (digits_all ds both.1)
+pub good_all : (good : ℕ → Bool) (bs : List ℕ) → list_all good bs ≡ true → nat_lt (position_or_len (λ b. not (good b)) bs) (length bs) ≡ false
+good_all good [] e = refl
+good_all good (b ∷ bs) e =
+    let both = and_parts (good b) (list_all good bs) e in
+    first_good (good b) (position_or_len (λ b. not (good b)) bs) (length bs) both.0 (good_all good bs both.1)
 
 -- a text behind the front
 behind_front : (n : ℕ) → suc (suc (suc (suc (suc (suc (suc n)))))) ≡ 7 + n
@@ -73,11 +69,11 @@ is_hash text e =
     record {
       digits = drop 7 text;
       whole = whole;
-      hexadecimal = all_digits (drop 7 text) (untold _ _ (unmoved (position no_digit (drop 7 text)) places.1));
+      hexadecimal = all_good is_lower_hex (drop 7 text) (untold _ _ (unmoved (position (λ b. not (is_lower_hex b)) (drop 7 text)) places.1));
       count = grind (arith, nat_tests, parts, long, faults.1);
     }
 
-has_no_fault : (b c : Bool) (n : ℕ) (o : Option ℕ) → b ≡ false → c ≡ false → o ≡ None
+pub has_no_fault : (b c : Bool) (n : ℕ) (o : Option ℕ) → b ≡ false → c ≡ false → o ≡ None
     → (if b then Some Empty else (if c then Some (TooLong n) else option_map BadByte o)) ≡ None
 has_no_fault b c n o eb ec eo = rw (eb, ec, eo) refl
 
@@ -85,7 +81,7 @@ right : (digits : List ℕ) → list_all is_lower_hex digits ≡ true → length
 right digits are count =
     let text : List ℕ = codes "sha256:" ++ digits in
     let long : length text ≡ 7 + length digits = behind_front (length digits) in
-    let place : nat_lt (position_or_len no_digit digits) (length digits) ≡ false = digits_all digits are in
+    let place : nat_lt (position_or_len (λ b. not (is_lower_hex b)) digits) (length digits) ≡ false = good_all is_lower_hex digits are in
     has_no_fault (length text == 0) (nat_lt 71 (length text)) (length text) _
     (grind (arith, nat_tests, long, count)) (grind (arith, nat_tests, long, count))
     (rw (literal_bad_place-literal (codes "sha256:"), place)

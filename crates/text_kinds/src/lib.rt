@@ -14,4 +14,4 @@ mod texts;
 pub use contents::Contents;
 pub use hashes::HashText;
 pub use statuses::StatusName;
-pub use texts::{ContentType, Html, LimitedText, Message, RequestId, TextRule};
+pub use texts::{ContentType, Html, LimitedText, MayBeEmpty, Message, RequestId, TextRule};

@@ -1,20 +1,26 @@
 //! Texts with a limit.
-ghost use Rattle.std.specs.Prelude.{◌≡◌, ℕ, Bool, None, Some, not, option_map, IfOk, IfErr};
+ghost use Rattle.std.specs.Prelude.{◌≡◌, ℕ, Bool, [], None, Some, not, option_map, IfOk, IfErr, refl};
 ghost use Rattle.std.specs.List.{position};
 ghost use Rattle.json_fields.specs.Faults.{Says};
 ghost use Rattle.json_fields.specs.Texts.{bad_value};
-ghost use Rattle.text_kinds.specs.Texts.{limited_why, any_byte, printed, inked, most_of_html, most_of_message, most_of_content_type, most_of_request_id};
+ghost use Rattle.text_kinds.specs.Texts.{limited_why, any_byte, printed, inked, most_of_html, most_of_message, most_of_content_type, least_of_request_id, most_of_request_id};
 
 use json_fields::{FaultKind, Form, ReadFault, Why, Written, is_empty_text};
 use serde_json::Value;
 use std::alloc::{AllocError, Global};
 use std::marker::{Model, PhantomData};
 
-/// What a text of a kind may have: at most so many bytes, each of which is allowed.
+/// What a text of a kind may have: at least and at most so many bytes, each of which is allowed.
 pub trait TextRule: Drop {
+    ghost least: { ℕ };
+
     ghost limit: { ℕ };
 
     ghost allowed: { ℕ → Bool };
+
+    /// How many bytes a text has at least: one with fewer counts as empty.
+    fn least() -> usize
+        ensures { result ≡ least };
 
     /// How many bytes a text may have.
     fn most() -> usize
@@ -25,14 +31,25 @@ pub trait TextRule: Drop {
         ensures { result ≡ allowed byte };
 }
 
+/// A rule of texts that may be empty.
+pub trait MayBeEmpty: TextRule {
+    ghost from_nothing: { Self.least ≡ 0 };
+}
+
 /// Any text of at most 4,096 bytes: a summary, or an explanation.
 #[derive(Debug, Drop)]
 pub struct Html;
 
 impl TextRule for Html {
+    ghost least = { 0 };
+
     ghost limit = { most_of_html };
 
     ghost allowed = { any_byte };
+
+    fn least() -> usize {
+        0
+    }
 
     fn most() -> usize {
         4096
@@ -43,14 +60,24 @@ impl TextRule for Html {
     }
 }
 
+impl MayBeEmpty for Html {
+    ghost from_nothing = { refl };
+}
+
 /// Any text of at most 1,024 bytes: an error's message.
 #[derive(Debug, Drop)]
 pub struct Message;
 
 impl TextRule for Message {
+    ghost least = { 0 };
+
     ghost limit = { most_of_message };
 
     ghost allowed = { any_byte };
+
+    fn least() -> usize {
+        0
+    }
 
     fn most() -> usize {
         1024
@@ -61,14 +88,24 @@ impl TextRule for Message {
     }
 }
 
+impl MayBeEmpty for Message {
+    ghost from_nothing = { refl };
+}
+
 /// At most 128 bytes of 0x20 to 0x7E: the type of a content.
 #[derive(Debug, Drop)]
 pub struct ContentType;
 
 impl TextRule for ContentType {
+    ghost least = { 0 };
+
     ghost limit = { most_of_content_type };
 
     ghost allowed = { printed };
+
+    fn least() -> usize {
+        0
+    }
 
     fn most() -> usize {
         128
@@ -79,15 +116,24 @@ impl TextRule for ContentType {
     }
 }
 
-/// At most 36 bytes of 0x21 to 0x7E: the id of a request, of which the empty one says that there is
-/// none.
+impl MayBeEmpty for ContentType {
+    ghost from_nothing = { refl };
+}
+
+/// 1 to 36 bytes of 0x21 to 0x7E: the id of a request.
 #[derive(Debug, Drop)]
 pub struct RequestId;
 
 impl TextRule for RequestId {
+    ghost least = { least_of_request_id };
+
     ghost limit = { most_of_request_id };
 
     ghost allowed = { inked };
+
+    fn least() -> usize {
+        1
+    }
 
     fn most() -> usize {
         36
@@ -98,7 +144,7 @@ impl TextRule for RequestId {
     }
 }
 
-/// A text that a rule allows. It may be empty.
+/// A text that a rule allows.
 #[derive(Debug, Drop)]
 pub struct LimitedText<R: TextRule> {
     text: String,
@@ -113,7 +159,7 @@ impl<R: TextRule> Model for LimitedText<R> {
 
     ghost view = { λ t. string_bytes t.text };
 
-    ghost invariant = { λ t. limited_why R.limit R.allowed (string_bytes t.text) ≡ None };
+    ghost invariant = { λ t. limited_why R.least R.limit R.allowed (string_bytes t.text) ≡ None };
 }
 
 /// The first place of a byte that isn't allowed.
@@ -125,8 +171,11 @@ fn first_refused<R: TextRule>(text: &[u8]) -> Option<usize>
 
 /// Why a text is refused.
 fn why_refused<R: TextRule>(text: &[u8]) -> Option<Why>
-    ensures { result ≡ limited_why R.limit R.allowed text.now }
+    ensures { result ≡ limited_why R.least R.limit R.allowed text.now }
 {
+    if text.len() < R::least() {
+        return Some(Why::Empty);
+    }
     if text.len() > R::most() {
         return Some(Why::TooLong(text.len()));
     }
@@ -137,13 +186,13 @@ fn why_refused<R: TextRule>(text: &[u8]) -> Option<Why>
 }
 
 impl<R: TextRule> LimitedText<R> {
-    /// The text, where the rule allows it. `TooLong` where it has too many bytes, else `BadByte` at
-    /// the first that isn't allowed.
+    /// The text, where the rule allows it. `Empty` where it has too few bytes, `TooLong` where it
+    /// has too many, else `BadByte` at the first that isn't allowed.
     pub fn parse(alloc: Global, text: &str) -> Result<LimitedText<R>, ReadFault>
         ensures ok { IfOk result (λ t. (t ≡ text.now)
-            × (limited_why R.limit R.allowed text.now ≡ None)) }
+            × (limited_why R.least R.limit R.allowed text.now ≡ None)) }
         ensures err { IfErr result (λ e.
-            Says e (bad_value (limited_why R.limit R.allowed text.now))) }
+            Says e (bad_value (limited_why R.least R.limit R.allowed text.now))) }
     {
         if let Some(why) = why_refused::<R>(text.as_bytes()) {
             return Err(ReadFault::here(alloc, FaultKind::BadValue(why)));
@@ -158,9 +207,21 @@ impl<R: TextRule> LimitedText<R> {
     /// The text.
     pub fn as_str(&self) -> &str
         ensures text { result.now ≡ self.now }
-        ensures allowed { limited_why R.limit R.allowed self.now ≡ None }
+        ensures allowed { limited_why R.least R.limit R.allowed self.now ≡ None }
     {
         self.text.as_str()
+    }
+}
+
+impl<R: MayBeEmpty> LimitedText<R> {
+    /// The empty text.
+    pub fn empty(alloc: Global) -> LimitedText<R>
+        ensures { result ≡ [] }
+    {
+        LimitedText {
+            text: String::new(alloc),
+            rule: PhantomData,
+        }
     }
 }
 
@@ -169,7 +230,7 @@ impl<R: TextRule> Form for LimitedText<R> {
     ghost use Rattle.json_fields.specs.Texts.{IsText, IsSame};
     ghost use Rattle.text_kinds.specs.Texts.{a_string, limited_why};
 
-    ghost fault = { a_string (limited_why R.limit R.allowed) };
+    ghost fault = { a_string (limited_why R.least R.limit R.allowed) };
 
     ghost means = { IsText IsSame };
 
