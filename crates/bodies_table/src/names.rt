@@ -1,7 +1,7 @@
 //! Words for ids and names, realms, moments, spans and tags, of `json_fields`.
 use crate::faults::Fault;
 use crate::telling::{again, read};
-use json_fields::{InvocationName, Tag, UnbuiltList, UnbuiltText};
+use json_fields::{InvocationName, Tag, UnbuiltList};
 use lists::Listed;
 use names_realms::{
     ArtifactId, ArtifactName, InvocationId, Moment, Parent, Realm, ResultId, ResultName, Span,
@@ -33,7 +33,6 @@ fn told_of_rest(alloc: Global, word: &str, body: &[u8]) -> Result<Option<Vec<u8>
         "span-lists" => again::<Listed<Listed<Span>>>(alloc, body)?,
         "tag" => again::<Tag>(alloc, body)?,
         "tags" => again::<Listed<Tag>>(alloc, body)?,
-        "unbuilt-text" => read::<UnbuiltText>(alloc, body)?,
         "unbuilt-list" => read::<UnbuiltList>(alloc, body)?,
         _ => return Ok(None),
     };

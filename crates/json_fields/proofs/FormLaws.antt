@@ -1,6 +1,6 @@
 -- What a value without a fault means is of the grammar of its kind, and so is what a field or a list
 -- of that kind holds.
-use Rattle.std.proofs.Common.{◌≡◌, ℕ, ℤ, ◌+◌, ◌==◌, Bool, true, false, nat_lt, List, [], ◌∷◌, length, take, drop, Option, Some, None, refl, sym, subst}
+use Rattle.std.proofs.Common.{◌≡◌, ℕ, ℤ, ◌+◌, ◌==◌, Bool, nat_lt, List, [], ◌∷◌, length, take, drop, Option, Some, None, refl, sym, subst}
 use Rattle.std.specs.List.{All}
 use Rattle.std.specs.Option.{ForSome, option_or}
 use Rattle.std.proofs.lemmas.List.Elements.{All-cons, All-nil}
@@ -13,7 +13,6 @@ use Rattle.name_parts.specs.declared.parts.PartForm.TheVariants.{Letters, PairKe
 use Rattle.name_parts.specs.Parts.{IsPart, bad_place, limited_fault, most_bytes, part_fault, unempty_fault}
 use Rattle.name_parts.proofs.PartLemmas.{part_fault-None}
 use Rattle.names_realms.specs.Pairs.{IsPairValue, pair_value_fault, utf8_place}
-use Rattle.names_realms.specs.declared.pairs.Pair.{Pair}
 use Rattle.names_realms.specs.Realms.{IsRealm, bad_subrealm_place, colon_fault, project_len, realm_fault}
 use Rattle.names_realms.proofs.RealmLemmas.{realm_fault-None}
 use Rattle.moments_spans.specs.Moments.{IsInYears}
@@ -23,7 +22,7 @@ use Rattle.json_fields.specs.declared.faults.FieldFault.{FieldFault}
 use Rattle.json_fields.specs.declared.names.Step.TheVariants.{Member, Place}
 use Rattle.json_fields.specs.Names.{NameForm}
 use Rattle.json_fields.specs.Faults.{moved}
-use Rattle.json_fields.specs.Fields.{fault_from, fault_optional, fault_required, filled_at, list_of, or_empty, optional, required, set_at, text_at, Holds, HoldsMaybe, Pairs}
+use Rattle.json_fields.specs.Fields.{fault_from, fault_optional, fault_required, filled_at, list_of, optional, required, set_at, text_at, Holds, HoldsMaybe, Pairs}
 use Rattle.json_fields.specs.Kinds.{a_list, HoldsList, IsEach}
 use Rattle.json_fields.specs.Texts.{a_text, moment_fault, refused, IsSame, IsText}
 use Rattle.json_fields.specs.Tags.{a_tag, key_fault, key_name, value_name, IsPairOfGrammar, IsTag}

@@ -64,15 +64,7 @@ abbrev pub HoldsList : {A : Type 0} → (Data → A → Type 0) → Option Data 
 HoldsList means None xs = xs ≡ []
 HoldsList means (Some d) xs = IsEach means d xs
 
--- A text, or a list, that isn't built yet: it may be empty.
-abbrev pub an_unbuilt_text : Data → Option FieldFault
-an_unbuilt_text null = Some (here WrongKind)
-an_unbuilt_text (boolean b) = Some (here WrongKind)
-an_unbuilt_text (number n) = Some (here WrongKind)
-an_unbuilt_text (string s) = if length s == 0 then None else Some (here (BadValue NotBuilt))
-an_unbuilt_text (array ds) = Some (here WrongKind)
-an_unbuilt_text (object ms) = Some (here WrongKind)
-
+-- A list that isn't built yet: it may be empty.
 abbrev pub an_unbuilt_list : Data → Option FieldFault
 an_unbuilt_list null = Some (here WrongKind)
 an_unbuilt_list (boolean b) = Some (here WrongKind)

@@ -1,4 +1,4 @@
-//! Objects, and fields that aren't built yet.
+//! Objects, and lists that aren't built yet.
 ghost use Rattle.std.specs.Prelude.{◌≡◌, None, IfOk, IfErr};
 ghost use Rattle.serde_json.specs.View.{view};
 ghost use Rattle.json_fields.specs.Faults.{Says};
@@ -7,7 +7,6 @@ ghost use Rattle.json_fields.specs.Kinds.{an_object};
 use crate::elements::is_empty_list;
 use crate::faults::{FaultKind, ReadFault};
 use crate::fields::Form;
-use crate::texts::is_empty_text;
 use crate::whys::Why;
 use serde_json::Value;
 use std::alloc::Global;
@@ -20,36 +19,6 @@ pub fn object(alloc: Global, value: &Value) -> Result<(), ReadFault>
     match value {
         Value::Object(_) => Ok(()),
         _ => Err(ReadFault::here(alloc, FaultKind::WrongKind)),
-    }
-}
-
-/// A text that isn't built yet, and so has to be empty where it is set: else `NotBuilt`.
-#[derive(Debug, Drop)]
-pub struct UnbuiltText;
-
-impl Form for UnbuiltText {
-    ghost use Rattle.std.specs.Prelude.{⊤};
-    ghost use Rattle.json_fields.specs.Kinds.{an_unbuilt_text, empty_text};
-
-    ghost fault = { an_unbuilt_text };
-
-    ghost means = { λ _ _. ⊤ };
-
-    ghost empty = { empty_text };
-
-    fn is_empty(value: &Value) -> bool {
-        is_empty_text(value)
-    }
-
-    fn read(alloc: Global, value: &Value) -> Result<UnbuiltText, ReadFault> {
-        match value {
-            Value::String(text) => if text.is_empty() {
-                Ok(UnbuiltText)
-            } else {
-                Err(ReadFault::here(alloc, FaultKind::BadValue(Why::NotBuilt)))
-            },
-            _ => Err(ReadFault::here(alloc, FaultKind::WrongKind)),
-        }
     }
 }
 

@@ -20,7 +20,7 @@ mod writing;
 pub use body::{BodyFault, read_body, read_json};
 pub use faults::{FaultKind, FieldFault, ReadFault, path_text};
 pub use fields::{Form, filled_at, optional, optional_list, or_empty_text, required, set_at};
-pub use kinds::{UnbuiltList, UnbuiltText, object};
+pub use kinds::{UnbuiltList, object};
 pub use moves::{ids_from, pairs_from};
 pub use names::{Name, Step};
 pub use tags::{Tag, TagKey, TagValue, tag_value};

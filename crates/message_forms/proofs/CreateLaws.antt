@@ -9,14 +9,18 @@ use Rattle.names_realms.specs.Realms.{realm_fault, IsRealm}
 use Rattle.names_realms.specs.declared.pairs.Pair.{Pair}
 use Rattle.serde_json.specs.Data.{Data, string, object, Members, no_members, put}
 use Rattle.json_fields.specs.Fields.{member, optional, required, filled_at, set_at}
-use Rattle.json_fields.specs.Kinds.{an_object, a_list, an_unbuilt_text, empty_text, never_empty}
+use Rattle.json_fields.specs.Kinds.{an_object, a_list, empty_text, never_empty}
 use Rattle.json_fields.specs.Texts.{a_text, IsText, IsSame, moment_fault}
 use Rattle.json_fields.specs.Tags.{a_tag, IsTag, tag_data, IsPairOfGrammar}
 use Rattle.json_fields.specs.Writing.{IsWritten, AllWritten, put_required, put_optional, put_list}
 use Rattle.json_fields.proofs.FormLaws.{GivesForm, moment_form, optional_form, optional_list_form, part_form, realm_form, required_form, tag_form}
 use Rattle.json_fields.proofs.MeaningLaws.{first_left, first_right, holds_one, maybe_one, list_one, same_one, moment_one, tag_one, required_there, optional_there, list_there, same_there, moment_there, tag_there}
 use Rattle.json_fields.proofs.PlainLaws.{IsPlain, plain-put, plain_text, no_members_plain, plain_object, plain-put_optional, plain-put_list, plain_tag}
-use Rattle.json_fields.proofs.WriteLaws.{member_put, member_other, member_beside_optional, member_beside_list, filled_found, required_found, optional_lost, optional_written, list_written, kept_none, kept_set}
+use Rattle.json_fields.proofs.WriteLaws.{member_put, member_other, member_beside_optional, member_beside_list, filled_found, required_found, optional_written, list_written, kept_none, kept_set}
+use Rattle.text_kinds.specs.Texts.{a_request_id, is_blank, request_id_why, IsRequestId}
+use Rattle.text_kinds.proofs.TextLaws.{not_blank, read_form, string_there}
+use Rattle.field_kinds.specs.Filled.{optional_filled}
+use Rattle.field_kinds.proofs.FilledLaws.{filled_form, filled_kept, filled_there, filled_written}
 use Rattle.message_forms.specs.Names as name
 use Rattle.message_forms.specs.Create.{a_new_invocation, IsNewInvocation, new_invocation_data, IsNewOfForm, a_create_request, IsCreate, create_members, create_data, IsCreateOfForm, create_form}
 use Rattle.message_forms.specs.declared.create.NewInvocation.{NewInvocation}
@@ -66,25 +70,38 @@ module _ (realm : List ℕ) (deadline : Option ℤ) (tags : List Pair)
         emptiness = refl;
       }
 
-pub create_written : (id : List ℕ) (new : NewInvocation) (d : Data)
+-- the id of the request, which isn't empty
+numbered : (request_id : Option (List ℕ)) → IfSome request_id (λ text. IsWritten a_request_id (IsText IsSame) empty_text is_blank text (string text))
+    → IfSome request_id (λ text. IsWritten a_request_id (IsText IsSame) empty_text is_blank text (string text) × (is_blank text ≡ false))
+numbered None w = tt
+numbered (Some text) w = (w, not_blank text (read_form (string text) text w.no_fault refl).filled)
+
+pub create_written : (request_id : Option (List ℕ)) (id : List ℕ) (new : NewInvocation) (d : Data)
+    → IfSome request_id (λ text. IsWritten a_request_id (IsText IsSame) empty_text is_blank text (string text))
     → IsWritten (a_text invocation_id_fault) (IsText IsSame) empty_text (λ _. false) id (string id)
     → IsWritten a_new_invocation IsNewInvocation never_empty (λ _. false) new d
-    → (a_create_request (create_members id d) ≡ None) × IsCreate (create_members id d) (record { id = id; invocation = new })
+    → (a_create_request (create_members request_id id d) ≡ None)
+    × IsCreate (create_members request_id id d) (record { request_id = request_id; id = id; invocation = new })
 unfolding a_create_request
-create_written id new d w v =
-    let behind : Members = put_required name.invocation_id string id no_members in
+create_written request_id id new d n w v =
+    let last : Members = put_optional name.request_id string request_id no_members in
+    let behind : Members = put_required name.invocation_id string id last in
     let whole : Members = put name.invocation.camel d behind in
     let id_there : member name.invocation_id (object whole) ≡ Some (string id) =
-    member_other name.invocation_id name.invocation d behind refl refl ∙ member_put name.invocation_id (string id) no_members in
+    member_other name.invocation_id name.invocation d behind refl refl ∙ member_put name.invocation_id (string id) last in
     let new_there : member name.invocation (object whole) ≡ Some d = member_put name.invocation d behind in
-    let no_id : member name.request_id (object whole) ≡ None =
-    member_other name.request_id name.invocation d behind refl refl ∙ member_other name.request_id name.invocation_id (string id) no_members refl refl in (
+    let number_there : filled_at name.request_id empty_text (object whole) ≡ filled_at name.request_id empty_text (object last) =
+    filled_kept name.request_id empty_text (object whole) (object last)
+    (member_other name.request_id name.invocation d behind refl refl ∙ member_other name.request_id name.invocation_id (string id) last refl refl) in
+    let number = filled_written a_request_id (IsText IsSame) empty_text is_blank string name.request_id request_id no_members refl (numbered request_id n) in (
       rw (
-        optional_lost name.request_id (object whole) an_unbuilt_text no_id,
+        number_there,
+        number.0,
         required_found name.invocation_id (object whole) empty_text (a_text invocation_id_fault) (string id) id_there refl w.emptiness w.no_fault,
         required_found name.invocation (object whole) never_empty a_new_invocation d new_there v.is_set refl v.no_fault,
       ) refl,
       record {
+        request_id_is = rw number_there number.1;
         id_is = rw (filled_found name.invocation_id (object whole) empty_text (string id) id_there refl w.emptiness) w.meant;
         new_is = rw (filled_found name.invocation (object whole) never_empty d new_there v.is_set refl) v.meant;
       },
@@ -99,9 +116,11 @@ new_one d a b h k =
 
 create_one : (d : Data) (a b : CreateInvocation) → IsCreate d a → IsCreate d b → a ≡ b
 create_one d a b h k =
+    let numbers : a.request_id ≡ b.request_id =
+    maybe_one (IsText IsSame) same_one (filled_at name.request_id empty_text d) a.request_id b.request_id h.request_id_is k.request_id_is in
     let ids : a.id ≡ b.id = holds_one (IsText IsSame) same_one (filled_at name.invocation_id empty_text d) a.id b.id h.id_is k.id_is in
     let news : a.invocation ≡ b.invocation = holds_one IsNewInvocation new_one (filled_at name.invocation never_empty d) a.invocation b.invocation h.new_is k.new_is in
-    λ x. record { id = ids x; invocation = news x }
+    λ x. record { request_id = numbers x; id = ids x; invocation = news x }
 
 new_there : (d : Data) → a_new_invocation d ≡ None → (new : NewInvocation) × IsNewInvocation d new
 unfolding a_new_invocation
@@ -118,11 +137,14 @@ create_there : (d : Data) → a_create_request d ≡ None → (q : CreateInvocat
 unfolding a_create_request
 create_there d h =
     let one = first_right (an_object d) _ h in
-    let two = first_right (optional name.request_id an_unbuilt_text d) _ one in
+    let two = first_right (optional_filled name.request_id empty_text a_request_id d) _ one in
     let three = first_right (required name.invocation_id empty_text (a_text invocation_id_fault) d) _ two in
+    let number = filled_there name.request_id empty_text a_request_id (IsText IsSame) (string_there request_id_why) d (first_left _ _ one) in
     let id = required_there name.invocation_id empty_text (a_text invocation_id_fault) (IsText IsSame) (same_there invocation_id_fault) d (first_left _ _ two) in
-    let new = required_there name.invocation never_empty a_new_invocation IsNewInvocation new_there d (first_left _ _ three) in
-    (record { id = id.0; invocation = new.0 }, record { id_is = id.1; new_is = new.1 })
+    let new = required_there name.invocation never_empty a_new_invocation IsNewInvocation new_there d (first_left _ _ three) in (
+      record { request_id = number.0; id = id.0; invocation = new.0 },
+      record { request_id_is = number.1; id_is = id.1; new_is = new.1 },
+    )
 
 id_form : GivesForm (a_text invocation_id_fault) (IsText IsSame) IsInvocationId
 id_form = part_form (Letters alphabet.Invocation)
@@ -145,9 +167,11 @@ create_formed : GivesForm a_create_request IsCreate IsCreateOfForm
 unfolding a_create_request
 create_formed d q none is =
     let one = first_right (an_object d) _ none in
-    let two = first_right (optional name.request_id an_unbuilt_text d) _ one in
+    let two = first_right (optional_filled name.request_id empty_text a_request_id d) _ one in
     let three = first_right (required name.invocation_id empty_text (a_text invocation_id_fault) d) _ two in
     record {
+      request_id = filled_form name.request_id empty_text a_request_id (IsText IsSame) IsRequestId read_form d q.request_id
+          (first_left _ _ one) is.request_id_is;
       id = required_form name.invocation_id empty_text (a_text invocation_id_fault) (IsText IsSame) IsInvocationId id_form d q.id
           (first_left _ _ two) is.id_is;
       invocation = required_form name.invocation never_empty a_new_invocation IsNewInvocation IsNewOfForm new_form d q.invocation
@@ -165,8 +189,10 @@ new_plain new =
 
 create_plain : (q : CreateInvocation) → IsPlain 4 (create_data q)
 create_plain q =
-    let behind : Members = put_required name.invocation_id (λ text. string text) q.id no_members in
-    let one = plain-put 3 name.invocation_id.camel (string q.id) no_members (plain_text 3 q.id) (no_members_plain 3) in
+    let last : Members = put_optional name.request_id (λ text. string text) q.request_id no_members in
+    let behind : Members = put_required name.invocation_id (λ text. string text) q.id last in
+    let none = plain-put_optional 3 name.request_id (λ text. string text) q.request_id no_members (λ text. plain_text 3 text) (no_members_plain 3) in
+    let one = plain-put 3 name.invocation_id.camel (string q.id) last (plain_text 3 q.id) none in
     plain_object 3 (put name.invocation.camel (new_invocation_data q.invocation) behind)
     (plain-put 3 name.invocation.camel (new_invocation_data q.invocation) behind (new_plain q.invocation) one)
 

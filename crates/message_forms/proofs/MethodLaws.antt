@@ -1,7 +1,7 @@
 -- The laws of each method's form, in the order of the table.
 use Rattle.std.proofs.Common.{◌≡◌, Some, refl}
 use Rattle.serde_json.specs.Data.{Data}
-use Rattle.message_forms.specs.Methods.{finalize_form, included_form, get_form, row_of, by_method, by_request, method_asked, said_in, request_data, method_of, service_of, name_of, AsksFor, CanBeAsked, Means}
+use Rattle.message_forms.specs.Methods.{included_form, row_of, by_method, by_request, method_asked, said_in, request_data, method_of, service_of, name_of, AsksFor, CanBeAsked, Means}
 use Rattle.message_forms.specs.declared.requests.Method.{Method}
 use Rattle.message_forms.specs.declared.requests.Request.{Request}
 use Rattle.json_fields.proofs.PlainLaws.{IsPlain}
@@ -11,18 +11,12 @@ use Rattle.message_forms.proofs.CreateLaws.{create_lawful}
 use Rattle.message_forms.proofs.UpdateLaws.{update_lawful}
 use Rattle.message_forms.proofs.IncludedLaws.{include_lawful}
 
-finalize_lawful : IsLawful finalize_form
-finalize_lawful = named_lawful _ (λ x. record { id = x }) (λ q. refl) (λ x. refl)
-
 included_lawful : IsLawful included_form
 included_lawful = include_lawful _ _ (λ x xs. record { including = x; add = xs })
     (λ a b ids others i. record { including = ids i; add = others i }) (λ x xs. refl) (λ x xs. refl)
 
-get_lawful : IsLawful get_form
-get_lawful = named_lawful _ (λ x. record { id = x }) (λ q. refl) (λ x. refl)
-
 pub lawful : (m : Method) → IsLawful (row_of m).form
-lawful = by_method (λ m. IsLawful (row_of m).form) create_lawful update_lawful finalize_lawful included_lawful get_lawful
+lawful = by_method (λ m. IsLawful (row_of m).form) create_lawful update_lawful named_lawful included_lawful named_lawful
 
 -- A method is found by its names, and what is asked by it is a request of it, which says that.
 pub method_named : (m : Method) → method_of (service_of m) (name_of m) ≡ Some m
@@ -44,4 +38,4 @@ said_asked = by_request (λ q. (row_of (method_asked q)).form.CanBeAsked (said_i
 
 pub request_plain : (q : Request) → IsPlain 4 (request_data q)
 request_plain = by_request (λ q. IsPlain 4 (request_data q))
-    create_lawful.plain update_lawful.plain finalize_lawful.plain included_lawful.plain get_lawful.plain
+    create_lawful.plain update_lawful.plain named_lawful.plain included_lawful.plain named_lawful.plain

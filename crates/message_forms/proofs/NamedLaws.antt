@@ -1,5 +1,5 @@
 -- What names an invocation.
-use Rattle.std.proofs.Common.{◌≡◌, ℕ, false, List, Some, None, refl, sym, ap, ◌∙◌}
+use Rattle.std.proofs.Common.{◌≡◌, ℕ, false, List, Some, None, refl}
 use Rattle.names_realms.specs.Names.{IsInvocationId, IsInvocationName, invocation_name, invocation_name_fault}
 use Rattle.names_realms.proofs.InvocationNameLemmas.{IsInvocationName-fault}
 use Rattle.serde_json.specs.Data.{Data, no_members, put}
@@ -13,6 +13,7 @@ use Rattle.json_fields.proofs.PlainLaws.{IsPlain, plain-put, plain_text, no_memb
 use Rattle.json_fields.proofs.WriteLaws.{spelled_out, text_written, member_put, filled_found, required_found}
 use Rattle.message_forms.specs.Names as name
 use Rattle.message_forms.specs.Named.{an_invocation_name, IsNameOf, a_named, IsNamed, name_data, named_data, named_form}
+use Rattle.message_forms.specs.declared.named.NamedInvocation.{NamedInvocation}
 use Rattle.message_forms.proofs.Lawful.{IsLawful}
 
 pub name_written : (id : List ℕ) → IsInvocationId id → IsWritten an_invocation_name IsNameOf empty_text (λ _. false) id (name_data id)
@@ -51,13 +52,15 @@ named_plain : (id : List ℕ) → IsPlain 4 (named_data id)
 named_plain id = plain_object 3 (put name.name.camel (name_data id) no_members)
     (plain-put 3 name.name.camel (name_data id) no_members (plain_text 3 (invocation_name id)) (no_members_plain 3))
 
--- a form that says an id, and nothing else
-pub named_lawful : {Q : Type 0} (id : Q → List ℕ) (make : List ℕ → Q) → ((q : Q) → make (id q) ≡ q) → ((x : List ℕ) → id (make x) ≡ x)
-    → IsLawful (named_form id)
-named_lawful id make whole part = record {
-  one = λ d a b h k. sym (whole a) ∙ (ap make (named_one d (id a) (id b) h k) ∙ whole b);
-  there = λ d none. let there = named_there d none in (make there.0, rw (part there.0) there.1);
-  formed = λ d a none is. named_formed d (id a) none is;
+-- requests that say nothing else
+request_one : (d : Data) (a b : NamedInvocation) → IsNamed d a.id → IsNamed d b.id → a ≡ b
+request_one d a b h k = let ids : a.id ≡ b.id = named_one d a.id b.id h k in λ i. record { id = ids i }
+
+pub named_lawful : IsLawful named_form
+named_lawful = record {
+  one = request_one;
+  there = λ d none. let there = named_there d none in (record { id = there.0 }, there.1);
+  formed = λ d a none is. named_formed d a.id none is;
   asked = λ d a none is. tt;
-  plain = λ a. named_plain (id a);
+  plain = λ a. named_plain a.id;
 }

@@ -7,11 +7,13 @@ use Rattle.names_realms.specs.Realms.{realm_fault, IsRealm}
 use Rattle.moments_spans.specs.Moments.{moment_text, IsInYears}
 use Rattle.moments_spans.specs.MomentGrammar.{IsMomentText}
 use Rattle.json_fields.specs.Fields.{required, optional, fault_of, filled_at, set_at, Holds, HoldsMaybe}
-use Rattle.json_fields.specs.Kinds.{an_object, a_list, an_unbuilt_text, empty_text, never_empty, HoldsList}
+use Rattle.json_fields.specs.Kinds.{an_object, a_list, empty_text, never_empty, HoldsList}
 use Rattle.json_fields.specs.Texts.{a_text, IsText, IsSame, moment_fault}
 use Rattle.json_fields.specs.Tags.{a_tag, tag_data, IsTag, IsPairOfGrammar}
 use Rattle.json_fields.specs.Writing.{put_required, put_optional, put_list}
 use Rattle.json_fields.specs.declared.faults.FieldFault.{FieldFault}
+use Rattle.field_kinds.specs.Filled.{optional_filled}
+use Rattle.text_kinds.specs.Texts.{a_request_id, IsRequestId}
 use Rattle.message_forms.specs.Names as name
 use Rattle.message_forms.specs.Rows.{RequestForm}
 use Rattle.message_forms.specs.declared.create.NewInvocation.{NewInvocation}
@@ -34,12 +36,11 @@ pub record IsNewInvocation (d : Data) (new : NewInvocation) : Type 0 where
   pub deadline_is : HoldsMaybe (IsText IsMomentText) (set_at name.deadline d) new.deadline
   pub tags_are : HoldsList IsTag (set_at name.tags d) new.tags
 
--- of a request for a new invocation: a request id, which isn't built yet, the new id, and the
--- invocation
+-- of a request for a new invocation: maybe a request id, the new id, and the invocation
 abbrev pub create_fields : List (Data → Option FieldFault)
 create_fields =
     an_object
-    ∷ optional name.request_id an_unbuilt_text
+    ∷ optional_filled name.request_id empty_text a_request_id
     ∷ required name.invocation_id empty_text (a_text invocation_id_fault)
     ∷ required name.invocation never_empty a_new_invocation
     ∷ []
@@ -47,8 +48,11 @@ create_fields =
 unfoldable pub a_create_request : Data → Option FieldFault
 a_create_request d = fault_of create_fields d
 
--- A value asks for a new invocation with its id and what its `invocation` says.
+-- A value asks for a new invocation with its id and what its `invocation` says, by its request id
+-- where that is neither unset, nor null, nor empty.
 pub record IsCreate (d : Data) (q : CreateInvocation) : Type 0 where
+  pub request_id_is : HoldsMaybe (IsText IsSame) (filled_at name.request_id empty_text d)
+      q.request_id
   pub id_is : Holds (IsText IsSame) (filled_at name.invocation_id empty_text d) q.id
   pub new_is : Holds IsNewInvocation (filled_at name.invocation never_empty d) q.invocation
 
@@ -59,13 +63,14 @@ new_invocation_data new =
     (put_required name.realm (λ text. string text) new.realm
     (put_list name.tags tag_data new.tags no_members)))
 
-abbrev pub create_members : List ℕ → Data → Data
-create_members id new =
+abbrev pub create_members : Option (List ℕ) → List ℕ → Data → Data
+create_members request_id id new =
     object (put_required name.invocation (λ d. d) new
-    (put_required name.invocation_id (λ text. string text) id no_members))
+    (put_required name.invocation_id (λ text. string text) id
+    (put_optional name.request_id (λ text. string text) request_id no_members)))
 
 abbrev pub create_data : CreateInvocation → Data
-create_data q = create_members q.id (new_invocation_data q.invocation)
+create_data q = create_members q.request_id q.id (new_invocation_data q.invocation)
 
 -- All that the request names or gives is of its grammar, and its deadline lies in the years 1 to
 -- 9999.
@@ -75,6 +80,7 @@ pub record IsNewOfForm (new : NewInvocation) : Type 0 where
   pub tags : All IsPairOfGrammar new.tags
 
 pub record IsCreateOfForm (q : CreateInvocation) : Type 0 where
+  pub request_id : ForSome q.request_id IsRequestId
   pub id : IsInvocationId q.id
   pub invocation : IsNewOfForm q.invocation
 

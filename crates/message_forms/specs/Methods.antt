@@ -16,8 +16,7 @@ use Rattle.message_forms.specs.declared.requests.Request.{Request}
 use Rattle.message_forms.specs.declared.requests.Request.TheVariants as asks
 use Rattle.message_forms.specs.declared.create.CreateInvocation.{CreateInvocation as Create}
 use Rattle.message_forms.specs.declared.updates.UpdateInvocation.{UpdateInvocation as Update}
-use Rattle.message_forms.specs.declared.finalize.FinalizeInvocation.{FinalizeInvocation as Finalize}
-use Rattle.message_forms.specs.declared.get.GetInvocation.{GetInvocation as Get}
+use Rattle.message_forms.specs.declared.named.NamedInvocation.{NamedInvocation as Named}
 use Rattle.message_forms.specs.declared.included.UpdateIncludedInvocations.{UpdateIncludedInvocations as Include}
 
 abbrev pub recorder : {Q : Type 0} → List ℕ → RequestForm Q → (Q → Request) → Row
@@ -38,12 +37,6 @@ reader {Q} name form asks = record {
   asks = asks;
 }
 
-abbrev pub finalize_form : RequestForm Finalize
-finalize_form = named_form (λ q. q.id)
-
-abbrev pub get_form : RequestForm Get
-get_form = named_form (λ q. q.id)
-
 abbrev pub included_form : RequestForm Include
 included_form = include_form (λ q. q.including) (λ q. q.add)
 
@@ -53,10 +46,10 @@ row_of CreateInvocation =
 row_of UpdateInvocation =
     recorder (codes "UpdateInvocation") update_form asks.UpdateInvocation
 row_of FinalizeInvocation =
-    recorder (codes "FinalizeInvocation") finalize_form asks.FinalizeInvocation
+    recorder (codes "FinalizeInvocation") named_form asks.FinalizeInvocation
 row_of UpdateIncludedInvocations =
     recorder (codes "UpdateIncludedInvocations") included_form asks.UpdateIncludedInvocations
-row_of GetInvocation = reader (codes "GetInvocation") get_form asks.GetInvocation
+row_of GetInvocation = reader (codes "GetInvocation") named_form asks.GetInvocation
 
 -- every method
 abbrev pub every_method : List Method
@@ -94,9 +87,9 @@ by_method P create update finalize include get GetInvocation = get
 
 abbrev pub by_request : (P : Request → Type 0) → ((q : Create) → P (asks.CreateInvocation q))
     → ((q : Update) → P (asks.UpdateInvocation q))
-    → ((q : Finalize) → P (asks.FinalizeInvocation q))
+    → ((q : Named) → P (asks.FinalizeInvocation q))
     → ((q : Include) → P (asks.UpdateIncludedInvocations q))
-    → ((q : Get) → P (asks.GetInvocation q)) → (q : Request) → P q
+    → ((q : Named) → P (asks.GetInvocation q)) → (q : Request) → P q
 by_request P create update finalize include get (asks.CreateInvocation q) = create q
 by_request P create update finalize include get (asks.UpdateInvocation q) = update q
 by_request P create update finalize include get (asks.FinalizeInvocation q) = finalize q
@@ -124,9 +117,9 @@ method_of service name = find (is_called service name) every_method
 abbrev pub AsksFor : Data → Request → Type 0
 AsksFor d (asks.CreateInvocation q) = create_form.means d q
 AsksFor d (asks.UpdateInvocation q) = update_form.means d q
-AsksFor d (asks.FinalizeInvocation q) = finalize_form.means d q
+AsksFor d (asks.FinalizeInvocation q) = named_form.means d q
 AsksFor d (asks.UpdateIncludedInvocations q) = included_form.means d q
-AsksFor d (asks.GetInvocation q) = get_form.means d q
+AsksFor d (asks.GetInvocation q) = named_form.means d q
 
 -- what a value without a fault asks for: a request of this method, as its fields say
 abbrev pub Means : Method → Data → Request → Type 0
@@ -136,17 +129,17 @@ Means m d q = (method_asked q ≡ m) × AsksFor d q
 abbrev pub request_data : Request → Data
 request_data (asks.CreateInvocation q) = create_form.json q
 request_data (asks.UpdateInvocation q) = update_form.json q
-request_data (asks.FinalizeInvocation q) = finalize_form.json q
+request_data (asks.FinalizeInvocation q) = named_form.json q
 request_data (asks.UpdateIncludedInvocations q) = included_form.json q
-request_data (asks.GetInvocation q) = get_form.json q
+request_data (asks.GetInvocation q) = named_form.json q
 
 -- a request that some body can ask for
 abbrev pub CanBeAsked : Request → Type 0
 CanBeAsked (asks.CreateInvocation q) = create_form.CanBeAsked q
 CanBeAsked (asks.UpdateInvocation q) = update_form.CanBeAsked q
-CanBeAsked (asks.FinalizeInvocation q) = finalize_form.CanBeAsked q
+CanBeAsked (asks.FinalizeInvocation q) = named_form.CanBeAsked q
 CanBeAsked (asks.UpdateIncludedInvocations q) = included_form.CanBeAsked q
-CanBeAsked (asks.GetInvocation q) = get_form.CanBeAsked q
+CanBeAsked (asks.GetInvocation q) = named_form.CanBeAsked q
 
 -- What is written of the request is read by its method without a fault, as this request.
 abbrev pub IsReadAgain : Data → Request → Type 0

@@ -9,6 +9,7 @@ use Rattle.json_fields.specs.Writing.{put_required}
 use Rattle.json_fields.specs.declared.faults.FieldFault.{FieldFault}
 use Rattle.message_forms.specs.Names as name
 use Rattle.message_forms.specs.Rows.{RequestForm}
+use Rattle.message_forms.specs.declared.named.NamedInvocation.{NamedInvocation}
 
 -- an invocation's name, and the id that it names
 abbrev pub an_invocation_name : Data → Option FieldFault
@@ -33,12 +34,12 @@ IsNamed d id = Holds IsNameOf (filled_at name.name empty_text d) id
 abbrev pub named_data : List ℕ → Data
 named_data id = object (put_required name.name name_data id no_members)
 
--- requests of this form, by the id that they say
-abbrev pub named_form : {Q : Type 0} → (Q → List ℕ) → RequestForm Q
-named_form id = record {
+-- requests that say nothing else
+abbrev pub named_form : RequestForm NamedInvocation
+named_form = record {
   fault = a_named;
-  means = λ d q. IsNamed d (id q);
-  json = λ q. named_data (id q);
-  OfForm = λ q. IsInvocationId (id q);
+  means = λ d q. IsNamed d q.id;
+  json = λ q. named_data q.id;
+  OfForm = λ q. IsInvocationId q.id;
   CanBeAsked = λ q. ⊤;
 }

@@ -1,22 +1,25 @@
 //! Requests for a new invocation.
-ghost use Rattle.std.specs.Prelude.{◌≡◌, IfOk, OnOk, None, false};
+ghost use Rattle.std.specs.Prelude.{◌≡◌, IfOk, IfSome, OnOk, None, false};
 ghost use Rattle.serde_json.specs.Data.{string};
 ghost use Rattle.serde_json.specs.View.{view};
 ghost use Rattle.names_realms.specs.Names.{invocation_id_fault};
 ghost use Rattle.json_fields.specs.Kinds.{empty_text, never_empty};
 ghost use Rattle.json_fields.specs.Texts.{a_text, IsText, IsSame};
 ghost use Rattle.json_fields.specs.Writing.{IsWritten};
+ghost use Rattle.text_kinds.specs.Texts.{a_request_id, is_blank};
 ghost use Rattle.message_forms.specs.Create.{a_new_invocation, IsNewInvocation, new_invocation_data, a_create_request, IsCreate, create_members, create_data};
 
 use crate::names::{deadline, invocation, invocation_id, realm, request_id, tags};
+use field_kinds::optional_filled;
 use json_fields::{
-    Form, ReadFault, Tag, UnbuiltText, object, optional, optional_list, put, required, write_list,
+    Form, ReadFault, Tag, object, optional, optional_list, put, required, write_list,
     write_optional, write_required,
 };
 use lists::Listed;
 use names_realms::{InvocationId, Moment, Realm};
 use serde_json::{Map, Value};
 use std::alloc::{AllocError, Global};
+use text_kinds::{LimitedText, RequestId};
 
 /// What a request says of the invocation that it makes.
 #[derive(Debug, Drop)]
@@ -70,6 +73,8 @@ impl NewInvocation {
 /// A request for a new invocation with this id.
 #[derive(Debug, Drop)]
 pub struct CreateInvocation {
+    /// The number of the request, where it has one.
+    pub request_id: Option<LimitedText<RequestId>>,
     pub id: InvocationId,
     pub invocation: NewInvocation,
 }
@@ -88,20 +93,32 @@ impl Form for CreateInvocation {
     #[tactic(auto, unfolding(crate::proofs::Opened::request_fields))]
     fn read(alloc: Global, value: &Value) -> Result<CreateInvocation, ReadFault> {
         object(alloc, value)?;
-        optional::<UnbuiltText>(alloc, value, request_id())?;
+        let request_id = optional_filled(alloc, value, request_id())?;
         let id = required(alloc, value, invocation_id())?;
         let invocation = required(alloc, value, invocation())?;
-        Ok(CreateInvocation { id, invocation })
+        Ok(CreateInvocation {
+            request_id,
+            id,
+            invocation,
+        })
     }
 }
 
 /// What is written of a request for a new invocation with this id.
-fn create_value(alloc: Global, id: &InvocationId, new: Value) -> Result<Value, AllocError>
-    ensures value { IfOk result (λ v. view v ≡ create_members id.now (view new)) }
-    ensures again { OnOk result (IsWritten (a_text invocation_id_fault) (IsText IsSame) empty_text
+fn create_value(
+    alloc: Global,
+    number: &Option<LimitedText<RequestId>>,
+    id: &InvocationId,
+    new: Value,
+) -> Result<Value, AllocError>
+    ensures value { IfOk result (λ v. view v ≡ create_members number.now id.now (view new)) }
+    ensures number { OnOk result (IfSome number.now (λ text. IsWritten a_request_id (IsText IsSame)
+        empty_text is_blank text (string text))) }
+    ensures id { OnOk result (IsWritten (a_text invocation_id_fault) (IsText IsSame) empty_text
         (λ _. false) id.now (string id.now)) }
 {
     let mut map = Map::new(alloc);
+    write_optional(alloc, &mut map, request_id(), number)?;
     write_required(alloc, &mut map, invocation_id(), id)?;
     put(alloc, &mut map, &invocation(), new)?;
     Ok(Value::Object(map))
@@ -115,6 +132,6 @@ impl CreateInvocation {
             × IsCreate (create_data self.now) self.now) }
     {
         let new = self.invocation.write(alloc)?;
-        create_value(alloc, &self.id, new)
+        create_value(alloc, &self.request_id, &self.id, new)
     }
 }

@@ -3,8 +3,6 @@
 #![tactic(auto)]
 
 mod create;
-mod finalize;
-mod get;
 mod included;
 pub mod laws;
 mod masks;
@@ -19,12 +17,12 @@ mod updates;
 
 pub use call_forms::{Answer, Asked, Refusal, Standin, Told, write_refusal};
 pub use create::{CreateInvocation, NewInvocation};
-pub use finalize::FinalizeInvocation;
-pub use get::GetInvocation;
 pub use included::UpdateIncludedInvocations;
 pub use json_fields::{FaultKind, FieldFault, Step, Tag, Why, pairs_from};
+pub use named::NamedInvocation;
 pub use reading::{FormFault, read_request};
 pub use refusals::refusal_of;
 pub use replies::{Reply, ShownInvocation, state_name, write_reply};
 pub use requests::{Method, Request, write_request};
+pub use text_kinds::{LimitedText, RequestId};
 pub use updates::UpdateInvocation;

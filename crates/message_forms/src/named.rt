@@ -1,4 +1,5 @@
-//! What names an invocation: an object with its name, which several requests are.
+//! What names an invocation: an object with its name, which several requests are, as the one to end
+//! it and the one to show it.
 ghost use Rattle.std.specs.Prelude.{◌≡◌, ℕ, List, IfOk, OnOk, false, None};
 ghost use Rattle.serde_json.specs.View.{view, members_view};
 ghost use Rattle.json_fields.specs.Kinds.{empty_text, never_empty};
@@ -53,6 +54,29 @@ impl Form for Named {
             }),
             Err(fault) => Err(fault),
         }
+    }
+}
+
+/// A request that says of an invocation nothing but its name.
+#[derive(Debug, Drop)]
+pub struct NamedInvocation {
+    pub id: InvocationId,
+}
+
+impl Form for NamedInvocation {
+    ghost fault = { a_named };
+
+    ghost means = { λ d q. IsNamed d q.id };
+
+    ghost empty = { never_empty };
+
+    fn is_empty(_value: &Value) -> bool {
+        false
+    }
+
+    fn read(alloc: Global, value: &Value) -> Result<NamedInvocation, ReadFault> {
+        let id = Named::read(alloc, value)?.into_id();
+        Ok(NamedInvocation { id })
     }
 }
 

@@ -9,10 +9,8 @@ ghost use Rattle.message_forms.specs.Reading.{Asks};
 ghost use Rattle.message_forms.specs.Methods.{is_called, method_of, service_of, name_of, request_fault, method_asked, request_data, Means, CanBeAsked, IsReadAgain};
 
 use crate::create::CreateInvocation;
-use crate::finalize::FinalizeInvocation;
-use crate::get::GetInvocation;
 use crate::included::UpdateIncludedInvocations;
-use crate::named::named_value;
+use crate::named::{NamedInvocation, named_value};
 use crate::updates::UpdateInvocation;
 use json_fields::{Form, ReadFault};
 use lists::Bytes;
@@ -42,11 +40,11 @@ pub enum Request {
     /// Another deadline or other tags of an invocation.
     UpdateInvocation(UpdateInvocation),
     /// The end of an invocation.
-    FinalizeInvocation(FinalizeInvocation),
+    FinalizeInvocation(NamedInvocation),
     /// That an invocation include others.
     UpdateIncludedInvocations(UpdateIncludedInvocations),
     /// What an invocation is.
-    GetInvocation(GetInvocation),
+    GetInvocation(NamedInvocation),
 }
 
 /// Every method.
@@ -127,14 +125,17 @@ impl Method {
                 Ok(Request::UpdateInvocation(request))
             }
             Method::FinalizeInvocation => {
-                let request = FinalizeInvocation::read(alloc, value)?;
+                let request = NamedInvocation::read(alloc, value)?;
                 Ok(Request::FinalizeInvocation(request))
             }
             Method::UpdateIncludedInvocations => {
                 let request = UpdateIncludedInvocations::read(alloc, value)?;
                 Ok(Request::UpdateIncludedInvocations(request))
             }
-            Method::GetInvocation => Ok(Request::GetInvocation(GetInvocation::read(alloc, value)?)),
+            Method::GetInvocation => {
+                let request = NamedInvocation::read(alloc, value)?;
+                Ok(Request::GetInvocation(request))
+            }
         }
     }
 }
