@@ -141,8 +141,7 @@ create_there d h =
     let three = first_right (required name.invocation_id empty_text (a_text invocation_id_fault) d) _ two in
     let number = filled_there name.request_id empty_text a_request_id (IsText IsSame) (string_there request_id_why) d (first_left _ _ one) in
     let id = required_there name.invocation_id empty_text (a_text invocation_id_fault) (IsText IsSame) (same_there invocation_id_fault) d (first_left _ _ two) in
-    let new = required_there name.invocation never_empty a_new_invocation IsNewInvocation new_there d (first_left _ _ three) in
-    (
+    let new = required_there name.invocation never_empty a_new_invocation IsNewInvocation new_there d (first_left _ _ three) in (
       record { request_id = number.0; id = id.0; invocation = new.0 },
       record { request_id_is = number.1; id_is = id.1; new_is = new.1 },
     )
