@@ -16,7 +16,7 @@ use Rattle.invocations.specs.Faults.{CanAdd, IsAddFault}
 use Rattle.invocations.specs.Rows.{HasId, states_of}
 use Rattle.request_rules.proofs.PlaceLaws.{place_of-has}
 use Rattle.message_forms.specs.declared.create.CreateInvocation.{CreateInvocation}
-use Rattle.message_forms.specs.declared.finalize.FinalizeInvocation.{FinalizeInvocation}
+use Rattle.message_forms.specs.declared.named.NamedInvocation.{NamedInvocation}
 use Rattle.message_forms.specs.declared.requests.Request.{Request}
 use Rattle.message_forms.specs.declared.requests.Request.TheVariants as asks
 use Rattle.message_forms.specs.declared.updates.UpdateInvocation.{UpdateInvocation}
@@ -136,7 +136,7 @@ update_ready held moment name request q e place timely safe request_is is place_
     (is ∙ ap (update_at held.world.invocations q.deadline q.tags) place_is)
     (update_has_room held held.world.invocations q.deadline q.tags (place_named held.world.invocations q.id))
 
-pub end_ready : (held : WorldState) (moment : ℤ) (name : List ℕ) (request : Request) (q : FinalizeInvocation) (e : Effect) (place : Option ℕ)
+pub end_ready : (held : WorldState) (moment : ℤ) (name : List ℕ) (request : Request) (q : NamedInvocation) (e : Effect) (place : Option ℕ)
     → IsTimely held.world moment → IsSafe held.world moment name request → request ≡ asks.FinalizeInvocation q
     → e ≡ end_at held.world.invocations place → place ≡ place_named held.world.invocations q.id
     → IsPlanned held moment (effect_of held.world moment name request) (planned.Ready e)

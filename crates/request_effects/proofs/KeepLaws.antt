@@ -1,8 +1,8 @@
 -- What is kept of a request, and the answer that is made of it again.
-use Rattle.std.proofs.Common.{◌≡◌, ◌<◌, ℕ, ℤ, List, [], ◌∷◌, ◌++◌, length, Option, Some, None, option_map, refl, sym, ap, ◌∙◌, subst, arith}
+use Rattle.std.proofs.Common.{◌≡◌, ℕ, ℤ, List, [], length, Option, Some, None, option_map, refl, sym, ap, ◌∙◌, subst}
 use Rattle.std.specs.Prelude.{slice_get}
 use Rattle.std.proofs.lemmas.Option.{none-some, same_Some}
-use Rattle.names_realms.specs.declared.pairs.Pair.{Pair}
+use Rattle.names_realms.specs.declared.states.State.{State}
 use Rattle.names_realms.specs.declared.states.State.TheVariants.{Active}
 use Rattle.inclusion_graph.specs.Edges.{targets_of}
 use Rattle.invocations.specs.declared.invocation.Invocation.{Invocation}
@@ -10,13 +10,18 @@ use Rattle.kept_replies.specs.declared.reply.KeptAnswer.{KeptAnswer}
 use Rattle.kept_replies.specs.declared.reply.KeptAnswer.TheVariants.{Created}
 use Rattle.kept_replies.specs.declared.reply.KeptReply.{KeptReply}
 use Rattle.call_forms.specs.declared.asked.Asked.{Asked}
-use Rattle.invocation_world.specs.World.{World, IsRow}
+use Rattle.message_forms.specs.declared.replies.Reply.TheVariants as reply
+use Rattle.invocation_world.specs.World.{World, IsRow, IsStage}
 use Rattle.request_rules.specs.Demands.{Demand}
 use Rattle.request_rules.specs.Numbered.{digest_of}
+use Rattle.request_rules.specs.Settings.{Settings}
 use Rattle.request_effects.specs.declared.effect.Effect.{Effect}
 use Rattle.request_effects.specs.declared.effect.Effect.TheVariants as does
 use Rattle.request_effects.specs.declared.keeping.Numbered.{Numbered}
-use Rattle.request_effects.specs.Keeps.{answer_kept, kept_of, numbered_of}
+use Rattle.request_effects.specs.Keeps.{answer_kept, as_made, kept_answer, kept_of, made_answer, made_reply, numbered_of}
+use Rattle.request_effects.specs.Laws.{KeptIsFirst}
+use Rattle.request_effects.specs.Shows.{done, ids_at, reply_at, shown_with, token_at}
+use Rattle.request_effects.proofs.AheadFacts.{added_includes, added_stands}
 
 -- nothing is kept of what does nothing
 pub nothing_kept : (w : World) (name : List ℕ) (numbered : Option Numbered) → kept_of w name numbered does.Nothing ≡ None
@@ -68,3 +73,38 @@ numbered_in asked (Some x) n is =
 pub numbered_is : (asked : Asked) (d : Demand) (n : Numbered) → numbered_of asked d ≡ Some n
     → (d.number ≡ Some n.number) × (n.digest ≡ digest_of asked)
 numbered_is asked d n is = numbered_in asked d.number n is
+
+-- ---- the answer that is made again
+
+-- a new row is as it was made
+as_it_is : (moment : ℤ) (row : Invocation) → IsRow moment row → row.state ≡ Active → as_made row.deadline row.tags row ≡ row
+as_it_is moment row is active =
+    let stage = subst (λ (s : State). IsStage moment s row.deadline row.started row.finished) active is.stage in
+    let Made : Option ℤ → Option ℤ → State → Invocation = λ started finished state.
+    record row { started = started; finished = finished; state = state } in
+    ap (λ (x : Option ℤ). Made x None Active) (sym stage.1)
+    ∙ (ap (λ (x : Option ℤ). Made row.started x Active) (sym stage.2) ∙ ap (Made row.started row.finished) (sym active))
+
+made_again : (s : Settings) (after : World) (place : ℕ) (row : Invocation) (found : Option Invocation) → found ≡ Some row
+    → as_made row.deadline row.tags row ≡ row → [] ≡ ids_at after.invocations (targets_of after.inclusions place)
+    → made_answer s row.deadline row.tags found ≡ done (token_at s found) (reply_at after place found)
+made_again s after place row found is same none =
+    let shown_so : made_reply row.deadline row.tags (Some row) ≡ reply_at after place (Some row) =
+    ap (λ (r : Invocation). reply.Invocation (shown_with r [])) same
+    ∙ ap (λ (ids : List (List ℕ)). reply.Invocation (shown_with row ids)) none in
+    ap (λ (f : Option Invocation). made_answer s row.deadline row.tags f) is
+    ∙ (ap (done (token_at s (Some row))) shown_so ∙ ap (λ (f : Option Invocation). done (token_at s f) (reply_at after place f)) (sym is))
+
+pub kept_is_first : KeptIsFirst
+kept_is_first s w after moment does.Nothing answer timely may acts is = absurd (none-some answer is)
+kept_is_first s w after moment (does.Add row) answer timely may acts is =
+    let place = length w.invocations in
+    let made : Created place row.deadline row.tags ≡ answer = same_Some (Created place row.deadline row.tags) answer is in
+    let stands = added_stands w moment (does.Add row) after place row row refl may refl refl acts in
+    let includes = added_includes w moment (does.Add row) after place row refl timely refl acts in
+    let none : [] ≡ ids_at after.invocations (targets_of after.inclusions place) = ap (ids_at after.invocations) includes.0 in
+    ap (kept_answer (record { settings = s; world = after })) (sym made)
+    ∙ made_again s after place row (slice_get after.invocations place) stands (as_it_is moment row may.is_row may.active) none
+kept_is_first s w after moment (does.Update place deadline tags) answer timely may acts is = absurd (none-some answer is)
+kept_is_first s w after moment (does.End place) answer timely may acts is = absurd (none-some answer is)
+kept_is_first s w after moment (does.Include plan) answer timely may acts is = absurd (none-some answer is)

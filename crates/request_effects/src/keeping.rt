@@ -119,10 +119,11 @@ pub fn keep_of(
         return Ok(None);
     };
     let caller = copied(alloc, name)?;
+    let digest = numbered.digest;
     Ok(Some(KeptReply {
         caller,
         number: numbered.number,
-        digest: numbered.digest,
+        digest,
         answer,
     }))
 }

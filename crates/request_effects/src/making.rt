@@ -49,7 +49,11 @@ pub(crate) fn row_of(
     ensures { IfOk result (λ row. row ≡ new_row moment name.now q.id
         q.invocation.realm q.invocation.deadline q.invocation.tags) }
 {
-    let CreateInvocation { id, invocation } = q;
+    let CreateInvocation {
+        request_id: _,
+        id,
+        invocation,
+    } = q;
     let creator = Bytes::new(Vec::from_slice(alloc, name)?);
     let tags = pairs_from(alloc, invocation.tags)?;
     Ok(Invocation {
