@@ -81,6 +81,14 @@ refuses_alone s core moment asked understood answer is told =
       answer_is = alone.2;
     }
 
+-- what was checked for a name that is the caller's, in a core that is this one
+pub numbered_in : (s : Settings) (inside core : CoreState) (asked : Asked) (call : Call) (name : List ℕ) (check : NumberCheck) → inside ≡ core
+    → name ≡ caller_name s call.caller → IsNumbered inside.keeps.kept name asked (demand_of call.request) check
+    → IsNumbered core.keeps.kept (caller_name s call.caller) asked (demand_of call.request) check
+numbered_in s inside core asked call name check same name_is numbered =
+    subst (λ (n : List ℕ). IsNumbered core.keeps.kept n asked (demand_of call.request) check) name_is
+    (subst (λ (k : CoreState). IsNumbered k.keeps.kept name asked (demand_of call.request) check) same numbered)
+
 -- a call whose number is checked to be no repeat's is new
 pub new_as : (s : Settings) (w : ServiceWorld) (moment : ℤ) (asked : Asked) (call : Call) (check : NumberCheck) → IsCallOf s asked call
     → IsNumbered w.kept (caller_name s call.caller) asked (demand_of call.request) check → ((place : ℕ) → check ≢ Repeat place)

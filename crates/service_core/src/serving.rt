@@ -47,6 +47,7 @@ pub struct Core {
 
 /// What was looked up for a call before it is judged: where the invocations stand that it names,
 /// and what its number comes to.
+#[derive(Clone, Copy)]
 struct LookedUp<'r> {
     places: &'r Located,
     number: NumberCheck,
