@@ -35,7 +35,7 @@ pub unnumbered : (kept : List KeptReply) (name : List ℕ) (d : Demand) → d.nu
 unnumbered kept name d e = ap (λ (n : Option (List ℕ)). kept_at kept (place_kept kept name n)) e
 
 -- what is kept with the digest of a request makes it a repeat, and with another one a reused number
-found_digest : (kept : List KeptReply) (name : List ℕ) (asked : Asked) (d : Demand) (number : List ℕ) (reply : KeptReply)
+pub found_digest : (kept : List KeptReply) (name : List ℕ) (asked : Asked) (d : Demand) (number : List ℕ) (reply : KeptReply)
     → d.number ≡ Some number → kept_for kept name d ≡ Some reply → ((k : KeptReply) → ¬ IsRepeatOf kept name asked d k)
     → IsUnbroken (RequestIdReused kept name asked d) → ⊥
 found_digest kept name asked d number reply e found fresh unbroken =

@@ -9,7 +9,7 @@ use Rattle.request_rules.specs.declared.rules.Rule.TheVariants as rule
 use Rattle.request_rules.specs.Settings.{Settings, HasNames, caller_name}
 use Rattle.request_rules.specs.Demands.{demand_of}
 use Rattle.request_rules.specs.Order.{IsUnbroken}
-use Rattle.request_rules.specs.Broken.{IsBroken, order}
+use Rattle.request_rules.specs.Broken.{IsBroken, RequestIdReused, order}
 use Rattle.request_rules.proofs.Judged.{IsAmong, unbroken_each}
 use Rattle.request_rules.proofs.NumberLaws.{free_number, number_is_word}
 use Rattle.request_rules.proofs.PolicyLaws.{caller_is_there, name_is}
@@ -65,6 +65,11 @@ accepted_suits s w moment asked caller request names timely h =
     suits w.rows moment (caller_name s caller) request timely
     (safe s w moment asked caller request names (record { new = h.new; judged = h.judged }))
 
+-- no other request had its number
+pub unused : (s : Settings) (w : ServiceWorld) (moment : ℤ) (asked : Asked) (caller : ℕ) (request : Request)
+    → IsCleared s w moment asked caller request → IsUnbroken (RequestIdReused w.kept (caller_name s caller) asked (demand_of request))
+unused s w moment asked caller request h = unbroken s w moment asked caller request h rule.RequestIdReused reused_among
+
 -- what is kept of it has a number for which nothing is kept
 pub kept_free : (s : Settings) (w : ServiceWorld) (moment : ℤ) (asked : Asked) (caller : ℕ) (request : Request) (reply : KeptReply)
     → IsCleared s w moment asked caller request → keep_for s w moment asked caller request ≡ Some reply
@@ -74,8 +79,8 @@ kept_free s w moment asked caller request reply h is =
     let k = kept_is w.rows name _ (effect_for s w moment caller request) reply is in
     let at = numbered_is asked (demand_of request) k.n k.numbered_is in
     let form = asked_is_of_form asked.service asked.method asked.body request h.new.wants.asks in
-    let unused = unbroken s w moment asked caller request h rule.RequestIdReused reused_among in (
+    let reused = unused s w moment asked caller request h in (
       subst IsWord (sym k.number) (number_is_word request k.n.number form at.0),
       subst (λ (c : List ℕ). IsFree w.kept c reply.number) (sym k.caller)
-          (subst (IsFree w.kept name) (sym k.number) (free_number w.kept name asked (demand_of request) k.n.number at.0 h.new.fresh unused)),
+          (subst (IsFree w.kept name) (sym k.number) (free_number w.kept name asked (demand_of request) k.n.number at.0 h.new.fresh reused)),
     )

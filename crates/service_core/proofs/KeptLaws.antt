@@ -33,7 +33,7 @@ pub record IsKeptWell (w : World) (kept : List KeptReply) : Type 0 where
   pub alone : IsAlone kept
   pub stand : All (λ reply. StandsIn w reply.answer) kept
 
-there_at : {A : Type 0} (xs : List A) (i : ℕ) → i < length xs → (x : A) × (slice_get xs i ≡ Some x)
+pub there_at : {A : Type 0} (xs : List A) (i : ℕ) → i < length xs → (x : A) × (slice_get xs i ≡ Some x)
 there_at [] i lt = absurd (omega (arith, lt))
 there_at (x ∷ xs) zero lt = (x, refl)
 there_at (x ∷ xs) (suc i) lt = there_at xs i (omega (arith, lt))

@@ -9,5 +9,6 @@ pub mod FinalLaws
 pub mod FinalityLaws
 pub mod UniqueLaws
 pub mod ThereLaws
+pub mod OnceLaws
 pub mod PlanLaws
 pub mod ServeLaws

@@ -70,7 +70,7 @@ never_refused s w moment asked caller request r accepted (inr is) =
     (subst (λ (q : Request). IsRefusedOf s w moment asked is.0 q r) same_request is.3))
 
 -- what is new is no repeat, whoever is said to want what
-never_repeated : (s : Settings) (w : ServiceWorld) (moment : ℤ) (asked : Asked) (c d : ℕ) (p q : Request) (reply : KeptReply)
+pub never_repeated : (s : Settings) (w : ServiceWorld) (moment : ℤ) (asked : Asked) (c d : ℕ) (p q : Request) (reply : KeptReply)
     → IsNew s w moment asked c p → Wants s asked d q → IsRepeated s w moment asked d q reply → ⊥
 never_repeated s w moment asked c d p q reply new wants again =
     let caller = one_caller s asked d c q p wants new.wants in

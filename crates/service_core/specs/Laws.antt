@@ -1,20 +1,28 @@
 -- Laws of steps and histories.
-use Rattle.std.specs.Prelude.{◌≡◌, ℕ, ℤ, List, [], ◌∷◌, ◌++◌, Some, length, slice_get}
+use Rattle.std.specs.Prelude.{◌≡◌, ◌⊎◌, ℕ, ℤ, List, [], ◌∷◌, ◌++◌, Contains, Some, length, slice_get}
 use Rattle.call_forms.specs.declared.asked.Asked.{Asked}
 use Rattle.call_forms.specs.declared.forms.Answer.{Answer}
 use Rattle.invocations.specs.declared.invocation.Invocation.{Invocation}
-use Rattle.request_rules.specs.Settings.{Settings, HasNames}
+use Rattle.request_rules.specs.Settings.{Settings, HasNames, caller_name}
+use Rattle.request_rules.specs.Demands.{demand_of}
+use Rattle.request_rules.specs.Numbered.{digest_of}
+use Rattle.request_rules.specs.Broken.{Wants}
 use Rattle.request_rules.specs.Named.{place_named}
 use Rattle.request_effects.specs.declared.effect.Effect.{Effect}
 use Rattle.request_effects.specs.declared.effect.Effect.TheVariants as does
 use Rattle.request_effects.specs.Effects.{Does}
+use Rattle.request_effects.specs.Fitting.{IsTimely}
+use Rattle.request_effects.specs.Keeps.{kept_answer}
+use Rattle.call_forms.specs.declared.forms.Told.TheVariants.{Made}
 use Rattle.kept_replies.specs.declared.reply.KeptReply.{KeptReply}
+use Rattle.kept_replies.specs.Kept.{IsFor}
+use Rattle.message_forms.specs.declared.requests.Request.{Request}
 use Rattle.invocation_world.specs.World.{World}
 use Rattle.invocation_world.specs.World as worlds
 use Rattle.invocation_world.specs.Laws.{KeepsFinal}
 use Rattle.service_core.specs.Finality.{AllInTime}
-use Rattle.service_core.specs.Service.{IsValid, ServiceWorld}
-use Rattle.service_core.specs.Step.{Step, moment_of}
+use Rattle.service_core.specs.Service.{CatchesUp, IsValid, ServiceWorld}
+use Rattle.service_core.specs.Step.{Performs, Step, moment_of, scene_of}
 use Rattle.service_core.specs.History.{Entry, Leads, IsLegal, IsTimed}
 
 -- A request at a moment leads from a world to some world, with some answer.
@@ -82,6 +90,49 @@ abbrev pub FinalInTime : Type 0
 FinalInTime =
     (s : Settings) (w : ServiceWorld) (h : List Entry) (v : ServiceWorld)
     → HasNames s → IsValid w → IsLegal s w h v → AllInTime s w h v
+
+-- An accepted request that has a number is kept under it, with its digest, and of what is kept the
+-- answer that it got is made again.
+pub record IsKeptFirst (s : Settings) (w : ServiceWorld) (asked : Asked) (name number : List ℕ)
+    (after : ServiceWorld) (answer : Answer) : Type 0 where
+  pub reply : KeptReply
+  pub kept : after.kept ≡ w.kept ++ reply ∷ []
+  pub own : IsFor name number reply
+  pub digest : reply.digest ≡ digest_of asked
+  pub again : kept_answer (scene_of s after) reply.answer ≡ answer
+
+abbrev pub FirstIsKept : Type 0
+FirstIsKept =
+    (s : Settings) (w : ServiceWorld) (moment : ℤ) (asked : Asked) (after : ServiceWorld)
+    (answer : Answer) (number : List ℕ)
+    → HasNames s → IsTimely w.rows moment → (p : Performs s w moment asked after answer)
+    → (demand_of p.request).number ≡ Some number
+    → IsKeptFirst s w asked (caller_name s p.caller) number after answer
+
+-- What is kept stays, and stands before what is kept later.
+abbrev pub KeptStays : Type 0
+KeptStays =
+    (s : Settings) (w : ServiceWorld) (h : List Entry) (v : ServiceWorld) → IsLegal s w h v
+    → (more : List KeptReply) × (v.kept ≡ w.kept ++ more)
+
+-- An entry changes nothing but that due deadlines are carried out, and tells no answer but this one
+-- where its digest is the one that was kept.
+pub record IsAnsweredAgain (s : Settings) (first : ServiceWorld) (reply : KeptReply)
+    (w : ServiceWorld) (e : Entry) (after : ServiceWorld) : Type 0 where
+  pub unchanged : (after ≡ w) ⊎ CatchesUp w e.moment after
+  pub answer : (answer : Answer) → e.told ≡ Made answer → reply.digest ≡ digest_of e.asked
+      → answer ≡ kept_answer (scene_of s first) reply.answer
+
+-- Each numbered request acts once: however long after it is sent again, by the same caller under
+-- the same number, it changes nothing, and the same request gets the answer that was kept.
+abbrev pub NumbersActOnce : Type 0
+NumbersActOnce =
+    (s : Settings) (w : ServiceWorld) (h : List Entry) (v : ServiceWorld) (e : Entry)
+    (after : ServiceWorld) (reply : KeptReply) (caller : ℕ) (request : Request)
+    → HasNames s → IsValid w → IsLegal s w h v → Leads s v e after
+    → Contains w.kept reply → Wants s e.asked caller request
+    → reply.caller ≡ caller_name s caller → (demand_of request).number ≡ Some reply.number
+    → IsAnsweredAgain s w reply v e after
 
 -- A history of calls whose moments a clock made is legal.
 abbrev pub TimedIsLegal : Type 0

@@ -1,5 +1,5 @@
 //! Laws of steps and histories. These functions do nothing: what each of them ensures is the law.
-ghost use Rattle.service_core.specs.Laws.{FinalInTime, FinalStays, HasSteps, LegalKeepsValid, RowsStay, ShownIsNamed, StepsAreUnique, TimedGoesOn, TimedIsLegal};
+ghost use Rattle.service_core.specs.Laws.{FinalInTime, FinalStays, FirstIsKept, HasSteps, KeptStays, LegalKeepsValid, NumbersActOnce, RowsStay, ShownIsNamed, StepsAreUnique, TimedGoesOn, TimedIsLegal};
 
 /// Each request at a moment leads from each world to some world, with some answer.
 pub fn a_step_is_there()
@@ -36,6 +36,22 @@ pub fn final_stays()
 /// reaches no active one.
 pub fn final_in_time()
     ensures { FinalInTime }
+{}
+
+/// An accepted request that has a number is kept under it, with the answer that it got.
+pub fn first_is_kept()
+    ensures { FirstIsKept }
+{}
+
+/// What is kept stays, and stands before what is kept later.
+pub fn kept_stays()
+    ensures { KeptStays }
+{}
+
+/// Each numbered request acts once: sent again, it changes nothing, and it gets the answer that was
+/// kept.
+pub fn numbers_act_once()
+    ensures { NumbersActOnce }
 {}
 
 /// A history of calls whose moments a clock made is legal.
