@@ -47,7 +47,7 @@ moves_final s w moment after names valid call later h =
 leads_final : (s : Settings) (w : ServiceWorld) (e : Entry) (after : ServiceWorld) → HasNames s → Leads s w e after → IsValid w.rows
     → KeepsFinal w.rows after.rows
 leads_final s w e after names leads valid =
-    elim (tells_moves s w e.moment e.asked e.told after leads.tells) [
+    elim (tells_moves s w e e.told after leads.tells) [
       | inl same ↦ same_final w.rows after.rows (ap (λ (v : ServiceWorld). v.rows) same)
       | inr moves ↦ moves_final s w.rows e.moment after.rows names valid leads.moment leads.later moves
     ]

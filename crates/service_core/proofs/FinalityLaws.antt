@@ -289,14 +289,14 @@ told_in_time : (w : ServiceWorld) (e : Entry) (told : Told) (after : ServiceWorl
 told_in_time w e (Made answer) after made either = made answer refl
 told_in_time w e (Instead standin) after made either = either
 
-answered_moves : (s : Settings) (w : ServiceWorld) (moment : ℤ) (asked : Asked) (told : Told) (answer : Answer) (after : ServiceWorld)
-    → told ≡ Made answer → Tells s w moment asked told after → Moves s w.rows moment after.rows
-answered_moves s w moment asked told answer after is tells =
-    let step : Step s w moment asked after answer = subst (λ (t : Told). Tells s w moment asked t after) is tells in
+answered_moves : (s : Settings) (w : ServiceWorld) (e : Entry) (told : Told) (answer : Answer) (after : ServiceWorld)
+    → told ≡ Made answer → Tells s w e told after → Moves s w.rows e.moment after.rows
+answered_moves s w e told answer after is tells =
+    let step : Step s w e.moment e.asked after answer = subst (λ (t : Told). Tells s w e t after) is tells in
     record {
       between = step.between.rows;
       advances = step.advances.rows;
-      moved = told_moved s step.between moment asked after answer step.judged;
+      moved = told_moved s step.between e.moment e.asked after answer step.judged;
     }
 
 leads_in_time : (s : Settings) (w : ServiceWorld) (e : Entry) (after : ServiceWorld) → HasNames s → services.IsValid w → Leads s w e after
@@ -305,8 +305,8 @@ leads_in_time s w e after names valid leads =
     let right = (leads_valid s w e after names leads valid).rows in
     let in_time : Moves s w.rows e.moment after.rows → IsInTime w.rows e after.rows =
     moves_in_time s w.rows e after.rows names valid.rows leads.moment leads.later right in
-    told_in_time w e e.told after (λ answer is. in_time (answered_moves s w e.moment e.asked e.told answer after is leads.tells))
-    (elim (tells_moves s w e.moment e.asked e.told after leads.tells) [ inl same ↦ inl same | inr moves ↦ inr (in_time moves) ])
+    told_in_time w e e.told after (λ answer is. in_time (answered_moves s w e e.told answer after is leads.tells))
+    (elim (tells_moves s w e e.told after leads.tells) [ inl same ↦ inl same | inr moves ↦ inr (in_time moves) ])
 
 pub final_in_time : FinalInTime
 final_in_time s w [] v names valid end = end

@@ -55,26 +55,26 @@ caught_well w moment after due well =
     subst (IsKeptWell after.rows) (sym due.kept)
     (well_later w.rows after.rows w.kept (advance_stay moment w.rows after.rows due.rows) well)
 
-tells_well : (s : Settings) (w : ServiceWorld) (moment : ℤ) (asked : Asked) (told : Told) (after : ServiceWorld) → Tells s w moment asked told after
+tells_well : (s : Settings) (w : ServiceWorld) (e : Entry) (told : Told) (after : ServiceWorld) → Tells s w e told after
     → IsKeptWell w.rows w.kept → IsKeptWell after.rows after.kept
-tells_well s w moment asked (Made answer) after step well =
-    told_well s step.between moment asked after answer step.judged (caught_well w moment step.between step.advances well)
-tells_well s w moment asked (Instead Memory) after (inl same) well = subst (λ (v : ServiceWorld). IsKeptWell v.rows v.kept) (sym same) well
-tells_well s w moment asked (Instead Memory) after (inr due) well = caught_well w moment after due well
-tells_well s w moment asked (Instead Unavailable) after never well = absurd never
-tells_well s w moment asked (Instead Spent) after never well = absurd never
+tells_well s w e (Made answer) after step well =
+    told_well s step.between e.moment e.asked after answer step.judged (caught_well w e.moment step.between step.advances well)
+tells_well s w e (Instead Memory) after (inl same) well = subst (λ (v : ServiceWorld). IsKeptWell v.rows v.kept) (sym same) well
+tells_well s w e (Instead Memory) after (inr due) well = caught_well w e.moment after due well
+tells_well s w e (Instead Unavailable) after never well = absurd never
+tells_well s w e (Instead Spent) after never well = absurd never
 
 rows_valid : (s : Settings) (w : ServiceWorld) (e : Entry) (after : ServiceWorld) → HasNames s → Leads s w e after → worlds.IsValid w.rows
     → worlds.IsValid after.rows
 rows_valid s w e after names leads valid =
-    elim (tells_moves s w e.moment e.asked e.told after leads.tells) [
+    elim (tells_moves s w e e.told after leads.tells) [
       | inl same ↦ subst (λ (v : ServiceWorld). worlds.IsValid v.rows) (sym same) valid
       | inr moves ↦ moves_valid s w.rows e.moment after.rows names valid leads.moment leads.later moves
     ]
 
 pub leads_valid : (s : Settings) (w : ServiceWorld) (e : Entry) (after : ServiceWorld) → HasNames s → Leads s w e after → IsValid w → IsValid after
 leads_valid s w e after names leads valid =
-    let well = tells_well s w e.moment e.asked e.told after leads.tells (record { alone = valid.alone; stand = valid.stand }) in
+    let well = tells_well s w e e.told after leads.tells (record { alone = valid.alone; stand = valid.stand }) in
     record { rows = rows_valid s w e after names leads valid.rows; alone = well.alone; stand = well.stand }
 
 pub legal_keeps_valid : LegalKeepsValid

@@ -15,7 +15,7 @@ use Rattle.request_effects.specs.Fitting.{IsTimely, Suits}
 use Rattle.request_effects.specs.Full.{TableFull}
 use Rattle.service_core.specs.Service.{ServiceWorld}
 use Rattle.service_core.specs.Step.{IsTold, effect_for, performed, refused, repeated}
-use Rattle.service_core.specs.History.{Tells}
+use Rattle.service_core.specs.History.{Entry, Tells}
 use Rattle.service_core.proofs.ClearedLaws.{accepted_suits}
 
 -- One effect is done, which suits a world at whose moment nothing is due.
@@ -46,16 +46,16 @@ pub record Moves (s : Settings) (w : World) (moment : ℤ) (after : World) : Typ
   pub advances : Advances w moment between
   pub moved : IsMoved s between moment after
 
-pub tells_moves : (s : Settings) (w : ServiceWorld) (moment : ℤ) (asked : Asked) (told : Told) (after : ServiceWorld)
-    → Tells s w moment asked told after → (after ≡ w) ⊎ Moves s w.rows moment after.rows
-tells_moves s w moment asked (Made answer) after step =
+pub tells_moves : (s : Settings) (w : ServiceWorld) (e : Entry) (told : Told) (after : ServiceWorld)
+    → Tells s w e told after → (after ≡ w) ⊎ Moves s w.rows e.moment after.rows
+tells_moves s w e (Made answer) after step =
     inr (record {
       between = step.between.rows;
       advances = step.advances.rows;
-      moved = told_moved s step.between moment asked after answer step.judged;
+      moved = told_moved s step.between e.moment e.asked after answer step.judged;
     })
-tells_moves s w moment asked (Instead Memory) after (inl same) = inl same
-tells_moves s w moment asked (Instead Memory) after (inr due) =
+tells_moves s w e (Instead Memory) after (inl same) = inl same
+tells_moves s w e (Instead Memory) after (inr due) =
     inr (record { between = after.rows; advances = due.rows; moved = inl refl })
-tells_moves s w moment asked (Instead Unavailable) after never = absurd never
-tells_moves s w moment asked (Instead Spent) after never = absurd never
+tells_moves s w e (Instead Unavailable) after never = absurd never
+tells_moves s w e (Instead Spent) after never = absurd never

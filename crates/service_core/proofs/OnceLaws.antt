@@ -62,20 +62,20 @@ told_keeps s w moment asked after answer (performed p) =
     let more = kept_with w.kept (keep_for s w moment asked p.caller p.request) in
     (more.0, p.acts.kept ∙ more.1)
 
-tells_keeps : (s : Settings) (w : ServiceWorld) (moment : ℤ) (asked : Asked) (told : Told) (after : ServiceWorld)
-    → Tells s w moment asked told after → (more : List KeptReply) × (after.kept ≡ w.kept ++ more)
-tells_keeps s w moment asked (Made answer) after step =
-    let more = told_keeps s step.between moment asked after answer step.judged in
+tells_keeps : (s : Settings) (w : ServiceWorld) (e : Entry) (told : Told) (after : ServiceWorld)
+    → Tells s w e told after → (more : List KeptReply) × (after.kept ≡ w.kept ++ more)
+tells_keeps s w e (Made answer) after step =
+    let more = told_keeps s step.between e.moment e.asked after answer step.judged in
     (more.0, more.1 ∙ ap (λ (k : List KeptReply). k ++ more.0) step.advances.kept)
-tells_keeps s w moment asked (Instead Memory) after (inl same) = ([], ap (λ (v : ServiceWorld). v.kept) same ∙ sym (append-nil w.kept))
-tells_keeps s w moment asked (Instead Memory) after (inr due) = ([], due.kept ∙ sym (append-nil w.kept))
-tells_keeps s w moment asked (Instead Unavailable) after never = absurd never
-tells_keeps s w moment asked (Instead Spent) after never = absurd never
+tells_keeps s w e (Instead Memory) after (inl same) = ([], ap (λ (v : ServiceWorld). v.kept) same ∙ sym (append-nil w.kept))
+tells_keeps s w e (Instead Memory) after (inr due) = ([], due.kept ∙ sym (append-nil w.kept))
+tells_keeps s w e (Instead Unavailable) after never = absurd never
+tells_keeps s w e (Instead Spent) after never = absurd never
 
 pub kept_stays : KeptStays
 kept_stays s w [] v end = ([], ap (λ (u : ServiceWorld). u.kept) end ∙ sym (append-nil w.kept))
 kept_stays s w (e ∷ h) v legal =
-    let first = tells_keeps s w e.moment e.asked e.told legal.0 legal.1.tells in
+    let first = tells_keeps s w e e.told legal.0 legal.1.tells in
     let rest = kept_stays s legal.0 h v legal.2 in
     (first.0 ++ rest.0, rest.1 ∙ (ap (λ (k : List KeptReply). k ++ rest.0) first.1 ∙ append_assoc w.kept first.0 rest.0))
 
@@ -161,31 +161,31 @@ told_again s w moment asked after answer caller request reply (performed p) want
     (subst (λ (c : ℕ). kept_for w.kept (caller_name s c) (demand_of p.request) ≡ Some reply) callers
     (subst (λ (q : Request). kept_for w.kept (caller_name s caller) (demand_of q) ≡ Some reply) requests found)))
 
-abbrev IsAgain : Settings → ServiceWorld → KeptReply → ServiceWorld → ℤ → Asked → Told → ServiceWorld → Type 0
-IsAgain s first reply w moment asked told after =
-    ((after ≡ w) ⊎ CatchesUp w moment after)
-    × ((answer : Answer) → told ≡ Made answer → reply.digest ≡ digest_of asked → answer ≡ kept_answer (scene_of s first) reply.answer)
+abbrev IsAgain : Settings → ServiceWorld → KeptReply → ServiceWorld → Entry → Told → ServiceWorld → Type 0
+IsAgain s first reply w e told after =
+    ((after ≡ w) ⊎ CatchesUp w e.moment after)
+    × ((answer : Answer) → told ≡ Made answer → reply.digest ≡ digest_of e.asked → answer ≡ kept_answer (scene_of s first) reply.answer)
 
-tells_again : (s : Settings) (first w : ServiceWorld) (moment : ℤ) (asked : Asked) (told : Told) (after : ServiceWorld) (caller : ℕ)
+tells_again : (s : Settings) (first w : ServiceWorld) (e : Entry) (told : Told) (after : ServiceWorld) (caller : ℕ)
     (request : Request) (reply : KeptReply) → AllStay first.rows.invocations w.rows.invocations → StandsIn first.rows reply.answer
-    → Tells s w moment asked told after → Wants s asked caller request → (demand_of request).number ≡ Some reply.number
-    → kept_for w.kept (caller_name s caller) (demand_of request) ≡ Some reply → IsAgain s first reply w moment asked told after
-tells_again s first w moment asked (Made given) after caller request reply stay stands step wants shows found =
+    → Tells s w e told after → Wants s e.asked caller request → (demand_of request).number ≡ Some reply.number
+    → kept_for w.kept (caller_name s caller) (demand_of request) ≡ Some reply → IsAgain s first reply w e told after
+tells_again s first w e (Made given) after caller request reply stay stands step wants shows found =
     let between = step.between in
     let here = subst (λ (k : List KeptReply). kept_for k (caller_name s caller) (demand_of request) ≡ Some reply) (sym step.advances.kept) found in
-    let again = told_again s between moment asked after given caller request reply step.judged wants shows here in
+    let again = told_again s between e.moment e.asked after given caller request reply step.judged wants shows here in
     let lasts = answer_lasts s first between reply.answer
-    (stay_both first.rows.invocations w.rows.invocations between.rows.invocations stay (advance_stay moment w.rows between.rows step.advances.rows)) stands in (
-      inr (subst (CatchesUp w moment) (sym again.0) step.advances),
+    (stay_both first.rows.invocations w.rows.invocations between.rows.invocations stay (advance_stay e.moment w.rows between.rows step.advances.rows)) stands in (
+      inr (subst (CatchesUp w e.moment) (sym again.0) step.advances),
       λ answer is same.
           let told_is : Made given ≡ Made answer = is in
           let answers : given ≡ answer = cc in
           sym answers ∙ (again.1 same ∙ lasts),
     )
-tells_again s first w moment asked (Instead Memory) after caller request reply stay stands nothing wants shows found =
+tells_again s first w e (Instead Memory) after caller request reply stay stands nothing wants shows found =
     (nothing, λ answer is same. let no : Instead Memory ≡ Made answer = is in absurd cc)
-tells_again s first w moment asked (Instead Unavailable) after caller request reply stay stands never wants shows found = absurd never
-tells_again s first w moment asked (Instead Spent) after caller request reply stay stands never wants shows found = absurd never
+tells_again s first w e (Instead Unavailable) after caller request reply stay stands never wants shows found = absurd never
+tells_again s first w e (Instead Spent) after caller request reply stay stands never wants shows found = absurd never
 
 pub numbers_act_once : NumbersActOnce
 numbers_act_once s w h v e after reply caller request names valid legal leads kept wants name shows =
@@ -195,7 +195,7 @@ numbers_act_once s w h v e after reply caller request names valid legal leads ke
     let there : slice_get v.kept at.0 ≡ Some reply =
     ap (λ (k : List KeptReply). slice_get k at.0) more.1 ∙ in_front w.kept more.0 at.0 reply at.1 in
     let stands = All-contains (λ (r : KeptReply). StandsIn w.rows r.answer) w.kept reply valid.stand kept in
-    let again = tells_again s w v e.moment e.asked e.told after caller request reply (rows_stay s w h v legal) stands leads.tells wants shows
+    let again = tells_again s w v e e.told after caller request reply (rows_stay s w h v legal) stands leads.tells wants shows
     (found_later s v caller request reply at.0 later.alone there name shows) in
     record { unchanged = again.0; answer = again.1 }
 

@@ -33,7 +33,7 @@ use Rattle.service_core.specs.Plans.{Carries, Works}
 use Rattle.service_core.specs.Service.{CatchesUp, ServiceWorld}
 use Rattle.service_core.specs.Step.{IsJudgedAs, IsNew, Refuses, Repeats, moment_of, scene_of}
 use Rattle.service_core.specs.Judged.{IsAnswered}
-use Rattle.service_core.specs.History.{Leads, Tells, entry_at}
+use Rattle.service_core.specs.History.{Entry, Leads, Tells, entry_at}
 use Rattle.service_core.proofs.HistoryLaws.{advanced_timely}
 
 -- due deadlines that were carried out by a plan that keeps nothing
@@ -113,23 +113,25 @@ repeats_as s w moment asked call place answer is at told = record {
   answer_is = told;
 }
 
-told_after : (s : Settings) (w between after : ServiceWorld) (moment : ℤ) (asked : Asked) → CatchesUp w moment between → (told : Told)
-    → IsAnswered s between moment asked told after → Tells s w moment asked told after
-told_after s w between after moment asked due (Made answer) answered = record { between = between; advances = due; judged = answered }
-told_after s w between after moment asked due (Instead Memory) answered = inr (subst (CatchesUp w moment) (sym answered) due)
-told_after s w between after moment asked due (Instead Unavailable) answered = absurd answered
-told_after s w between after moment asked due (Instead Spent) answered = absurd answered
+told_after : (s : Settings) (w between after : ServiceWorld) (e : Entry) → CatchesUp w e.moment between → (told : Told)
+    → IsAnswered s between e.moment e.asked told after → Tells s w e told after
+told_after s w between after e due (Made answer) answered = record { between = between; advances = due; judged = answered }
+told_after s w between after e due (Instead Memory) answered = inr (subst (CatchesUp w e.moment) (sym answered) due)
+told_after s w between after e due (Instead Unavailable) answered = absurd answered
+told_after s w between after e due (Instead Spent) answered = absurd answered
 
 -- what is answered after what was due is served
 pub serves_after : (s : Settings) (w between after : ServiceWorld) (seat : ℕ) (now moment : ℤ) (asked : Asked) (told : Told)
     → moment ≡ moment_of w.rows.last now → IsCallMoment moment → w.rows.last ≤ℤ moment → CatchesUp w moment between
     → IsAnswered s between moment asked told after → Leads s w (entry_at w seat now asked told) after
 serves_after s w between after seat now moment asked told is call later due answered =
-    let tells : (told : Told) → IsAnswered s between moment asked told after → Tells s w moment asked told after = told_after s w between after moment asked due in
+    let e : Entry = entry_at w seat now asked told in
     record {
       moment = subst IsCallMoment is call;
       later = subst (λ (t : ℤ). w.rows.last ≤ℤ t) is later;
-      tells = subst (λ (t : ℤ). Tells s w t asked told after) is (tells told answered);
+      tells = told_after s w between after e (subst (λ (t : ℤ). CatchesUp w t between) is due) told
+          (subst (λ (t : ℤ). IsAnswered s between t asked told after) is answered);
+      still = refl;
     }
 
 -- want of memory leaves the world, and is served
@@ -139,4 +141,5 @@ serves_nothing s w after seat now moment asked is call later same = record {
   moment = subst IsCallMoment is call;
   later = subst (λ (t : ℤ). w.rows.last ≤ℤ t) is later;
   tells = inl same;
+  still = refl;
 }

@@ -168,7 +168,7 @@ moves_stay s w moment after h =
 pub leads_stay : (s : Settings) (w : ServiceWorld) (e : Entry) (after : ServiceWorld) → Leads s w e after
     → AllStay w.rows.invocations after.rows.invocations
 leads_stay s w e after leads =
-    elim (tells_moves s w e.moment e.asked e.told after leads.tells) [
+    elim (tells_moves s w e e.told after leads.tells) [
       | inl same ↦ stay_same w.rows.invocations after.rows.invocations (ap (λ (v : ServiceWorld). v.rows.invocations) same)
       | inr moves ↦ moves_stay s w.rows e.moment after.rows moves
     ]

@@ -1,17 +1,21 @@
 -- When rows become final, over whole histories.
 use Rattle.std.specs.Prelude.{◌≡◌, ◌⊎◌, ℕ, ℤ, List, [], ◌∷◌, Some, slice_get}
 use Rattle.names_realms.specs.declared.states.State.TheVariants.{Finalizing, Finalized}
-use Rattle.finaliser.specs.Settling as finaliser
 use Rattle.inclusion_graph.specs.declared.edge.Edge.{Edge}
 use Rattle.invocations.specs.declared.invocation.Invocation.{Invocation}
-use Rattle.invocations.specs.Rows.{IsInState, ended, states_of}
+use Rattle.invocations.specs.Rows.{IsInState, ended}
 use Rattle.call_forms.specs.declared.forms.Told.{Told}
 use Rattle.call_forms.specs.declared.forms.Told.TheVariants.{Made, Standin as Instead}
-use Rattle.invocation_world.specs.World.{World}
+use Rattle.invocation_world.specs.World.{World, ReachesActive}
 use Rattle.invocation_world.specs.Advancing.{AreQuiet, IsLeast}
 use Rattle.request_rules.specs.Settings.{Settings}
 use Rattle.service_core.specs.History.{Entry, Leads}
 use Rattle.service_core.specs.Service.{ServiceWorld}
+
+-- these rows and inclusions, which changed last at this time
+abbrev pub rows_with : List Edge → ℤ → List Invocation → World
+rows_with inclusions time rows =
+    record { invocations = rows; inclusions = inclusions; last = time }
 
 -- One change, at this time. A row that was finalizing stays as it is, or it is ended at this time.
 -- Afterwards a finalizing row reaches an active one, and a final row reaches none. So a row whose
@@ -24,9 +28,9 @@ pub record EndsInTime (inclusions : List Edge) (time : ℤ) (before after : List
       → row.state ≡ Finalizing
       → (slice_get after place ≡ Some row) ⊎ (slice_get after place ≡ Some (ended time row))
   pub waiting : (place : ℕ) → IsInState Finalizing after place
-      → finaliser.ReachesActive inclusions (states_of after) place
+      → ReachesActive (rows_with inclusions time after) place
   pub ended : (place : ℕ) → IsInState Finalized after place
-      → ¬ finaliser.ReachesActive inclusions (states_of after) place
+      → ¬ ReachesActive (rows_with inclusions time after) place
   pub in_time : (place : ℕ) (row : Invocation) → slice_get after place ≡ Some row
       → row.state ≡ Finalized → (¬ IsInState Finalized before place) → row.finished ≡ Some time
   pub stays : (place : ℕ) (row : Invocation) → slice_get before place ≡ Some row
