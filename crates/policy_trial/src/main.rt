@@ -1,8 +1,8 @@
 //! Reads configurations from the input, and prints what becomes of each, and who may do what by it. For trials alone.
 //!
 //! A line `----` parts two configurations. A comment `# ask TOKEN REALM` of one that is read asks which permissions the
-//! token's user has in the realm: a letter each is printed, in the order of the list. A comment `# realms TOKEN REALM..`
-//! asks by one pass in which of these realms the user may read artifacts: a letter each is printed.
+//! token's user has in the realm: `may` is printed, and their names. A comment `# realms TOKEN REALM..` asks by one pass
+//! in which of these realms the user may read artifacts: a letter each is printed.
 #![tactic(auto)]
 
 #[cfg(test)]
@@ -18,20 +18,20 @@ use std::io::Write;
 use std::process::ExitCode;
 use whole_reads::read_front;
 
-/// The permissions in the order of the letters.
-const PERMISSIONS: [Permission; 12] = [
-    Permission::CreateInvocation,
-    Permission::CreateWithReservedId,
-    Permission::GetInvocation,
-    Permission::IncludeInvocation,
-    Permission::GetTestResult,
-    Permission::ListTestResults,
-    Permission::ListLimitedTestResults,
-    Permission::GetTestExoneration,
-    Permission::ListTestExonerations,
-    Permission::ListLimitedTestExonerations,
-    Permission::GetArtifact,
-    Permission::ListArtifacts,
+/// The names of the permissions, in the order in which they are told.
+const NAMES: [&str; 12] = [
+    "resultdb.invocations.create",
+    "resultdb.invocations.createWithReservedID",
+    "resultdb.invocations.get",
+    "resultdb.invocations.include",
+    "resultdb.testResults.get",
+    "resultdb.testResults.list",
+    "resultdb.testResults.listLimited",
+    "resultdb.testExonerations.get",
+    "resultdb.testExonerations.list",
+    "resultdb.testExonerations.listLimited",
+    "resultdb.artifacts.get",
+    "resultdb.artifacts.list",
 ];
 
 /// One byte more than a configuration may have.
@@ -64,7 +64,7 @@ fn tell_fault(alloc: Global, fault: &PolicyFault, out: &mut Vec<u8>) -> Result<(
     out.extend_from_slice(b"\n")
 }
 
-/// The letters of what the owner of a token may do in a realm.
+/// The names of what the owner of a token may do in a realm.
 fn tell_rights(
     alloc: Global,
     policy: &Policy,
@@ -78,13 +78,15 @@ fn tell_rights(
     let Some(caller) = policy.caller_of(token.as_bytes()) else {
         return out.extend_from_slice(b"no caller\n");
     };
-    for permission in PERMISSIONS {
-        let letter = if policy.allows(caller, permission, &realm) {
-            b"x"
-        } else {
-            b"-"
+    out.extend_from_slice(b"may")?;
+    for name in NAMES {
+        let Some(permission) = Permission::from_text(name.as_bytes()) else {
+            return out.extend_from_slice(b" ?\n");
         };
-        out.extend_from_slice(letter)?;
+        if policy.allows(caller, permission, &realm) {
+            out.extend_from_slice(b" ")?;
+            out.extend_from_slice(name.as_bytes())?;
+        }
     }
     out.extend_from_slice(b"\n")
 }
