@@ -1,1 +1,3 @@
 pub mod MomentLaws
+pub mod WholeLaws
+pub mod AheadLaws

@@ -5,3 +5,5 @@ pub mod States
 pub mod PartStates
 pub mod Memories
 pub mod Files
+pub mod Whole
+pub mod Aheads

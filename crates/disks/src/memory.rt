@@ -8,6 +8,7 @@ ghost use Rattle.disks.specs.Calls.{WhereTold, Gives, Writes, Cuts, Syncs};
 ghost use Rattle.disks.specs.PartStates.{state};
 ghost use Rattle.disks.specs.Memories.{told_by, parts_by, advanced, WorksNow};
 
+use crate::give::give;
 use crate::part_state::PartState;
 use crate::{Disk, Failed};
 use fault_counts::{Count, Outcome, Schedule};
@@ -244,18 +245,4 @@ impl Disk for MemoryDisk {
             Err(_) => self.faults.failed(),
         }
     }
-}
-
-// Gives bytes from a place on.
-fn give(bytes: &[u8], at: u64, room: &mut [u8]) -> usize
-    ensures bound { result ≤ length room.new }
-    ensures gives { Gives bytes.now at room.new result }
-{
-    if at >= bytes.len() as u64 {
-        return 0;
-    }
-    let left = &bytes[at as usize..];
-    let count = left.len().min(room.len());
-    room[..count].copy_from_slice(&left[..count]);
-    count
 }

@@ -1,5 +1,6 @@
 //! Disks in memory and over files.
 ghost use Rattle.std.specs.Prelude.{◌≡◌, ◌≤◌, length};
+ghost use Rattle.disks.specs.Aheads.{HoldsNothing};
 
 use crate::*;
 use std::alloc::{AllocError, Allocator, Global};
@@ -333,5 +334,34 @@ fn files_are_written_whole_and_synced(rt: HostRuntime) -> Result<(), Fail> {
         assert_eq!(rt; [script.syncs.get(), script.folder_syncs.get()], syncs);
         assert_eq!(rt; disk.faults() == 0, works == [true, true, true]);
     }
+    Ok(())
+}
+
+/// The first and the last two bytes of six, what stands behind them, and the last and one more.
+fn read_through<D: Disk>(
+    disk: &mut D,
+    ahead: &mut ReadAhead,
+    room: &mut [u8; 4],
+) -> [Option<bool>; 4]
+    requires { HoldsNothing ahead.old }
+{
+    let first = ahead.read_exact_at(disk, 0, 0, &mut room[..2]).ok();
+    let last = ahead.read_exact_at(disk, 0, 4, &mut room[2..]).ok();
+    let mut none = [0u8; 2];
+    let behind = ahead.read_exact_at(disk, 0, 6, &mut none).ok();
+    let half = ahead.read_exact_at(disk, 0, 5, &mut none).ok();
+    [first, last, behind, half]
+}
+
+#[test]
+fn what_is_held_is_not_read_again(rt: HostRuntime) -> Result<(), Fail> {
+    // The second call on the disk is the one behind the six bytes.
+    let mut disk = disk_of(rt.alloc(), b"abcdef", &[2], None)?;
+    let mut ahead = ReadAhead::new(rt.alloc())?;
+    let mut room = [0u8; 4];
+    let answers = read_through(&mut disk, &mut ahead, &mut room);
+    assert_eq!(rt; answers, [Some(true), Some(true), None, Some(false)]);
+    assert_eq!(rt; (room, disk.faults()), (*b"abef", 1));
+    ahead.forget();
     Ok(())
 }

@@ -5,7 +5,7 @@ use Rattle.disks.specs.Parts.{Part, Parts, Image, IsPartImage, MayLeave, all_syn
 use Rattle.disks.specs.Moments.{Told, moment, after, LeftBy, AtEachMoment}
 use Rattle.disks.specs.Calls.{MayHaveBegun, Writes, Cuts, Syncs, ReadsAsImage}
 use Rattle.disks.proofs.MomentLaws.{only_now, at_first, at_next, at_both}
-use Rattle.result_journal.specs.Whole.{FillsRoom}
+use Rattle.disks.specs.Whole.{FillsRoom}
 use Rattle.result_journal.specs.Grammar.{head, IsOfHead, Bodies, LongReads, Reads}
 use Rattle.result_journal.specs.Openings.{LeftBeforeOrAlike, ReadsAlike, AlikeOnceSynced, Shows, ShownWhereTold}
 use Rattle.result_journal.specs.Begins.{IsShort, IsShortImage, IsHead, HeadFault, IsEmptyJournal, BeginsAs}
@@ -250,3 +250,14 @@ begun_anew E old mid bytes size syncs small long not_empty is t here =
       empty = λ empty. absurd (not_empty next mid_is empty);
       anew = λ few not. is;
     }
+
+-- Where nothing was done, no moment is a later one.
+not_synced : (old : Option Told) → Syncs {E = Unit {0}} 0 old (Err tt) old
+not_synced None = refl
+not_synced (Some t) = refl
+
+pub unchanged_moments : (old : Option Told) → AtEachMoment old old (LeftBeforeOrAlike old)
+unchanged_moments old = sync_moments old old (Err tt) (not_synced old)
+
+pub unchanged_alike : (old : Option Told) → AlikeOnceSynced old old
+unchanged_alike old = failed_sync_alike old old tt (not_synced old)

@@ -4,7 +4,6 @@ pub mod FrontLaws
 pub mod StandLaws
 pub mod StepLaws
 pub mod JournalLaws
-pub mod WholeLaws
 pub mod OpenLaws
 pub mod BeginLaws
 pub mod OtherLaws

@@ -3,12 +3,13 @@ use Rattle.std.proofs.Common.{◌≡◌, ◌≢◌, inl, inr, ℕ, ◌+◌, ◌-
 use Rattle.std.proofs.lemmas.List.{drop-take, get_or-take, get_or-drop, length-drop, drop_more, take_at, length-take-le}
 use Rattle.std.proofs.lemmas.Bool.{cases_lt}
 use Rattle.std.specs.Int.{w32, from_le_bytes}
-use Rattle.result_journal.specs.Whole.{FillsRoom}
+use Rattle.disks.specs.Whole.{FillsRoom}
 use Rattle.result_journal.specs.Grammar.{head, records, framed, IsBody, AreBodies, BeginsFramed, Bodies, Broken, Reads}
 use Rattle.result_journal.specs.Journals.{before_gate, StandsBut, StandsFor}
 use Rattle.disks.specs.Parts.{Part}
 use Rattle.result_journal.specs.Openings.{IsWholeAt, IsBrokenAt, HasGiven, FindsLength, BrokenFault, IfFits, ShownWhereTold}
 use Rattle.disks.specs.Moments.{Told}
+use Rattle.disks.specs.Aheads.{IsAheadOf}
 use Rattle.result_journal.specs.declared.journal.Standing.TheVariants.{Settled}
 use Rattle.result_journal.specs.declared.opening.Opening.{Opening}
 use Rattle.result_journal.specs.declared.opening.OpenFault.{OpenFault}
@@ -137,29 +138,31 @@ module _ (bytes : List ℕ) (given : List (List ℕ)) (place : ℕ) (are : AreBo
 
 -- An opening on the same disk has given the same.
 pub same_opening : {D : Type 0} (told : D → Option Told) (old new : Opening D) (given : List (List ℕ)) →
-    new ≡ record old { disk = new.disk } → told new.disk ≡ told old.disk → HasGiven told old given →
-    HasGiven told new given
-same_opening told old new given same same_told h =
+    new ≡ record old { disk = new.disk; ahead = new.ahead } → told new.disk ≡ told old.disk →
+    IsAheadOf (told old.disk) 0 new.ahead → HasGiven told old given → HasGiven told new given
+same_opening told old new given same same_told ahead h =
     subst (λ (o : Opening _). HasGiven told o given) (sym same) (record {
       behind_head = h.behind_head;
       inside = h.inside;
+      ahead = λ t is. ahead t (sym same_told ∙ is);
       on_disk = λ t is. h.on_disk t (sym same_told ∙ is);
       when_ended = λ ended t is. h.when_ended ended t (sym same_told ∙ is);
     })
 
 -- At a closed gate it is ended.
 pub ended_opening : {D : Type 0} (told : D → Option Told) (old new : Opening D) (given : List (List ℕ)) →
-    new ≡ record old { disk = new.disk } → told new.disk ≡ told old.disk → HasGiven told old given →
-    (found : Option ℕ) → found ≡ None → ((t : Told) → told old.disk ≡ Some t → old.size ≡ length t.now.first.bytes →
+    new ≡ record old { disk = new.disk; ahead = new.ahead } → told new.disk ≡ told old.disk →
+    IsAheadOf (told old.disk) 0 new.ahead → HasGiven told old given → (found : Option ℕ) → found ≡ None → ((t : Told) → told old.disk ≡ Some t → old.size ≡ length t.now.first.bytes →
     FindsLength t.now.first.bytes old.place found) →
     HasGiven told (record new { is_ended = true }) given
-ended_opening told old new given same same_told h found none finds =
+ended_opening told old new given same same_told ahead h found none finds =
     let at : (t : Told) → told old.disk ≡ Some t → get_or t.now.first.bytes old.place 0 ≢ 1 =
     λ t is. subst (λ (f : Option ℕ). FindsLength t.now.first.bytes old.place f) none
     (finds t is (h.on_disk t is).whole) in
     subst (λ (o : Opening _). HasGiven told (record o { is_ended = true }) given) (sym same) (record {
       behind_head = h.behind_head;
       inside = h.inside;
+      ahead = λ t is. ahead t (sym same_told ∙ is);
       on_disk = λ t is. h.on_disk t (sym same_told ∙ is);
       when_ended = λ _ t is. at t (sym same_told ∙ is);
     })
@@ -190,17 +193,19 @@ broken_shown told old given h Memory finds t is = tt
 
 -- A whole record is given.
 pub given_opening : {D : Type 0} (told : D → Option Told) (old new : Opening D) (given : List (List ℕ)) (count : ℕ)
-    (body : List ℕ) → new ≡ record old { disk = new.disk } → told new.disk ≡ told old.disk → HasGiven told old given →
+    (body : List ℕ) → new ≡ record old { disk = new.disk; ahead = new.ahead } → told new.disk ≡ told old.disk →
+    IsAheadOf (told old.disk) 0 new.ahead → HasGiven told old given →
     old.place + 5 + count < old.size → old.is_ended ≡ false →
     ((t : Told) → told old.disk ≡ Some t → old.size ≡ length t.now.first.bytes →
     IsWholeAt t.now.first.bytes old.place count) →
     ((t : Told) → told old.disk ≡ Some t → body ≡ take count (drop (old.place + 5) t.now.first.bytes)) →
     HasGiven told (record new { place = new.place + 5 + count }) (given ++ body ∷ [])
-given_opening told old new given count body same same_told h inside going finds read =
+given_opening told old new given count body same same_told ahead h inside going finds read =
     subst (λ (o : Opening _). HasGiven told (record o { place = o.place + 5 + count }) (given ++ body ∷ [])) (sym same)
     (record {
       behind_head = omega (arith, h.behind_head);
       inside = inside;
+      ahead = λ t is. ahead t (sym same_told ∙ is);
       on_disk = λ t is.
           let b = h.on_disk t (sym same_told ∙ is) in
           let more = given_more t.now.first.bytes given old.place b.are_bodies b.before b.after_records count body
@@ -221,6 +226,7 @@ pub going_opening : {D : Type 0} (told : D → Option Told) (old : Opening D) (g
 going_opening told old given h = record {
   behind_head = h.behind_head;
   inside = h.inside;
+  ahead = h.ahead;
   on_disk = h.on_disk;
   when_ended = λ ended. absurd (cc);
 }
@@ -239,6 +245,7 @@ pub restarted : {D : Type 0} (told : D → Option Told) (old : Opening D) (given
 restarted told old given h = record {
   behind_head = omega arith;
   inside = omega (arith, h.behind_head, h.inside);
+  ahead = h.ahead;
   on_disk = λ t is.
       let b = h.on_disk t is in
       record {
@@ -254,20 +261,22 @@ restarted told old given h = record {
 
 pub given_next : {D : Type 0} (told : D → Option Told) (old mid new : Opening D) (given : List (List ℕ))
     (found : Option ℕ) (count : ℕ) (body : List ℕ) → HasGiven told old given → old.is_ended ≡ false →
-    mid ≡ record old { disk = mid.disk } → told mid.disk ≡ told old.disk →
-    new ≡ record mid { disk = new.disk } → told new.disk ≡ told mid.disk →
+    mid ≡ record old { disk = mid.disk; ahead = mid.ahead } → told mid.disk ≡ told old.disk →
+    IsAheadOf (told old.disk) 0 mid.ahead → new ≡ record mid { disk = new.disk; ahead = new.ahead } →
+    told new.disk ≡ told mid.disk → IsAheadOf (told mid.disk) 0 new.ahead →
     found ≡ Some count → IfFits old.place old.size found →
     ((t : Told) → told old.disk ≡ Some t → old.size ≡ length t.now.first.bytes →
     FindsLength t.now.first.bytes old.place found) →
     ((t : Told) → told mid.disk ≡ Some t → body ≡ take count (drop (mid.place + 5) t.now.first.bytes)) →
     HasGiven told (record new { place = new.place + 5 + count }) (given ++ body ∷ [])
-given_next {D} told old mid new given found count body h going same_mid told_mid same_new told_new is fits finds read =
+given_next {D} told old mid new given found count body h going same_mid told_mid ahead_mid same_new told_new ahead_new is fits finds read =
     let places : mid.place ≡ old.place = ap (λ (o : Opening D). o.place) same_mid in
     let sizes : mid.size ≡ old.size = ap (λ (o : Opening D). o.size) same_mid in
     let ends : mid.is_ended ≡ false = ap (λ (o : Opening D). o.is_ended) same_mid ∙ going in
     let whole : IfFits old.place old.size (Some count) =
     subst (λ (f : Option ℕ). IfFits old.place old.size f) is fits in
-    given_opening told mid new given count body same_new told_new (same_opening told old mid given same_mid told_mid h)
+    given_opening told mid new given count body same_new told_new ahead_new
+    (same_opening told old mid given same_mid told_mid ahead_mid h)
     (omega (arith, whole.2, places, sizes)) ends
     (λ t here long. subst (λ (p : ℕ). IsWholeAt t.now.first.bytes p count) (sym places)
     (subst (λ (f : Option ℕ). FindsLength t.now.first.bytes old.place f) is

@@ -1,6 +1,6 @@
 -- Part 1 at the moments of calls on part 0.
-use Rattle.std.proofs.Common.{◌≡◌, ◌⊎◌, ⊎_elim, ℕ, Option, None, Some, Result, Ok, Err, List, length, refl, sym, ◌∙◌, ap, subst}
-use Rattle.disks.specs.Parts.{Part, Image, IsPartImage, MayLeave, write_begun, cut_begun}
+use Rattle.std.proofs.Common.{◌≡◌, ⊎_elim, ℕ, Option, None, Some, Result, Ok, Err, List, length, refl, sym, ◌∙◌, ap, subst}
+use Rattle.disks.specs.Parts.{Part, Image, IsPartImage, write_begun, cut_begun}
 use Rattle.disks.specs.Moments.{Told, after, AtEachMoment}
 use Rattle.disks.specs.Calls.{MayHaveBegun, Writes, Cuts, Syncs}
 use Rattle.disks.proofs.MomentLaws.{at_first, at_next, at_both}

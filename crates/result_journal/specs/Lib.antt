@@ -2,6 +2,5 @@ pub mod Grammar
 pub mod Journals
 pub mod Steps
 pub mod Full
-pub mod Whole
 pub mod Openings
 pub mod Begins

@@ -5,6 +5,7 @@ use Rattle.std.specs.Int.{w32, to_le_bytes}
 use Rattle.fault_counts.specs.Causes.{Rose}
 use Rattle.disks.specs.Parts.{Part, Image, MayLeave, all_synced}
 use Rattle.disks.specs.Moments.{Told, moment, LeftSince}
+use Rattle.disks.specs.Aheads.{IsAheadOf}
 use Rattle.result_journal.specs.Grammar.{AreBodies, BeginsFramed, Reading, Foreign, Newer, Broken, Reads}
 use Rattle.result_journal.specs.Journals.{before_gate}
 use Rattle.result_journal.specs.Begins.{BeginsAs}
@@ -25,6 +26,7 @@ pub record IsBehind (part : Part) (given : List (List ℕ)) (place size : ℕ) :
 pub record HasGiven {D : Type 0} (told : D → Option Told) (opening : Opening D) (given : List (List ℕ)) : Type 0 where
   pub behind_head : 8 ≤ opening.place
   pub inside : opening.place < opening.size
+  pub ahead : IsAheadOf (told opening.disk) 0 opening.ahead
   pub on_disk : (t : Told) → told opening.disk ≡ Some t → IsBehind t.now.first given opening.place opening.size
   pub when_ended : opening.is_ended ≡ true → (t : Told) → told opening.disk ≡ Some t →
       slice_index t.now.first.bytes opening.place ≢ 1

@@ -3,14 +3,14 @@ ghost use Rattle.std.specs.Prelude.{◌≡◌, ℕ, ◌+◌, ◌<◌, ◌≤◌,
 ghost use Rattle.fault_counts.specs.Causes.{HasCause};
 ghost use Rattle.disks.specs.Moments.{Told, AtEachMoment};
 ghost use Rattle.disks.specs.Calls.{WhereTold};
+ghost use Rattle.disks.specs.Aheads.{IsAheadOf};
 ghost use Rattle.result_journal.specs.Grammar.{head, IsOfHead};
 ghost use Rattle.result_journal.specs.Begins.{IsEmptyJournal, IsShort, IsShortImage, HoldsSynced, IsHead, HeadFault};
 ghost use Rattle.result_journal.specs.Openings.{CountsOpening};
 ghost use Rattle.result_journal.specs.Steps.{OtherStays};
 
 use crate::opening::OpenFault;
-use crate::read_whole::read_whole;
-use disks::Disk;
+use disks::{Disk, ReadAhead};
 use fault_counts::Failed;
 
 /// The name and version 1, and a closed gate.
@@ -32,7 +32,13 @@ pub fn write_empty_journal<D: Disk>(disk: &mut D) -> Result<(), Failed>
 }
 
 // Whether a part of this size is an empty journal already.
-pub fn is_empty_journal<D: Disk>(disk: &mut D, size: u64) -> Result<bool, Failed>
+pub fn is_empty_journal<D: Disk>(
+    disk: &mut D,
+    ahead: &mut ReadAhead,
+    size: u64,
+) -> Result<bool, Failed>
+    requires { IsAheadOf (D.told disk.old) 0 ahead.old }
+    ensures ahead { IsAheadOf (D.told disk.old) 0 ahead.new }
     ensures told { D.told disk.new ≡ D.told disk.old }
     ensures empty { WhereTold (D.told disk.old) 0 (λ p. size ≡ length p.bytes →
         IfOk result (λ empty. IsTrue empty ↔ IsEmptyJournal p.bytes)) }
@@ -42,19 +48,21 @@ pub fn is_empty_journal<D: Disk>(disk: &mut D, size: u64) -> Result<bool, Failed
         return Ok(false);
     }
     let mut bytes = [0u8; 9];
-    let whole = read_whole(disk, 0, &mut bytes)?;
+    let whole = ahead.read_exact_at(disk, 0, 0, &mut bytes)?;
     Ok(whole && bytes[..8] == EMPTY_JOURNAL[..8] && bytes[8] != 1)
 }
 
 // Judges the head of a part of more than nine bytes.
-pub fn check_head<D: Disk>(disk: &mut D) -> Result<(), OpenFault>
+pub fn check_head<D: Disk>(disk: &mut D, ahead: &mut ReadAhead) -> Result<(), OpenFault>
+    requires { IsAheadOf (D.told disk.old) 0 ahead.old }
+    ensures ahead { IsAheadOf (D.told disk.old) 0 ahead.new }
     ensures told { D.told disk.new ≡ D.told disk.old }
     ensures judged { WhereTold (D.told disk.old) 0 (λ p. 9 < length p.bytes →
         MatchResult result (λ _. IsHead p.bytes) (HeadFault p.bytes)) }
     ensures cause { CountsOpening (D.faults disk.old) result (D.faults disk.new) }
 {
     let mut bytes = [0u8; 8];
-    let whole = read_whole(disk, 0, &mut bytes)?;
+    let whole = ahead.read_exact_at(disk, 0, 0, &mut bytes)?;
     if !whole {
         return Err(OpenFault::Damaged { at: 8, byte: 256 });
     }

@@ -6,7 +6,6 @@ mod journal;
 mod laws;
 mod opening;
 mod plain;
-mod read_whole;
 mod write_through;
 
 use fault_counts::Failed;

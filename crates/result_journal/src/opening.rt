@@ -3,6 +3,7 @@ ghost use Rattle.std.specs.Prelude.{◌≡◌, ℕ, ◌+◌, ◌^◌, ◌<◌, �
 ghost use Rattle.std.specs.Int.{w32, to_le_bytes, from_le_bytes};
 ghost use Rattle.disks.specs.Moments.{Told, AtEachMoment};
 ghost use Rattle.disks.specs.Calls.{WhereTold};
+ghost use Rattle.disks.specs.Aheads.{IsAheadOf, HoldsNothing};
 ghost use Rattle.result_journal.specs.Grammar.{Reads, Bodies, IsBody};
 ghost use Rattle.result_journal.specs.Journals.{StandsFor, disk_of, end_of, is_settled, is_prepared};
 ghost use Rattle.result_journal.specs.Steps.{OtherStays};
@@ -10,8 +11,7 @@ ghost use Rattle.result_journal.specs.Openings.{HasGiven, HasGivenSome, IsBehind
 
 use crate::begin::{EMPTY_SIZE, check_head, is_empty_journal, write_empty_journal};
 use crate::journal::{Journal, Standing};
-use crate::read_whole::read_whole;
-use disks::Disk;
+use disks::{Disk, ReadAhead};
 use fault_counts::Failed;
 use std::alloc::{AllocError, Global};
 
@@ -26,6 +26,7 @@ pub enum OpenFault {
     NewerVersion { found: u8 },
     /// A call on the disk failed.
     DiskFailed,
+    /// Memory was wanting for reading ahead, or for the body of a record.
     Memory,
 }
 
@@ -56,6 +57,7 @@ pub struct Opening<D: Disk> {
     pub(crate) size: u64,
     pub(crate) place: u64,
     pub(crate) is_ended: bool,
+    pub(crate) ahead: ReadAhead,
     staged: Vec<u8>,
 }
 
@@ -95,12 +97,16 @@ impl<D: Disk> Opening<D> {
         ensures cause { IfErr result (λ e. FaultCause (D.faults disk) e.0 (D.faults e.1)) }
     {
         let mut disk = disk;
-        match begin_part(&mut disk) {
+        let Ok(mut ahead) = ReadAhead::new(alloc) else {
+            return Err((OpenFault::Memory, disk));
+        };
+        match begin_part(&mut disk, &mut ahead) {
             Ok(size) => Ok(Opening {
                 disk,
                 size,
                 place: FIRST_GATE,
                 is_ended: false,
+                ahead,
                 staged: Vec::new(alloc),
             }),
             Err(fault) => Err((fault, disk)),
@@ -123,6 +129,7 @@ impl<D: Disk> Opening<D> {
             size: _,
             place,
             is_ended: _,
+            ahead: _,
             staged,
         } = self;
         Journal {
@@ -143,6 +150,7 @@ impl<D: Disk> Opening<D> {
             size: _,
             place: _,
             is_ended: _,
+            ahead: _,
             staged: _,
         } = self;
         disk
@@ -216,13 +224,16 @@ impl<D: Disk> Opening<D> {
 
     // The length of the next body, or `None` at a closed gate.
     fn next_length(&mut self) -> Result<Option<usize>, OpenFault>
-        requires { next_gate self.old < self.old.size }
+        requires inside { next_gate self.old < self.old.size }
+        requires ahead { IsAheadOf (D.told (opened_disk self.old)) 0 self.old.ahead }
         ensures found { WhereTold (D.told (opened_disk self.old)) 0 (λ p. self.old.size
             ≡ length p.bytes →
             MatchResult result (FindsLength p.bytes (next_gate self.old))
             (BrokenFault p.bytes (next_gate self.old))) }
         ensures inside { IfOk result (IfFits (next_gate self.old) self.old.size) }
-        ensures same { self.new ≡ record self.old { disk = self.new.disk } }
+        ensures same { self.new ≡
+            record self.old { disk = self.new.disk; ahead = self.new.ahead } }
+        ensures ahead { IsAheadOf (D.told (opened_disk self.old)) 0 self.new.ahead }
         ensures told { D.told (opened_disk self.new) ≡ D.told (opened_disk self.old) }
         ensures cause { CountsOpening (D.faults (opened_disk self.old)) result
             (D.faults (opened_disk self.new)) }
@@ -232,7 +243,9 @@ impl<D: Disk> Opening<D> {
             return self.short_end(left);
         }
         let mut header = [0u8; 5];
-        let whole = read_whole(&mut self.disk, self.place, &mut header)?;
+        let whole = self
+            .ahead
+            .read_exact_at(&mut self.disk, 0, self.place, &mut header)?;
         if !whole {
             return Err(self.damaged(256));
         }
@@ -251,18 +264,23 @@ impl<D: Disk> Opening<D> {
         requires some { 0 < left }
         requires left { next_gate self.old + left ≡ self.old.size }
         requires few { left < 6 }
+        requires ahead { IsAheadOf (D.told (opened_disk self.old)) 0 self.old.ahead }
         ensures found { WhereTold (D.told (opened_disk self.old)) 0 (λ p. self.old.size
             ≡ length p.bytes →
             MatchResult result (FindsLength p.bytes (next_gate self.old))
             (BrokenFault p.bytes (next_gate self.old))) }
         ensures none { IfOk result (λ found. found ≡ None) }
-        ensures same { self.new ≡ record self.old { disk = self.new.disk } }
+        ensures same { self.new ≡
+            record self.old { disk = self.new.disk; ahead = self.new.ahead } }
+        ensures ahead { IsAheadOf (D.told (opened_disk self.old)) 0 self.new.ahead }
         ensures told { D.told (opened_disk self.new) ≡ D.told (opened_disk self.old) }
         ensures cause { CountsOpening (D.faults (opened_disk self.old)) result
             (D.faults (opened_disk self.new)) }
     {
         let mut gate = [0u8; 1];
-        let whole = read_whole(&mut self.disk, self.place, &mut gate)?;
+        let whole = self
+            .ahead
+            .read_exact_at(&mut self.disk, 0, self.place, &mut gate)?;
         if !whole {
             return Err(self.damaged(256));
         }
@@ -273,7 +291,9 @@ impl<D: Disk> Opening<D> {
             return Err(self.damaged(256));
         }
         let mut behind = [0u8; 1];
-        let whole = read_whole(&mut self.disk, self.place + 1, &mut behind)?;
+        let whole = self
+            .ahead
+            .read_exact_at(&mut self.disk, 0, self.place + 1, &mut behind)?;
         if !whole {
             return Err(self.damaged(256));
         }
@@ -295,19 +315,24 @@ impl<D: Disk> Opening<D> {
     fn body(&mut self, alloc: Global, count: usize) -> Result<Vec<u8>, OpenFault>
         requires some { 0 < count }
         requires inside { next_gate self.old + 5 + count < self.old.size }
+        requires ahead { IsAheadOf (D.told (opened_disk self.old)) 0 self.old.ahead }
         ensures body { WhereTold (D.told (opened_disk self.old)) 0 (λ p.
             IfOk result (λ body. body.items ≡ take count (drop (next_gate self.old + 5) p.bytes))) }
         ensures length { IfOk result (λ body. length body.items ≡ count) }
         ensures fault { WhereTold (D.told (opened_disk self.old)) 0 (λ p. self.old.size
             ≡ length p.bytes →
             IfErr result IsNoFaultOfBytes) }
-        ensures same { self.new ≡ record self.old { disk = self.new.disk } }
+        ensures same { self.new ≡
+            record self.old { disk = self.new.disk; ahead = self.new.ahead } }
+        ensures ahead { IsAheadOf (D.told (opened_disk self.old)) 0 self.new.ahead }
         ensures told { D.told (opened_disk self.new) ≡ D.told (opened_disk self.old) }
         ensures cause { CountsOpening (D.faults (opened_disk self.old)) result
             (D.faults (opened_disk self.new)) }
     {
         let mut body = vec![in alloc; 0u8; count]?;
-        let whole = read_whole(&mut self.disk, self.place + 5, &mut body)?;
+        let whole = self
+            .ahead
+            .read_exact_at(&mut self.disk, 0, self.place + 5, &mut body)?;
         if !whole {
             return Err(self.damaged(256));
         }
@@ -316,7 +341,9 @@ impl<D: Disk> Opening<D> {
 }
 
 // Syncs part 0 and judges its head, or begins it anew. Answers its size.
-fn begin_part<D: Disk>(disk: &mut D) -> Result<u64, OpenFault>
+fn begin_part<D: Disk>(disk: &mut D, ahead: &mut ReadAhead) -> Result<u64, OpenFault>
+    requires { HoldsNothing ahead.old }
+    ensures ahead { OnOk result (IsAheadOf (D.told disk.new) 0 ahead.new) }
     ensures size { IfOk result (λ size. 9 ≤ size) }
     ensures begun { IfOk result (λ size. (t : Told) → D.told disk.new ≡ Some t →
         IsBehind t.now.first [] 8 size) }
@@ -332,11 +359,12 @@ fn begin_part<D: Disk>(disk: &mut D) -> Result<u64, OpenFault>
     disk.sync(0)?;
     let size = disk.len(0)?;
     if size > EMPTY_SIZE {
-        check_head(disk)?;
+        check_head(disk, ahead)?;
         return Ok(size);
     }
-    if !is_empty_journal(disk, size)? {
+    if !is_empty_journal(disk, ahead, size)? {
         write_empty_journal(disk)?;
+        ahead.forget();
     }
     Ok(EMPTY_SIZE)
 }

@@ -1,10 +1,9 @@
 -- Reads that fill their room bit by bit.
 use Rattle.std.proofs.Common.{◌≡◌, true, ℕ, ◌+◌, ◌<◌, ◌≤◌, List, ◌++◌, length, take, drop, refl, sym, ◌∙◌, ap, subst, arith}
 use Rattle.std.proofs.Math.Seq.{take-add}
-use Rattle.std.proofs.lemmas.List.{take_all}
+use Rattle.std.proofs.lemmas.List.{take_all, drop-drop}
 use Rattle.disks.specs.Calls.{Gives}
-use Rattle.result_journal.specs.Whole.{FillsRoom}
-use Rattle.result_journal.proofs.FrameLaws.{drop_twice}
+use Rattle.disks.specs.Whole.{FillsRoom}
 
 -- So many bytes of the room were read.
 pub record SoFar (bytes : List ℕ) (at done : ℕ) (room : List ℕ) : Type 0 where
@@ -22,7 +21,7 @@ read_more bytes at done count before room so_far front gives some = record {
   read = take-add done count room
       ∙ ap (λ (l : List ℕ). l ++ take count (drop done room)) (front ∙ so_far.read)
       ∙ ap (λ (l : List ℕ). take done (drop at bytes) ++ l)
-      (gives.given ∙ ap (λ (l : List ℕ). take count l) (sym (drop_twice done at bytes)))
+      (gives.given ∙ ap (λ (l : List ℕ). take count l) (sym (drop-drop done at bytes)))
       ∙ sym (take-add done count (drop at bytes));
 }
 
