@@ -11,7 +11,7 @@ use Rattle.request_effects.specs.Fitting.{IsTimely, Suits}
 use Rattle.request_effects.specs.Full.{TableFull}
 use Rattle.request_effects.specs.declared.shows.Shows.TheVariants as shows
 use Rattle.request_effects.specs.Keeps.{answer_kept, kept_answer}
-use Rattle.request_effects.specs.Shows.{Scene, answer_of}
+use Rattle.request_effects.specs.Shows.{answer_of}
 
 -- An effect that suits a valid world, in which no table is full, leads to a valid one.
 abbrev pub EffectsKeepValid : Type 0

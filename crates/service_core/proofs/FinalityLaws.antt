@@ -10,7 +10,6 @@ use Rattle.invocations.specs.declared.invocation.Invocation.{Invocation}
 use Rattle.invocations.specs.Due.{IsDue}
 use Rattle.invocations.specs.Rows.{IsInState, begun, ended, with_changed}
 use Rattle.invocations.proofs.RowLemmas.{at_front, at_place}
-use Rattle.call_forms.specs.declared.asked.Asked.{Asked}
 use Rattle.call_forms.specs.declared.forms.Answer.{Answer}
 use Rattle.call_forms.specs.declared.forms.Told.{Told}
 use Rattle.call_forms.specs.declared.forms.Told.TheVariants.{Made, Standin as Instead}

@@ -1,10 +1,9 @@
 -- What is kept of numbered requests stays, each for its number alone, and stands for rows that are there.
-use Rattle.std.proofs.Common.{◌≡◌, ◌<◌, ℕ, zero, suc, ℤ, List, [], ◌∷◌, ◌++◌, length, Option, Some, None, refl, sym, ap, ◌∙◌, subst, inl, inr, arith}
+use Rattle.std.proofs.Common.{◌≡◌, ◌<◌, ℕ, zero, suc, ℤ, List, [], ◌∷◌, ◌++◌, length, Option, Some, None, refl, sym, subst, arith}
 use Rattle.std.specs.Prelude.{slice_get}
 use Rattle.std.specs.List.{All}
 use Rattle.std.proofs.lemmas.List.Elements.{All-append, All-cons, All-nil, All-weaker}
 use Rattle.std.proofs.lemmas.Option.{none-some, same_Some, slice_get_within}
-use Rattle.invocations.specs.declared.invocation.Invocation.{Invocation}
 use Rattle.invocations.proofs.RowLemmas.{at_end}
 use Rattle.kept_replies.specs.declared.reply.KeptAnswer.{KeptAnswer}
 use Rattle.kept_replies.specs.declared.reply.KeptAnswer.TheVariants.{Created}
@@ -15,8 +14,6 @@ use Rattle.call_forms.specs.declared.asked.Asked.{Asked}
 use Rattle.call_forms.specs.declared.forms.Answer.{Answer}
 use Rattle.invocation_world.specs.World.{World}
 use Rattle.request_rules.specs.Settings.{Settings}
-use Rattle.message_forms.specs.declared.requests.Request.{Request}
-use Rattle.request_rules.specs.Demands.{demand_of}
 use Rattle.request_rules.specs.Settings.{caller_name}
 use Rattle.request_effects.specs.declared.effect.Effect.{Effect}
 use Rattle.request_effects.specs.declared.effect.Effect.TheVariants as does
@@ -24,7 +21,7 @@ use Rattle.request_effects.specs.Effects.{Does}
 use Rattle.request_effects.specs.Keeps.{answer_kept, with_kept}
 use Rattle.request_effects.proofs.KeepLaws.{kept_is}
 use Rattle.service_core.specs.Service.{ServiceWorld, StandsIn}
-use Rattle.service_core.specs.Step.{IsAccepted, IsTold, Performs, effect_for, keep_for, performed, refused, repeated}
+use Rattle.service_core.specs.Step.{IsTold, Performs, effect_for, keep_for, performed, refused, repeated}
 use Rattle.service_core.proofs.ClearedLaws.{kept_free}
 use Rattle.service_core.proofs.StayLaws.{AllStay, acted_stay, settled_stay}
 

@@ -1,7 +1,6 @@
 -- Each numbered request acts once.
 use Rattle.std.proofs.Common.{◌≡◌, ◌⊎◌, ℕ, zero, suc, ℤ, List, [], ◌∷◌, ◌++◌, length, Option, Some, None, option_map, refl, sym, ap, ◌∙◌, subst, inl, inr, append_assoc, append-nil}
 use Rattle.std.specs.Prelude.{Contains, slice_get}
-use Rattle.std.specs.List.{All}
 use Rattle.std.proofs.lemmas.List.Elements.{All-contains}
 use Rattle.std.proofs.lemmas.Option.{none-some, same_Some, slice_get-get_or}
 use Rattle.names_realms.specs.declared.pairs.Pair.{Pair}
@@ -9,7 +8,7 @@ use Rattle.invocations.specs.declared.invocation.Invocation.{Invocation}
 use Rattle.kept_replies.specs.declared.reply.KeptAnswer.{KeptAnswer}
 use Rattle.kept_replies.specs.declared.reply.KeptAnswer.TheVariants.{Created}
 use Rattle.kept_replies.specs.declared.reply.KeptReply.{KeptReply}
-use Rattle.kept_replies.specs.Kept.{IsAlone, IsFor}
+use Rattle.kept_replies.specs.Kept.{IsAlone}
 use Rattle.kept_replies.proofs.FirstLemmas.{place_is}
 use Rattle.call_forms.specs.declared.asked.Asked.{Asked}
 use Rattle.call_forms.specs.declared.forms.Answer.{Answer}
@@ -20,17 +19,14 @@ use Rattle.call_forms.specs.declared.forms.Told.TheVariants.{Made, Standin as In
 use Rattle.message_forms.specs.declared.requests.Request.{Request}
 use Rattle.message_forms.specs.declared.requests.Request.TheVariants as asks
 use Rattle.invocation_world.specs.World.{World}
-use Rattle.request_rules.specs.declared.rules.Rule.TheVariants as rule
-use Rattle.request_rules.specs.Settings.{Settings, HasNames, caller_name}
+use Rattle.request_rules.specs.Settings.{Settings, caller_name}
 use Rattle.request_rules.specs.Demands.{demand_of}
 use Rattle.request_rules.specs.Numbered.{digest_of, kept_for}
-use Rattle.request_rules.specs.Broken.{IsRefusedAlone, Wants}
+use Rattle.request_rules.specs.Broken.{Wants}
 use Rattle.request_rules.proofs.NumberLaws.{found_digest, kept_there}
 use Rattle.request_rules.proofs.ReadLaws.{wanted_alone}
 use Rattle.request_rules.proofs.RuleFacts.{one_caller, one_request}
-use Rattle.request_effects.specs.declared.effect.Effect.{Effect}
 use Rattle.request_effects.specs.Effects.{effect_of}
-use Rattle.request_effects.specs.Fitting.{IsTimely}
 use Rattle.request_effects.specs.Keeps.{answer_kept, as_made, kept_answer, kept_of, made_answer, numbered_of, with_kept}
 use Rattle.request_effects.specs.Shows.{answer_of, done, shown_with, shows_of}
 use Rattle.message_forms.specs.declared.replies.Reply.TheVariants as reply
@@ -38,10 +34,10 @@ use Rattle.request_rules.specs.Understood.{token_for}
 use Rattle.request_effects.specs.declared.keeping.Numbered.{Numbered}
 use Rattle.request_effects.specs.declared.shows.Shows.TheVariants as shows
 use Rattle.request_effects.proofs.KeepLaws.{kept_is_first}
-use Rattle.service_core.specs.Service.{CatchesUp, IsValid, ServiceWorld, StandsIn}
-use Rattle.service_core.specs.Step.{IsNew, IsRefusal, IsRepeated, IsTold, Performs, Repeats, effect_for, keep_for, performed, refused, repeated, scene_of}
-use Rattle.service_core.specs.History.{Entry, Leads, Tells}
-use Rattle.service_core.specs.Laws.{FirstIsKept, IsAnsweredAgain, IsKeptFirst, IsSameInvocation, KeptStays, NumbersActOnce}
+use Rattle.service_core.specs.Service.{CatchesUp, ServiceWorld, StandsIn}
+use Rattle.service_core.specs.Step.{IsRefusal, IsRepeated, IsTold, Performs, effect_for, keep_for, performed, refused, repeated, scene_of}
+use Rattle.service_core.specs.History.{Entry, Tells}
+use Rattle.service_core.specs.Laws.{FirstIsKept, IsSameInvocation, KeptStays, NumbersActOnce}
 use Rattle.service_core.proofs.ClearedLaws.{accepted_suits, unused}
 use Rattle.service_core.proofs.HistoryLaws.{legal_keeps_valid}
 use Rattle.service_core.proofs.KeptLaws.{there_at}

@@ -15,12 +15,12 @@ use Rattle.request_rules.proofs.Judged.{one_judged as one_told}
 use Rattle.request_rules.proofs.ReadLaws.{wanted_alone}
 use Rattle.request_rules.proofs.RuleFacts.{one_broken, one_caller, one_refused_alone, one_request}
 use Rattle.request_effects.specs.Effects.{with_effect}
-use Rattle.request_effects.specs.Keeps.{kept_answer, with_kept}
+use Rattle.request_effects.specs.Keeps.{kept_answer}
 use Rattle.request_effects.specs.Shows.{answer_of, shows_of}
 use Rattle.request_effects.proofs.EffectLaws.{one_settling}
 use Rattle.request_effects.proofs.FullLaws.{one_full}
 use Rattle.service_core.specs.Service.{CatchesUp, ServiceWorld}
-use Rattle.service_core.specs.Step.{Acts, IsAccepted, IsJudgedAs, IsNew, IsRefusal, IsRefusedOf, IsRepeated, IsTold, Performs, Refuses, Repeats, case_in, effect_for, keep_for, performed, refused, repeated, scene_of}
+use Rattle.service_core.specs.Step.{Acts, IsAccepted, IsJudgedAs, IsNew, IsRefusal, IsRefusedOf, IsRepeated, IsTold, Performs, Refuses, Repeats, case_in, effect_for, performed, refused, repeated, scene_of}
 use Rattle.service_core.specs.Laws.{StepsAreUnique}
 
 -- of what a caller wants one thing is told

@@ -40,12 +40,7 @@ impl Model for Plan {
 
 impl Plan {
     /// The plan of what is to be done and to be kept, with its answer, made after this many changes.
-    pub(crate) fn new(
-        work: Work,
-        keep: Option<Ready>,
-        answer: Option<Answer>,
-        made_at: u64,
-    ) -> Plan
+    pub(crate) fn new(work: Work, keep: Option<Ready>, answer: Option<Answer>, made_at: u64) -> Plan
         ensures { result ≡
             record { work = work; keep = keep; answer = answer; made_at = made_at } }
     {

@@ -30,8 +30,7 @@ returns-else-eq c = λ asked is.
     let at : place_for c.args.name.now number kept ≡ Some c.in-Some-2.place =
     ap (λ (n : List ℕ). place_for c.args.name.now n kept) (sym (c.as_bytes.ensures.value ∙ c.as_str.ensures.text))
     ∙ (sym c.in_ok-place.ensures ∙ c.in-Some-2.is) in
-    let digested = subst (IsDigested asked c.args.demand.now) c.in-Some.is is in
-    (
+    let digested = subst (IsDigested asked c.args.demand.now) c.in-Some.is is in (
       c.reply.result.now,
       record {
         found = kept_there kept c.args.name.now c.args.demand.now number c.in-Some-2.place shows at ∙ c.reply.ensures;

@@ -1,4 +1,4 @@
-use Rattle.std.proofs.Common.{◌≡◌, sym, ap, ◌∙◌}
+use Rattle.std.proofs.Common.{sym, ap, ◌∙◌}
 use Rattle.kept_replies.specs.Kept.{KeptState, place_for}
 use Rattle.kept_replies.proofs.FirstLemmas.{place_found}
 use Rattle.kept_replies.proofs.table.KeptReplies.find.Goals as goal

@@ -1,6 +1,5 @@
 use Rattle.std.proofs.Common.{subst}
 use Rattle.std.proofs.lemmas.Option.{slice_get_within}
-use Rattle.request_rules.specs.declared.numbers.NumberCheck.{NumberCheck}
 use Rattle.request_rules.specs.Numbered.{IsNumbered}
 use Rattle.request_rules.specs.Settings.{Settings, caller_name}
 use Rattle.request_rules.specs.Demands.{demand_of}
