@@ -52,7 +52,6 @@ LISTED = {
         "record_desk": 2,
         "request_rules": 1,
         "result_journal": 28,
-        "service_core": 4,
         "tellers": 3,
         "turnstile": 1,
         "turnstile_trial": 1,

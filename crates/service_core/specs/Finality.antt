@@ -62,4 +62,5 @@ ToldInTime w e (Instead standin) after = (after ≡ w) ⊎ IsInTime w.rows e aft
 abbrev pub AllInTime : Settings → ServiceWorld → List Entry → ServiceWorld → Type 0
 AllInTime s w [] end = end ≡ w
 AllInTime s w (e ∷ h) end =
-    (after : ServiceWorld) × Leads s w e after × ToldInTime w e e.told after × AllInTime s after h end
+    (after : ServiceWorld) × Leads s w e after × ToldInTime w e e.told after
+    × AllInTime s after h end

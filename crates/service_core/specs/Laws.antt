@@ -34,7 +34,8 @@ pub record HasStep (s : Settings) (w : ServiceWorld) (moment : ℤ) (asked : Ask
 
 -- So does each request, at each moment, from each world.
 abbrev pub HasSteps : Type 0
-HasSteps = (s : Settings) (w : ServiceWorld) (moment : ℤ) (asked : Asked) → HasStep s w moment asked
+HasSteps =
+    (s : Settings) (w : ServiceWorld) (moment : ℤ) (asked : Asked) → HasStep s w moment asked
 
 -- And to one world alone, with one answer.
 abbrev pub StepsAreUnique : Type 0
@@ -65,8 +66,8 @@ RowsStay =
     → (later : Invocation) × (slice_get v.rows.invocations place ≡ Some later)
     × IsSameInvocation row later
 
--- An effect leaves each invocation at its place, found by its id, and a new one after the others: so
--- what a request shows by a place is the invocation that it names, or makes.
+-- An effect leaves each invocation at its place, found by its id, and a new one after the others:
+-- so what a request shows by a place is the invocation that it names, or makes.
 pub record StaysNamed (w : World) (effect : Effect) (after : World) : Type 0 where
   pub named : (id : List ℕ) (place : ℕ) → place_named w.invocations id ≡ Some place
       → place_named after.invocations id ≡ Some place
@@ -75,7 +76,8 @@ pub record StaysNamed (w : World) (effect : Effect) (after : World) : Type 0 whe
 
 abbrev pub ShownIsNamed : Type 0
 ShownIsNamed =
-    (w after : World) (moment : ℤ) (effect : Effect) → worlds.IsValid after → Does moment effect w after
+    (w after : World) (moment : ℤ) (effect : Effect) → worlds.IsValid after
+    → Does moment effect w after
     → StaysNamed w effect after
 
 -- What is final stays as it is, with all that it reaches.

@@ -36,7 +36,8 @@ pub record IsValid (w : ServiceWorld) : Type 0 where
   pub alone : IsAlone w.kept
   pub stand : All (λ reply. StandsIn w.rows reply.answer) w.kept
 
--- The deadlines that are due at a moment are carried out. That is a change of the invocations alone.
+-- The deadlines that are due at a moment are carried out. That is a change of the invocations
+-- alone.
 pub record CatchesUp (w : ServiceWorld) (moment : ℤ) (after : ServiceWorld) : Type 0 where
   pub rows : Advances w.rows moment after.rows
   pub kept : after.kept ≡ w.kept

@@ -46,7 +46,8 @@ IsFresh s w moment asked caller request =
     (reply : KeptReply) → ¬ IsRepeated s w moment asked caller request reply
 
 -- what the rules for what is demanded say of what a caller wants: the first that is broken, if any
-abbrev pub IsJudgedAs : Settings → ServiceWorld → ℤ → Asked → ℕ → Request → Option Refusal → Type 0
+abbrev pub IsJudgedAs : Settings → ServiceWorld → ℤ → Asked → ℕ → Request → Option Refusal
+    → Type 0
 IsJudgedAs s w moment asked caller request found =
     Judges (IsBroken (case_in s w moment asked caller) (demand_of request)) order found
 

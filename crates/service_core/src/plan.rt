@@ -16,7 +16,8 @@ pub enum Work {
     Change(Change),
 }
 
-/// What is ready to be done and to be kept, and the answer that it gives, where it answers a request.
+/// What is ready to be done and to be kept, and the answer that it gives, where it answers a
+/// request.
 #[derive(Drop)]
 pub struct Plan {
     work: Work,
@@ -39,7 +40,8 @@ impl Model for Plan {
 }
 
 impl Plan {
-    /// The plan of what is to be done and to be kept, with its answer, made after this many changes.
+    /// The plan of what is to be done and to be kept, with its answer, made after this many
+    /// changes.
     pub(crate) fn new(work: Work, keep: Option<Ready>, answer: Option<Answer>, made_at: u64) -> Plan
         ensures { result ≡
             record { work = work; keep = keep; answer = answer; made_at = made_at } }

@@ -36,8 +36,8 @@ use std::marker::Model;
 /// 9999-01-01T00:00:00Z
 const LATEST_CALL: i64 = 253_370_764_800_000_000;
 
-/// All that the service holds. The policy stands beside it: what depends on policy and request alone
-/// is understood before, by as many callers at once as there are.
+/// All that the service holds. The policy stands beside it: what depends on policy and request
+/// alone is understood before, by as many callers at once as there are.
 #[derive(Drop)]
 pub struct Core {
     pub(crate) world: InvocationWorld,
@@ -286,8 +286,8 @@ impl Core {
         }
     }
 
-    /// Makes a change that was prepared last, and gives its answer: none for due deadlines. It takes
-    /// no memory.
+    /// Makes a change that was prepared last, and gives its answer: none for due deadlines. It
+    /// takes no memory.
     pub fn commit(&mut self, plan: Plan) -> Option<Answer>
         requires { Fits self.old plan }
         ensures world { Carries (world_in self.old) plan (world_in self.new) }
