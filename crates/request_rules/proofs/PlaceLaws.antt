@@ -15,6 +15,7 @@ use Rattle.invocations.specs.Rows.{HasId, IsPlaceOf, IsTable, ids_of}
 use Rattle.request_rules.specs.Broken.{IsMissing}
 use Rattle.request_rules.specs.Order.{FirstOf}
 use Rattle.request_rules.proofs.Firsts.{drop_at}
+use Rattle.request_rules.specs.Locating.{place_if}
 use Rattle.request_rules.specs.Named.{all_found, named, place_named, places_in, places_named, row_at}
 
 -- the place of a name has it
@@ -116,6 +117,10 @@ found_named rows (id ∷ ids) =
 placed_there : (rows : List Invocation) (id : List ℕ) (o : Option ℕ) → place_named rows id ≡ o → IfSome o (λ at. at < length rows)
 placed_there rows id None e = tt
 placed_there rows id (Some at) e = place-within rows id at e
+
+pub if_there : (rows : List Invocation) (given : Option (List ℕ)) → IfSome (place_if rows given) (λ at. at < length rows)
+if_there rows None = tt
+if_there rows (Some id) = placed_there rows id (place_named rows id) refl
 
 pub all_there : (rows : List Invocation) (ids : List (List ℕ))
     → All (λ place. IfSome place (λ at. at < length rows)) (places_in rows ids)

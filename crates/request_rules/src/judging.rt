@@ -15,7 +15,7 @@ ghost use Rattle.request_rules.specs.Askers.{IsAsker, MayJudge};
 
 use crate::breaches::Breach;
 use crate::demand::{Demand, demand_of};
-use crate::locating::{Located, first_missing, place_of, row_of};
+use crate::locating::{Located, first_missing, row_at};
 use crate::numbers::NumberCheck;
 use crate::reading::{Call, TokenCheck};
 use crate::rights::{Asker, Holding};
@@ -103,11 +103,12 @@ fn denied<'r>(
 }
 
 /// The invocation that has to be active and isn't.
-fn not_active<'r>(table: &Table, demand: &Demand<'r>) -> Option<Breach<'r>>
+fn not_active<'r>(table: &Table, places: &Located, demand: &Demand<'r>) -> Option<Breach<'r>>
+    requires { places.now ≡ located table.now.rows demand.now }
     ensures { Finds (NotActive table.now.rows demand.now) result }
 {
     let id = demand.active?;
-    let state = row_of(table, id)?.state;
+    let state = row_at(table, places.active)?.state;
     if state == State::Active {
         return None;
     }
@@ -175,11 +176,12 @@ fn too_many<'r>(demand: &Demand<'r>) -> Option<Breach<'r>>
 }
 
 /// The id that has to be free and isn't.
-fn taken<'r>(table: &Table, demand: &Demand<'r>) -> Option<Breach<'r>>
-    ensures { Finds (Taken table.now.rows demand.now) result }
+fn taken<'r>(places: &Located, demand: &Demand<'r>) -> Option<Breach<'r>>
+    ensures { (rows : List Invocation) → places.now ≡ located rows demand.now
+        → Finds (Taken rows demand.now) result }
 {
     let id = demand.makes?;
-    place_of(table, id)?;
+    places.made?;
     Some(Breach::Taken { id })
 }
 
@@ -219,11 +221,11 @@ impl<'r> Situation<'r> {
             Rule::NoUpdateToken => no_update_token(call.token, demand),
             Rule::BadUpdateToken => bad_update_token(call.token, demand),
             Rule::Denied => denied(&asker, self.table, demand, self.located),
-            Rule::NotActive => not_active(self.table, demand),
+            Rule::NotActive => not_active(self.table, self.located, demand),
             Rule::DeadlineRange => deadline_range(self.moment, demand),
             Rule::Itself => itself(demand),
             Rule::TooMany => too_many(demand),
-            Rule::Taken => taken(self.table, demand),
+            Rule::Taken => taken(self.located, demand),
         }
     }
 

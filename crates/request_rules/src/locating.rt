@@ -1,10 +1,10 @@
 //! The invocations that a request names, and where they stand.
-ghost use Rattle.std.specs.Prelude.{◌≡◌, ◌++◌, List, [], IfOk, OnOk, option_map};
+ghost use Rattle.std.specs.Prelude.{◌≡◌, ◌++◌, ◌<◌, List, [], IfOk, IfSome, OnOk, length, option_map};
 ghost use Rattle.std.specs.List.{cons_option};
 ghost use Rattle.invocations.specs.declared.invocation.Invocation.{Invocation as InvocationOf};
-ghost use Rattle.request_rules.specs.Named.{all_found, first_place, named, place_named, places_in};
+ghost use Rattle.request_rules.specs.Named.{all_found, first_place, place_named, places_in, row_at};
 ghost use Rattle.request_rules.specs.Demands.{demand_of};
-ghost use Rattle.request_rules.specs.Locating.{located};
+ghost use Rattle.request_rules.specs.Locating.{IsActiveFirst, located, place_if};
 ghost use Rattle.request_rules.specs.Order.{FirstOf};
 ghost use Rattle.request_rules.specs.Broken.{IsMissing};
 
@@ -16,18 +16,41 @@ use std::alloc::{AllocError, Global};
 use std::marker::Model;
 
 /// The place of the invocation with this id.
-pub(crate) fn place_of(table: &Table, id: &InvocationId) -> Option<u32>
+fn place_of(table: &Table, id: &InvocationId) -> Option<u32>
     ensures { result ≡ place_named table.now.rows id.now }
 {
     table.find(id)
 }
 
-/// The invocation with this id.
-pub(crate) fn row_of<'r>(table: &'r Table, id: &InvocationId) -> Option<&'r Invocation>
-    ensures { option_map (λ row. row.now) result ≡ named table.now.rows id.now }
+/// The place of the invocation with this id, where one is given.
+fn place_if(table: &Table, id: Option<&InvocationId>) -> Option<u32>
+    ensures { result ≡ place_if table.now.rows (option_map (λ given. given.now) id.entry) }
 {
-    match place_of(table, id) {
+    match id {
+        Some(id) => place_of(table, id),
+        None => None,
+    }
+}
+
+/// The invocation at this place, if there is one.
+pub(crate) fn row_at(table: &Table, place: Option<u32>) -> Option<&Invocation>
+    requires { IfSome place (λ at. at < length table.now.rows) }
+    ensures { option_map (λ row. row.now) result ≡ row_at table.now.rows place }
+{
+    match place {
         Some(place) => Some(table.row(place)),
+        None => None,
+    }
+}
+
+/// The place of the one that has to be active, which is the first of those at these places.
+fn active_in(demand: &Demand, named: &[Option<u32>]) -> Option<u32>
+    ensures { (rows : List InvocationOf) → IsActiveFirst demand.now
+        → named.now ≡ places_in rows demand.now.named
+        → result ≡ place_if rows demand.now.active }
+{
+    match demand.active {
+        Some(_) => *named.first()?,
         None => None,
     }
 }
@@ -63,6 +86,8 @@ fn add_place(places: &mut Vec<u32>, place: Option<u32>) -> Result<(), AllocError
 pub struct Located {
     pub(crate) named: Vec<Option<u32>>,
     pub(crate) included: Vec<Option<u32>>,
+    pub(crate) active: Option<u32>,
+    pub(crate) made: Option<u32>,
 }
 
 impl Model for Located {
@@ -70,7 +95,12 @@ impl Model for Located {
 
     ghost Value = { Located };
 
-    ghost view = { λ l. record { named = l.named.items; included = l.included.items } };
+    ghost view = { λ l. record {
+      named = l.named.items;
+      included = l.included.items;
+      active = l.active;
+      made = l.made;
+    } };
 }
 
 impl Located {
@@ -82,7 +112,14 @@ impl Located {
         let demand = demand_of(request);
         let named = places_in(alloc, table, demand.named)?;
         let included = places_in(alloc, table, demand.included)?;
-        Ok(Located { named, included })
+        let active = active_in(&demand, named.as_slice());
+        let made = place_if(table, demand.makes);
+        Ok(Located {
+            named,
+            included,
+            active,
+            made,
+        })
     }
 
     /// The place of the first one that has to be there.

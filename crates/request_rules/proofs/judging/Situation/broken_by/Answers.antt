@@ -51,4 +51,4 @@ returns-in-TooMany c = λ kept asked checked numbered.
 pub returns-in-Taken : goal.returns-in-Taken
 returns-in-Taken c = λ kept asked checked numbered.
     found_as (case_of c.args.self.now kept asked c.args.call.now.caller) c.args.demand.now c.args.rule _ c.taken.result c.in-Taken.is
-    c.taken.ensures
+    (c.taken.ensures c.args.self.now.table.now.rows c.requires.located)
