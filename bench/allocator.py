@@ -23,7 +23,7 @@ REQUESTS, BODY, ROUNDS = 400, 144_000, 5
 
 def request(number):
     tags = ",".join(f'{{"key":"k{place}","value":"v{place}"}}' for place in range(10_000))
-    front = f'{{"requestId":"q","invocationId":"u-{number}","invocation":{{"realm":"proj:ci","tags":['
+    front = f'{{"requestId":"q 1","invocationId":"u-{number}","invocation":{{"realm":"proj:ci","tags":['
     body = front + tags[: BODY - len(front) - 3].rpartition(",{")[0] + "]}}"
     body = body.ljust(BODY).encode()
     head = "POST /prpc/luci.resultdb.v1.Recorder/CreateInvocation HTTP/1.1\r\nHost: farm\r\n"

@@ -1,8 +1,10 @@
-"""What becomes of invocations: deadlines that are moved, tokens, full tables, and drawn graphs beside a model."""
+"""What becomes of invocations: deadlines that are moved, tokens, requests that are sent again, full tables, and drawn
+graphs beside a model.
+"""
 
 import random
 
-from harness import Wrong, adding, changing, named, new, request, same, told, token, updating
+from harness import Wrong, adding, changing, named, new, replies, request, run, same, told, told_by, token, updating
 from moments import micros, moment_in, now
 
 
@@ -43,6 +45,28 @@ def tokens_and_many_names(folder):
     same(got[4], (400, "15 TooMany: 501\n"))
     same(got[5], (200, {}))
     same(got[6], (200, {**got[0][1], "includedInvocations": ["invocations/u-b"]}))
+
+
+def requests_that_are_sent_again(folder):
+    """A creation that is sent again under its request id gets its first reply again, byte for byte, whatever has become
+    of the invocation. Another one under the id is refused and adds nothing; a refused one leaves its id free."""
+
+    def numbered(number, name):
+        return request("CreateInvocation", {"requestId": number, **new(name)})
+
+    first, other = numbered("q", "u-a"), numbered("q", "u-b")
+    end = changing("u-a", "FinalizeInvocation", named("u-a"))
+    looks = b"".join(request("GetInvocation", named(name)) for name in ("u-a", "u-b"))
+    taken, free = numbered("r", "u-a"), numbered("r", "u-b")
+    out, *ended = run(first + first + end + first + other + looks + taken + free, folder)
+    same(ended, [b"", 0])
+    came = list(replies(out))
+    same([came[1], came[3]], [came[0], came[0]])
+    created, _, final, _, *rest, accepted = [told_by(int(head.split(b" ")[1]), body) for head, body in came]
+    same([created[1]["state"], final[1]["state"]], ["ACTIVE", "FINALIZED"])
+    reused, missing = (400, "7 RequestIdReused: q\n"), (404, "8 NotFound: invocations/u-b\n")
+    same(rest, [reused, final, missing, (409, "19 Taken: invocations/u-a\n")])
+    same((accepted[0], accepted[1]["name"]), (200, "invocations/u-b"))
 
 
 def full_tables(folder):
@@ -110,6 +134,7 @@ def graphs_beside_a_model(folder):
 CHECKS = {
     "a deadline that is moved": a_deadline_that_is_moved,
     "tokens, and many names": tokens_and_many_names,
+    "requests that are sent again": requests_that_are_sent_again,
     "graphs beside a model": graphs_beside_a_model,
     "full tables": full_tables,
 }
