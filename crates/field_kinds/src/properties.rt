@@ -1,5 +1,6 @@
 //! Properties of a result.
 ghost use Rattle.std.specs.Prelude.{◌≡◌, ◌≤◌, None, length, IfOk, IfErr};
+ghost use Rattle.std.specs.Str.{IsUtf8};
 ghost use Rattle.serde_json.specs.View.{view};
 ghost use Rattle.serde_json.specs.Written.{compact_text};
 ghost use Rattle.json_fields.specs.Faults.{Says};
@@ -8,6 +9,7 @@ ghost use Rattle.field_kinds.specs.Properties.{properties_fault, IsKept, value_i
 
 use crate::trees::{has_float, is_within};
 use json_fields::{FaultKind, Form, ReadFault, Why, Written};
+use lists::Bytes;
 use serde_json::Value;
 use std::alloc::{AllocError, Global};
 use std::marker::Model;
@@ -37,6 +39,16 @@ impl Properties {
         ensures kept { IsKept self.now }
     {
         self.text.as_str()
+    }
+
+    /// The bytes of the compact text, moved out.
+    pub fn into_bytes(self) -> Bytes
+        ensures bytes { result ≡ self }
+        ensures utf8 { IsUtf8 self }
+        ensures kept { IsKept self }
+    {
+        let _utf8 = self.text.as_str();
+        Bytes::new(self.text.into_bytes())
     }
 }
 
