@@ -8,3 +8,4 @@ pub mod ExonerationLaws
 pub mod BatchLaws
 pub mod MethodLaws
 pub mod NameTextLaws
+pub mod PlainLaws

@@ -1,6 +1,6 @@
 //! Laws of the definitions that the contracts cite. These functions do nothing: what each of them
 //! ensures is the law.
-ghost use Rattle.result_forms.specs.Laws.{AsksForOne, AsksOfForm};
+ghost use Rattle.result_forms.specs.Laws.{AsksForOne, AsksOfForm, WritesPlain, ShowsPlainResults, ShowsPlainExonerations};
 ghost use Rattle.result_forms.specs.Methods.{results_form, exonerations_form};
 
 /// One body asks for one batch of results at most.
@@ -22,4 +22,16 @@ pub fn results_are_of_form()
 /// A batch of exonerations that a body asks for is of its form, likewise.
 pub fn exonerations_are_of_form()
     ensures { AsksOfForm exonerations_form }
+{}
+
+/// What is written of a request has no float and nests at most 68 levels, whatever its texts are.
+pub fn batches_are_written_plain()
+    ensures results { WritesPlain results_form }
+    ensures exonerations { WritesPlain exonerations_form }
+{}
+
+/// What replies show of a row has no float and nests at most 65 levels, whatever its texts are.
+pub fn rows_are_shown_plain()
+    ensures results { ShowsPlainResults }
+    ensures exonerations { ShowsPlainExonerations }
 {}
