@@ -1,21 +1,16 @@
 -- Batches: what is written of one is read again; a value says one at most, of its form.
-use Rattle.std.proofs.Common.{◌≡◌, ℕ, Bool, true, false, List, [], ◌∷◌, length, map, Option, Some, None, option_map, refl, sym, ap, subst, ◌∙◌, arith}
-use Rattle.std.specs.Prelude.{All, IsTrue, option_and_then}
+use Rattle.std.proofs.Common.{◌≡◌, ℕ, true, false, List, [], ◌∷◌, Option, Some, None, option_map, refl, sym, subst, ◌∙◌, arith}
+use Rattle.std.specs.Prelude.{All}
 use Rattle.std.specs.Option.{ForSome}
 use Rattle.std.proofs.lemmas.List.Elements.{All-head, All-tail}
 use Rattle.std.proofs.lemmas.Option.{none-some, same_Some}
 use Rattle.serde_json.specs.Data.{Data, null, boolean, number, string, array, object, no_members, no_items, item}
-use Rattle.serde_json.specs.View.{items_of}
-use Rattle.name_parts.specs.declared.alphabets.Alphabet.TheVariants as alphabet
-use Rattle.name_parts.specs.declared.parts.PartForm.TheVariants.{Letters}
-use Rattle.name_parts.proofs.PartLemmas.{part_fault-None}
 use Rattle.names_realms.specs.Names.{invocation_name, invocation_name_fault, IsInvocationId, IsInvocationName}
 use Rattle.json_fields.specs.Names.{NameForm}
 use Rattle.json_fields.specs.Fields.{member, set, required, optional, fault_optional, filled_at, set_at, Holds, HoldsMaybe}
 use Rattle.json_fields.specs.Kinds.{an_object, a_list, empty_text, empty_list, never_empty, IsEach}
-use Rattle.json_fields.specs.Texts.{a_text, IsText, IsSame, bad_value}
-use Rattle.json_fields.specs.Writing.{IsWritten, AllWritten, list_data, is_bare}
-use Rattle.json_fields.specs.declared.faults.FieldFault.{FieldFault}
+use Rattle.json_fields.specs.Texts.{IsText, IsSame}
+use Rattle.json_fields.specs.Writing.{AllWritten, list_data, is_bare}
 use Rattle.json_fields.specs.declared.names.Step.TheVariants.{Member}
 use Rattle.json_fields.specs.Faults.{Says}
 use Rattle.json_fields.specs.declared.faults.ReadFault.{ReadFault}
@@ -25,12 +20,10 @@ use Rattle.json_fields.proofs.MeaningLaws.{first_left, first_right, moved_none, 
 use Rattle.json_fields.proofs.NameLaws.{name_one}
 use Rattle.json_fields.proofs.SpellLaws.{invocation_name_spelled}
 use Rattle.json_fields.proofs.WriteLaws.{differ, listed_written, member_put, member_other, optional_lost}
-use Rattle.text_kinds.specs.Texts.{a_string, limited_why, inked, most_of_request_id}
 use Rattle.field_kinds.specs.Beside.{a_same_text}
 use Rattle.field_kinds.specs.Filled.{optional_filled}
 use Rattle.result_forms.specs.Names as name
-use Rattle.result_forms.specs.Fields.{an_invocation_name, IsNameOf, a_request_id, IsRequestId, text_in}
-use Rattle.result_forms.specs.Members.{object_of}
+use Rattle.result_forms.specs.Fields.{an_invocation_name, IsNameOf, request_id_why, a_request_id, IsRequestId, text_in}
 use Rattle.result_forms.specs.Batches.{Batch, RowForm, an_element, elements, a_batch, IsElement, IsBatch, element_data, batch_members, batch_data, IsBatchOfForm}
 use Rattle.result_forms.proofs.MemberLaws.{member_of, two_names, one_name}
 use Rattle.result_forms.proofs.FieldLaws.{required_read, spelled_read, empty_read, filled_read}
@@ -67,11 +60,11 @@ filled_text (string s) text e is same = let bare : s ≡ [] = sym is ∙ same in
 filled_text (array ds) text e is same = absurd is
 filled_text (object ms) text e is same = absurd is
 
-request_right : (d : Data) (text : List ℕ) → a_request_id d ≡ None → IsText IsSame d text → limited_why most_of_request_id inked text ≡ None
+request_right : (d : Data) (text : List ℕ) → a_request_id d ≡ None → IsText IsSame d text → request_id_why text ≡ None
 request_right null text none is = absurd is
 request_right (boolean b) text none is = absurd is
 request_right (number n) text none is = absurd is
-request_right (string s) text none is = subst (λ (t : List ℕ). limited_why most_of_request_id inked t ≡ None) (sym is) (unbad (limited_why most_of_request_id inked s) none)
+request_right (string s) text none is = subst (λ (t : List ℕ). request_id_why t ≡ None) (sym is) (unbad (request_id_why s) none)
 request_right (array ds) text none is = absurd is
 request_right (object ms) text none is = absurd is
 

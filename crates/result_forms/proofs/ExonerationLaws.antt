@@ -1,5 +1,5 @@
 -- Exonerations: what is written of one is read again; a value says one at most, of its form.
-use Rattle.std.proofs.Common.{◌≡◌, ℕ, List, [], ◌∷◌, Option, Some, None, refl, sym, ◌∙◌}
+use Rattle.std.proofs.Common.{◌≡◌, [], Some, None, refl, sym, ◌∙◌}
 use Rattle.serde_json.specs.Data.{Data, string}
 use Rattle.names_realms.specs.Names.{test_id_fault, IsTestId}
 use Rattle.names_realms.specs.Variants.{IsAscending}
@@ -9,11 +9,10 @@ use Rattle.json_fields.specs.Texts.{a_text, IsText, IsSame}
 use Rattle.json_fields.proofs.FormLaws.{GivesForm, required_form}
 use Rattle.json_fields.proofs.MeaningLaws.{first_left, first_right, holds_one, same_one}
 use Rattle.json_fields.proofs.SpellLaws.{test_id_spelled}
-use Rattle.text_kinds.specs.Texts.{any_byte, most_of_html}
 use Rattle.field_kinds.specs.Variants.{a_variant, IsVariant, AreOfGrammar}
 use Rattle.test_results.specs.declared.exoneration.TestExoneration.{TestExoneration}
 use Rattle.result_forms.specs.Names as name
-use Rattle.result_forms.specs.Fields.{html, IsUtf8Text, IsHtml}
+use Rattle.result_forms.specs.Fields.{html_why, html, IsUtf8Text, IsHtml}
 use Rattle.result_forms.specs.Exonerations.{an_exoneration, IsExoneration, exoneration_members, new_exoneration_data, IsExonerationOfForm}
 use Rattle.result_forms.specs.Shown.{text_shown, variant_shown}
 use Rattle.result_forms.proofs.MemberLaws.{member_of, two_names, one_name}
@@ -31,7 +30,7 @@ exoneration_written x is =
     let test = spelled_read name.test_id d test_id_fault IsSame x.test x.test
     (member_of name.test_id (exoneration_members x) (Some (string x.test)) (two_names (Some (string x.test)))) (test_id_spelled x.test is.test) in
     let variant = variant_read name.variant d x.variant (member_of name.variant (exoneration_members x) (variant_shown x.variant) (one_name (variant_shown x.variant))) is.order is.variant in
-    let explanation = text_read most_of_html any_byte name.explanation_html d x.explanation
+    let explanation = text_read html_why name.explanation_html d x.explanation
     (member_of name.explanation_html (exoneration_members x) (text_shown x.explanation) (two_names (text_shown x.explanation))) is.explanation.0 is.explanation.1 in (
       rw (test.0, variant.0, explanation.0) refl,
       record {

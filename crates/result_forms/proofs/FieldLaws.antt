@@ -1,12 +1,10 @@
 -- A field whose member is known: what is read of it.
-use Rattle.std.proofs.Common.{◌≡◌, ◌≤◌, ℕ, ℤ, Bool, true, false, List, [], ◌∷◌, Option, Some, None, option_map, refl, sym, subst, ◌∙◌}
-use Rattle.std.specs.Str.{IsUtf8, is_utf8}
-use Rattle.std.proofs.lemmas.Str.{is_utf8-from_IsUtf8}
-use Rattle.serde_json.specs.Data.{Data, null, boolean, number, string, array, object}
+use Rattle.std.proofs.Common.{◌≡◌, ℕ, Bool, false, List, Option, Some, None, option_map, refl}
+use Rattle.serde_json.specs.Data.{Data, string}
 use Rattle.json_fields.specs.Names.{NameForm}
-use Rattle.json_fields.specs.Fields.{member, set, filled, required, optional, filled_at, set_at, fault_optional, Holds, HoldsMaybe}
+use Rattle.json_fields.specs.Fields.{member, set, required, optional, filled_at, set_at, Holds, HoldsMaybe}
 use Rattle.json_fields.specs.Kinds.{empty_text}
-use Rattle.json_fields.specs.Texts.{a_text, IsText, IsSame}
+use Rattle.json_fields.specs.Texts.{a_text, IsText}
 use Rattle.json_fields.specs.Writing.{IsSpelled}
 use Rattle.json_fields.specs.declared.faults.FieldFault.{FieldFault}
 use Rattle.name_parts.specs.declared.faults.NameFault.{NameFault}

@@ -1,5 +1,5 @@
 -- Kinds of fields of a row: a value means one thing at most, and what it means is of its form.
-use Rattle.std.proofs.Common.{◌≡◌, ◌⊎◌, inl, inr, ◌≤◌, ℕ, ℤ, Bool, true, false, List, [], ◌∷◌, ◌++◌, length, Option, Some, None, refl, sym, ap, subst, ◌∙◌, arith}
+use Rattle.std.proofs.Common.{◌≡◌, inl, inr, ◌≤◌, ℕ, Bool, true, false, List, [], ◌∷◌, length, Option, Some, None, refl, sym, ap, subst, ◌∙◌, arith}
 use Rattle.std.specs.Prelude.{codes, option_and_then, option_map, All, nat_lt, if◌then◌else◌}
 use Rattle.std.specs.Option.{option_or}
 use Rattle.std.proofs.lemmas.Str.{IsUtf8-nil}
@@ -22,12 +22,12 @@ use Rattle.names_realms.specs.declared.pairs.PairFault.TheVariants.{Key, Value}
 use Rattle.names_realms.specs.Pairs.{pair_fault, pair_value_fault, utf8_place}
 use Rattle.names_realms.specs.Variants.{IsAscending}
 use Rattle.json_fields.specs.Names.{NameForm}
-use Rattle.json_fields.specs.Faults.{here, moved}
+use Rattle.json_fields.specs.Faults.{here}
 use Rattle.json_fields.specs.declared.faults.FaultKind.TheVariants.{WrongKind}
 use Rattle.json_fields.specs.Fields as field
 use Rattle.json_fields.specs.Fields.{optional, set_at, fault_optional, filled, filled_at}
 use Rattle.json_fields.specs.Kinds.{an_object}
-use Rattle.json_fields.specs.Texts.{a_text, refused, span_fault, bad_value, IsText, IsSame}
+use Rattle.json_fields.specs.Texts.{a_text, refused, span_fault, bad_value, IsText}
 use Rattle.json_fields.specs.declared.faults.FieldFault.{FieldFault}
 use Rattle.json_fields.specs.declared.names.Step.TheVariants.{Member}
 use Rattle.json_fields.specs.declared.whys.Why.{Why}
@@ -35,15 +35,15 @@ use Rattle.json_fields.proofs.FormLaws.{GivesForm, text_form}
 use Rattle.json_fields.proofs.MeaningLaws.{first_left, first_right, moved_none, text_one, same_one}
 use Rattle.json_fields.proofs.NameLaws.{part_refused, limited_refused}
 use Rattle.json_fields.proofs.TextLaws.{span_of_text, span_fault-is, value_good}
-use Rattle.text_kinds.specs.Texts.{a_string, limited_why, any_byte, most_of_message}
-use Rattle.text_kinds.specs.Statuses.{IsStatus, status_of}
+use Rattle.text_kinds.specs.Texts.{a_string}
+use Rattle.text_kinds.specs.Statuses.{IsStatus}
 use Rattle.field_kinds.specs.Defaults.{HoldsOr}
 use Rattle.field_kinds.specs.Filled.{optional_filled}
 use Rattle.field_kinds.specs.Flags.{IsFlag}
 use Rattle.field_kinds.specs.Properties.{a_properties, empty_object}
-use Rattle.field_kinds.specs.Variants.{def_name, all_texts, pairs_of, told, pairs_fault, members_fault, a_def, pairs_in, pairs_at, a_variant, IsVariant, IsPairOfGrammar, AreOfGrammar}
+use Rattle.field_kinds.specs.Variants.{def_name, all_texts, pairs_of, told, pairs_fault, a_def, pairs_in, pairs_at, a_variant, IsVariant, IsPairOfGrammar, AreOfGrammar}
 use Rattle.result_forms.specs.Names as name
-use Rattle.result_forms.specs.Fields.{message, a_reason, IsUtf8Text, IsReason, IsMessage, IsPropertiesOf, IsPropertiesText}
+use Rattle.result_forms.specs.Fields.{message_why, message, a_reason, IsUtf8Text, IsReason, IsMessage, IsPropertiesOf, IsPropertiesText}
 
 some_same : {A : Type 0} (a b : A) → Some a ≡ Some b → a ≡ b
 some_same a b e = cc
@@ -94,21 +94,21 @@ pub unbad : (o : Option Why) → bad_value o ≡ None → o ≡ None
 unbad None e = refl
 unbad (Some why) e = absurd cc
 
-pub limited_form : (most : ℕ) (allowed : ℕ → Bool) → GivesForm (a_string (limited_why most allowed)) IsUtf8Text (λ text. IsUtf8 text × (limited_why most allowed text ≡ None))
-limited_form most allowed null text none is = absurd (is.0)
-limited_form most allowed (boolean b) text none is = absurd (is.0)
-limited_form most allowed (number n) text none is = absurd (is.0)
-limited_form most allowed (string s) text none is = (is.1, subst (λ (t : List ℕ). limited_why most allowed t ≡ None) (sym (is.0)) (unbad (limited_why most allowed s) none))
-limited_form most allowed (array ds) text none is = absurd (is.0)
-limited_form most allowed (object ms) text none is = absurd (is.0)
+pub limited_form : (why : List ℕ → Option Why) → GivesForm (a_string why) IsUtf8Text (λ text. IsUtf8 text × (why text ≡ None))
+limited_form why null text none is = absurd (is.0)
+limited_form why (boolean b) text none is = absurd (is.0)
+limited_form why (number n) text none is = absurd (is.0)
+limited_form why (string s) text none is = (is.1, subst (λ (t : List ℕ). why t ≡ None) (sym (is.0)) (unbad (why s) none))
+limited_form why (array ds) text none is = absurd (is.0)
+limited_form why (object ms) text none is = absurd (is.0)
 
-pub message_empty : IsMessage [] 
+pub message_empty : IsMessage []
 message_empty = (IsUtf8-nil, refl)
 
 pub reason_form : GivesForm a_reason IsReason IsMessage
 unfolding a_reason
 reason_form d text none is =
-    or_form name.primary_error_message message IsUtf8Text [] IsMessage (limited_form most_of_message any_byte) message_empty d text (first_left _ _ (first_right (an_object d) _ none)) is
+    or_form name.primary_error_message message IsUtf8Text [] IsMessage (limited_form message_why) message_empty d text (first_left _ _ (first_right (an_object d) _ none)) is
 
 -- a span's text is never refused for want of memory
 no_memory : (s : List ℕ) → IsSpanFault s fault.Memory → ⊥

@@ -9,3 +9,4 @@ pub mod BatchLaws
 pub mod MethodLaws
 pub mod NameTextLaws
 pub mod PlainLaws
+pub mod Opened

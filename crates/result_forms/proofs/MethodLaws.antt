@@ -1,16 +1,13 @@
 -- The two methods: their forms, and what a body asks for by them.
-use Rattle.std.proofs.Common.{◌≡◌, ℕ, List, Option, Some, None, refl, sym, subst, ◌∙◌}
+use Rattle.std.proofs.Common.{◌≡◌, ℕ, List, Some, refl, sym, subst, ◌∙◌}
 use Rattle.serde_json.specs.Data.{Data}
 use Rattle.json_fields.specs.Fields.{IsJson}
 use Rattle.json_fields.proofs.FormLaws.{GivesForm}
-use Rattle.test_results.specs.declared.result.TestResult.{TestResult}
-use Rattle.test_results.specs.declared.exoneration.TestExoneration.{TestExoneration}
 use Rattle.result_forms.specs.declared.batches.BatchCreateTestResults.{BatchCreateTestResults}
 use Rattle.result_forms.specs.declared.batches.BatchCreateTestExonerations.{BatchCreateTestExonerations}
 use Rattle.result_forms.specs.Rows.{RequestForm}
-use Rattle.result_forms.specs.Batches.{Batch}
 use Rattle.result_forms.specs.Methods.{result_row, exoneration_row, results_of, exonerations_of, results_form, exonerations_form}
-use Rattle.result_forms.specs.Laws.{AsksBy, AsksForOne, AsksOfForm, IsReadAgain}
+use Rattle.result_forms.specs.Laws.{AsksForOne, AsksOfForm, IsReadAgain}
 use Rattle.result_forms.proofs.ResultLaws.{result_one, result_formed, result_written}
 use Rattle.result_forms.proofs.ExonerationLaws.{exoneration_one, exoneration_formed, exoneration_written}
 use Rattle.result_forms.proofs.BatchLaws.{IsLawfulRow, batch_one, batch_formed, batch_written}

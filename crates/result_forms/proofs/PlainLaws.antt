@@ -1,5 +1,5 @@
 -- What is written of a row or of a batch has no float and nests little, so that its text is known.
-use Rattle.std.proofs.Common.{◌≡◌, ◌≤◌, ◌+◌, ℕ, Bool, true, false, nat_lt, List, [], ◌∷◌, length, map, Option, Some, None, option_map, refl, sym, subst, arith}
+use Rattle.std.proofs.Common.{◌≡◌, ◌≤◌, ◌+◌, ℕ, Bool, true, false, nat_lt, List, [], ◌∷◌, length, map, Option, Some, None, option_map, refl, arith}
 use Rattle.std.specs.Prelude.{⊤, ◌||◌, if◌then◌else◌, option_and_then, fold}
 use Rattle.std.proofs.lemmas.Bool.{ltb-false}
 use Rattle.serde_json.specs.Data.{Data, null, boolean, number, string, array, object, Members, no_members, put, depth, items_depth}
@@ -17,16 +17,16 @@ use Rattle.json_fields.specs.Writing.{list_data}
 use Rattle.json_fields.specs.declared.faults.FieldFault.{FieldFault}
 use Rattle.json_fields.specs.declared.faults.FaultKind.TheVariants.{BadValue}
 use Rattle.json_fields.specs.declared.whys.Why.TheVariants.{NotWhole, TooLong, TooDeep}
-use Rattle.json_fields.proofs.PlainLaws.{IsPlain, ArePlain, plain-put, plain-put_list, plain_text, no_members_plain, plain_object, plain_tag}
-use Rattle.field_kinds.specs.Properties.{a_properties, properties_fault, long_fault, deep_fault, empty_object}
+use Rattle.json_fields.proofs.PlainLaws.{IsPlain, ArePlain, plain-put, plain_text, no_members_plain, plain_object, plain_tag}
+use Rattle.field_kinds.specs.Properties.{a_properties, long_fault, deep_fault, empty_object}
 use Rattle.field_kinds.specs.Variants.{def_name}
 use Rattle.test_results.specs.declared.result.TestResult.{TestResult}
 use Rattle.test_results.specs.declared.exoneration.TestExoneration.{TestExoneration}
 use Rattle.result_forms.specs.Members.{put_some, put_all, object_of}
 use Rattle.result_forms.specs.Names as name
-use Rattle.result_forms.specs.Shown.{as_text, unless_empty, text_shown, flag_shown, pair_shown, pair_data, tags_shown, put_pair, variant_shown, reason_of, reason_shown, unless_faulty, right_object, properties_shown, moment_data, span_data}
-use Rattle.result_forms.specs.Results.{more_members, result_members, new_result_data}
-use Rattle.result_forms.specs.Exonerations.{exoneration_members, new_exoneration_data}
+use Rattle.result_forms.specs.Shown.{as_text, unless_empty, text_shown, flag_shown, pair_shown, pair_data, tags_shown, put_pair, variant_shown, reason_of, unless_faulty, right_object, properties_shown}
+use Rattle.result_forms.specs.Results.{more_members, result_members}
+use Rattle.result_forms.specs.Exonerations.{exoneration_members}
 use Rattle.result_forms.specs.Batches.{Batch, RowForm, element_data, batch_members, batch_data}
 use Rattle.result_forms.specs.Methods.{result_row, exoneration_row, results_of, exonerations_of, results_form, exonerations_form}
 use Rattle.result_forms.specs.Laws.{WritesPlain, ShowsPlainResults, ShowsPlainExonerations}
@@ -152,10 +152,28 @@ properties_plain text = read_plain (read (as_text text))
 
 pub result_plain : (r : TestResult) → EachPlain 64 (result_members r)
 result_plain r =
-    let more : EachPlain 64 (more_members r) = (maybe_plain 64 moment_text r.start, (maybe_plain 64 span_text r.duration, (tags_plain r.tags,
-    (reason_plain (text_shown r.message) (text_plain 0 r.message), (properties_plain r.properties, tt))))) in
-    (plain_text 64 r.test, (plain_text 64 r.result, (variant_plain r.variant, (flag_plain 64 r.expected,
-    (plain_text 64 (status_name r.status), (text_plain 64 r.summary, more))))))
+    let more : EachPlain 64 (more_members r) = (
+      maybe_plain 64 moment_text r.start,
+      (
+        maybe_plain 64 span_text r.duration,
+        (
+          tags_plain r.tags,
+          (reason_plain (text_shown r.message) (text_plain 0 r.message), (properties_plain r.properties, tt)),
+        ),
+      ),
+    ) in (
+      plain_text 64 r.test,
+      (
+        plain_text 64 r.result,
+        (
+          variant_plain r.variant,
+          (
+            flag_plain 64 r.expected,
+            (plain_text 64 (status_name r.status), (text_plain 64 r.summary, more)),
+          ),
+        ),
+      ),
+    )
 
 pub exoneration_plain : (x : TestExoneration) → EachPlain 64 (exoneration_members x)
 exoneration_plain x = (plain_text 64 x.test, (variant_plain x.variant, (text_plain 64 x.explanation, tt)))

@@ -1,6 +1,5 @@
 -- Test results: what is written of one is read again; a value says one at most, of its form.
-use Rattle.std.proofs.Common.{◌≡◌, ◌≤◌, ℕ, ℤ, false, List, [], ◌∷◌, ◌++◌, Option, Some, None, option_map, refl, sym, ap, ◌∙◌}
-use Rattle.std.specs.Str.{IsUtf8}
+use Rattle.std.proofs.Common.{◌≡◌, ◌≤◌, false, [], Some, None, option_map, refl, sym, ◌∙◌}
 use Rattle.std.proofs.lemmas.Str.{IsUtf8-nil}
 use Rattle.serde_json.specs.Data.{Data, string}
 use Rattle.name_parts.specs.declared.alphabets.Alphabet.TheVariants as alphabet
@@ -11,22 +10,20 @@ use Rattle.moments_spans.specs.Moments.{moment_text, IsInYears}
 use Rattle.moments_spans.specs.MomentGrammar.{IsMomentText}
 use Rattle.moments_spans.specs.Spans.{span_text, most_span}
 use Rattle.moments_spans.specs.SpanGrammar.{IsSpanText}
-use Rattle.json_fields.specs.Names.{NameForm}
-use Rattle.json_fields.specs.Fields.{member, required, optional, filled_at, set_at}
+use Rattle.json_fields.specs.Fields.{required, optional, filled_at, set_at}
 use Rattle.json_fields.specs.Kinds.{an_object, a_list, empty_text}
 use Rattle.json_fields.specs.Texts.{a_text, IsText, IsSame, moment_fault, span_fault}
 use Rattle.json_fields.specs.Tags.{a_tag, IsTag, IsPairOfGrammar}
 use Rattle.json_fields.proofs.FormLaws.{GivesForm, moment_form, optional_form, optional_list_form, part_form, required_form, tag_form}
 use Rattle.json_fields.proofs.MeaningLaws.{first_left, first_right, holds_one, maybe_one, list_one, same_one, moment_one, tag_one}
 use Rattle.json_fields.proofs.SpellLaws.{test_id_spelled, result_id_spelled, moment_spelled, span_spelled}
-use Rattle.text_kinds.specs.Texts.{any_byte, most_of_html}
 use Rattle.text_kinds.specs.Statuses.{a_status, no_status, IsStatus, status_name}
 use Rattle.field_kinds.specs.Flags.{a_flag, IsFlag}
 use Rattle.field_kinds.specs.Properties.{empty_object}
 use Rattle.field_kinds.specs.Variants.{a_variant, IsVariant, AreOfGrammar}
 use Rattle.test_results.specs.declared.result.TestResult.{TestResult}
 use Rattle.result_forms.specs.Names as name
-use Rattle.result_forms.specs.Fields.{html, a_reason, IsUtf8Text, IsReason, IsPropertiesOf, IsHtml, IsMessage}
+use Rattle.result_forms.specs.Fields.{html_why, html, a_reason, IsUtf8Text, IsReason, IsPropertiesOf, IsHtml, IsMessage}
 use Rattle.result_forms.specs.Results.{a_what, a_more, a_result, IsWhat, IsMore, IsResult, what_of, more_of, result_members, new_result_data, IsWhatOfForm, IsMoreOfForm, IsResultOfForm}
 use Rattle.result_forms.specs.Shown.{flag_shown, text_shown, variant_shown, tags_shown, reason_shown, properties_shown, moment_data, span_data}
 use Rattle.result_forms.specs.declared.results.What.{What}
@@ -50,7 +47,7 @@ what_written r is =
     let variant = variant_read name.variant d r.variant (member_of name.variant (result_members r) (variant_shown r.variant) (one_name (variant_shown r.variant))) is.order is.variant in
     let expected = flag_read name.expected d r.expected (member_of name.expected (result_members r) (flag_shown r.expected) (one_name (flag_shown r.expected))) in
     let status = status_read name.status d r.status (member_of name.status (result_members r) (Some (string (status_name r.status))) (one_name (Some (string (status_name r.status))))) in
-    let summary = text_read most_of_html any_byte name.summary_html d r.summary
+    let summary = text_read html_why name.summary_html d r.summary
     (member_of name.summary_html (result_members r) (text_shown r.summary) (two_names (text_shown r.summary))) is.summary.0 is.summary.1 in (
       rw (test.0, result.0, variant.0, expected.0, status.0, summary.0) refl,
       record {
@@ -135,7 +132,7 @@ result_one d a b h k =
 -- ---- of its form
 
 pub html_form : GivesForm html IsUtf8Text IsHtml
-html_form = limited_form most_of_html any_byte
+html_form = limited_form html_why
 
 pub html_empty : IsHtml []
 html_empty = (IsUtf8-nil, refl)

@@ -16,16 +16,15 @@ use Rattle.names_realms.specs.Variants.{IsAscending}
 use Rattle.names_realms.specs.declared.states.Status.{Status}
 use Rattle.names_realms.specs.declared.states.Status.TheVariants.{Pass, Fail, Crash, Abort, Skip}
 use Rattle.json_fields.specs.Names.{NameForm}
-use Rattle.json_fields.specs.Fields.{required, optional, filled_at, set_at, Holds, HoldsMaybe} 
+use Rattle.json_fields.specs.Fields.{required, optional, filled_at, set_at, Holds, HoldsMaybe}
 use Rattle.json_fields.specs.Fields as field
 use Rattle.json_fields.specs.Kinds.{a_list, never_empty, HoldsList}
 use Rattle.json_fields.specs.Tags.{a_tag, IsTag, IsPairOfGrammar, tag_data}
-use Rattle.json_fields.specs.Texts.{IsText, IsSame}
 use Rattle.json_fields.specs.Writing.{IsWritten, AllWritten, list_data}
-use Rattle.json_fields.specs.declared.faults.FieldFault.{FieldFault}
+use Rattle.json_fields.specs.declared.whys.Why.{Why}
 use Rattle.json_fields.proofs.TextLaws.{value_right}
 use Rattle.json_fields.proofs.WriteLaws.{tag_written, list_no_fault, list_meant, set_found, set_lost, optional_found, optional_lost}
-use Rattle.text_kinds.specs.Texts.{a_string, limited_why}
+use Rattle.text_kinds.specs.Texts.{a_string}
 use Rattle.text_kinds.specs.Statuses.{a_status, no_status, IsStatus, status_name}
 use Rattle.field_kinds.specs.Defaults.{HoldsOr}
 use Rattle.field_kinds.specs.Filled.{optional_filled}
@@ -34,11 +33,10 @@ use Rattle.field_kinds.specs.Properties.{a_properties, empty_object, IsCompact, 
 use Rattle.field_kinds.specs.Variants.{a_variant, IsVariant, AreOfGrammar, IsPairOfGrammar as OfGrammar, def_members, variant_data}
 use Rattle.field_kinds.proofs.VariantLaws.{variant_written, put_after, grammar_at}
 use Rattle.result_forms.specs.Names as name
-use Rattle.result_forms.specs.Fields.{html, message, a_reason, IsHtml, IsMessage, IsUtf8Text, IsReason, IsPropertiesOf, IsPropertiesText}
-use Rattle.result_forms.specs.Members.{object_of}
-use Rattle.result_forms.specs.Shown.{as_text, text_shown, flag_shown, pair_shown, pair_data, tags_shown, put_pair, variant_shown, reason_of, reason_shown, right_object, unless_faulty, properties_shown}
+use Rattle.result_forms.specs.Fields.{message, a_reason, IsMessage, IsUtf8Text, IsReason, IsPropertiesOf, IsPropertiesText}
+use Rattle.result_forms.specs.Shown.{as_text, text_shown, flag_shown, pair_shown, pair_data, tags_shown, put_pair, variant_shown, reason_of, reason_shown, right_object, properties_shown}
 use Rattle.result_forms.proofs.FieldLaws.{required_read, default_read, other_read, empty_default, filled_other}
-use Rattle.result_forms.proofs.MemberLaws.{member_of, two_names}
+use Rattle.result_forms.proofs.MemberLaws.{member_of}
 
 -- ---- texts
 
@@ -58,12 +56,12 @@ text_of_some b bs is = rw (as_text-utf8 (b ∷ bs) is) refl
 text_of_none : text_shown [] ≡ None
 text_of_none = rw (as_text-utf8 [] IsUtf8-nil) refl
 
-module _ (most : ℕ) (allowed : ℕ → Bool) (n : NameForm) (d : Data) where
-  pub text_read : (text : List ℕ) → field.member n d ≡ text_shown text → IsUtf8 text → limited_why most allowed text ≡ None
-      → (optional n (a_string (limited_why most allowed)) d ≡ None) × HoldsOr IsUtf8Text [] (set_at n d) text
-  text_read [] there utf8 right = default_read n d (a_string (limited_why most allowed)) IsUtf8Text [] [] (there ∙ text_of_none) refl
+module _ (why : List ℕ → Option Why) (n : NameForm) (d : Data) where
+  pub text_read : (text : List ℕ) → field.member n d ≡ text_shown text → IsUtf8 text → why text ≡ None
+      → (optional n (a_string why) d ≡ None) × HoldsOr IsUtf8Text [] (set_at n d) text
+  text_read [] there utf8 right = default_read n d (a_string why) IsUtf8Text [] [] (there ∙ text_of_none) refl
   text_read (b ∷ bs) there utf8 right =
-      other_read n d (a_string (limited_why most allowed)) IsUtf8Text [] (b ∷ bs) (string (b ∷ bs)) (there ∙ text_of_some b bs utf8) refl (rw right refl) (refl, utf8)
+      other_read n d (a_string why) IsUtf8Text [] (b ∷ bs) (string (b ∷ bs)) (there ∙ text_of_some b bs utf8) refl (rw right refl) (refl, utf8)
 
 pub flag_read : (n : NameForm) (d : Data) (on : Bool) → field.member n d ≡ flag_shown on
     → (optional n a_flag d ≡ None) × HoldsOr IsFlag false (set_at n d) on

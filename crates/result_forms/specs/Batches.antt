@@ -1,5 +1,5 @@
 -- Batches of rows of one invocation.
-use Rattle.std.specs.Prelude.{◌≡◌, ◌≢◌, ℕ, List, [], ◌∷◌, All, Option, Some, None, option_map}
+use Rattle.std.specs.Prelude.{◌≢◌, ℕ, List, [], ◌∷◌, All, Option, Some, option_map}
 use Rattle.std.specs.Option.{ForSome}
 use Rattle.serde_json.specs.Data.{Data, string}
 use Rattle.names_realms.specs.Names.{invocation_name, IsInvocationId}
@@ -45,12 +45,13 @@ unfoldable pub an_element : {A : Type 0} → RowForm A → List ℕ → List ℕ
     → Option FieldFault
 an_element f invocation request_id d = fault_of (element_fields f invocation request_id) d
 
--- the elements, beside the invocation and the request id as the batch writes them
+-- an element of this batch, beside the invocation and the request id as the batch writes them
+abbrev pub element_of : {A : Type 0} → RowForm A → Data → Data → Option FieldFault
+element_of f batch d =
+    an_element f (text_in (set_at name.invocation batch)) (text_in (set_at name.request_id batch)) d
+
 abbrev pub elements : {A : Type 0} → RowForm A → Data → Option FieldFault
-elements f d =
-    required name.requests empty_list
-    (a_list (an_element f (text_in (set_at name.invocation d)) (text_in (set_at name.request_id d))))
-    d
+elements f d = required name.requests empty_list (a_list (element_of f d)) d
 
 -- of a batch: an invocation's name, a request id, and the elements, of which there is one at least
 abbrev pub batch_fields : {A : Type 0} → RowForm A → List (Data → Option FieldFault)
@@ -72,7 +73,7 @@ IsElement f d row = Holds f.means (filled_at f.member never_empty d) row
 pub record IsBatch {A : Type 0} (f : RowForm A) (d : Data) (b : Batch A) : Type 0 where
   pub invocation_is : Holds IsNameOf (filled_at name.invocation empty_text d) b.invocation
   pub request_id_is :
-    HoldsMaybe (IsText IsSame) (filled_at name.request_id empty_text d) b.request_id
+      HoldsMaybe (IsText IsSame) (filled_at name.request_id empty_text d) b.request_id
   pub rows_are : Holds (IsEach (IsElement f)) (filled_at name.requests empty_list d) b.rows
 
 -- What is written of a row in a batch, and of the batch. What the elements would repeat of the

@@ -3,11 +3,12 @@ use Rattle.std.specs.Prelude.{◌≡◌, ◌≢◌, ◌⊎◌, ℕ, List, [], �
 use Rattle.std.specs.Str.{IsUtf8}
 use Rattle.serde_json.specs.Data.{Data}
 use Rattle.serde_json.specs.Find.{as_str}
-use Rattle.names_realms.specs.Names.{IsInvocationName, invocation_name, invocation_name_fault}
+use Rattle.names_realms.specs.Names.{IsInvocationName, invocation_name_fault}
 use Rattle.json_fields.specs.Fields.{optional, fault_of, set_at}
 use Rattle.json_fields.specs.Kinds.{an_object}
 use Rattle.json_fields.specs.Texts.{a_text, IsText, IsSame}
 use Rattle.json_fields.specs.declared.faults.FieldFault.{FieldFault}
+use Rattle.json_fields.specs.declared.whys.Why.{Why}
 use Rattle.text_kinds.specs.Texts.{a_string, limited_why, any_byte, inked, most_of_html, most_of_message, most_of_request_id}
 use Rattle.field_kinds.specs.Defaults.{HoldsOr}
 use Rattle.field_kinds.specs.Properties.{IsCompact, IsKept}
@@ -20,25 +21,35 @@ an_invocation_name = a_text invocation_name_fault
 abbrev pub IsNameOf : Data → List ℕ → Type 0
 IsNameOf = IsText (λ text id. IsInvocationName id text)
 
--- a summary or an explanation, an error's message, and the id of a request
+-- why a text is refused as a summary or an explanation, as an error's message, and as the id of a
+-- request
+abbrev pub html_why : List ℕ → Option Why
+html_why = limited_why most_of_html any_byte
+
+abbrev pub message_why : List ℕ → Option Why
+message_why = limited_why most_of_message any_byte
+
+abbrev pub request_id_why : List ℕ → Option Why
+request_id_why = limited_why most_of_request_id inked
+
 abbrev pub html : Data → Option FieldFault
-html = a_string (limited_why most_of_html any_byte)
+html = a_string html_why
 
 abbrev pub message : Data → Option FieldFault
-message = a_string (limited_why most_of_message any_byte)
+message = a_string message_why
 
 abbrev pub a_request_id : Data → Option FieldFault
-a_request_id = a_string (limited_why most_of_request_id inked)
+a_request_id = a_string request_id_why
 
--- The texts of each that are within its limit. An id of a request isn't empty.
+-- The texts of each that aren't refused. An id of a request isn't empty.
 abbrev pub IsHtml : List ℕ → Type 0
-IsHtml text = IsUtf8 text × (limited_why most_of_html any_byte text ≡ None)
+IsHtml text = IsUtf8 text × (html_why text ≡ None)
 
 abbrev pub IsMessage : List ℕ → Type 0
-IsMessage text = IsUtf8 text × (limited_why most_of_message any_byte text ≡ None)
+IsMessage text = IsUtf8 text × (message_why text ≡ None)
 
 abbrev pub IsRequestId : List ℕ → Type 0
-IsRequestId text = (text ≢ []) × (limited_why most_of_request_id inked text ≡ None)
+IsRequestId text = (text ≢ []) × (request_id_why text ≡ None)
 
 -- the text that a value is, which is UTF-8 as all text of JSON is
 abbrev pub IsUtf8Text : Data → List ℕ → Type 0

@@ -1,5 +1,4 @@
 -- The two methods that take batches.
-use Rattle.json_fields.specs.Names.{NameForm}
 use Rattle.test_results.specs.declared.result.TestResult.{TestResult}
 use Rattle.test_results.specs.declared.exoneration.TestExoneration.{TestExoneration}
 use Rattle.result_forms.specs.Names as name

@@ -1,10 +1,9 @@
 -- What replies show of a result and of an exoneration, whole.
-use Rattle.std.specs.Prelude.{ℕ, List, [], ◌∷◌, ◌++◌, codes, decimal, Option, Some}
+use Rattle.std.specs.Prelude.{ℕ, List, ◌∷◌, ◌++◌, codes, decimal, Some}
 use Rattle.serde_json.specs.Data.{Data, string}
 use Rattle.name_parts.specs.Escapes.{escaped}
 use Rattle.names_realms.specs.Variants.{label_of}
 use Rattle.names_realms.specs.ResultNames.{result_name}
-use Rattle.json_fields.specs.Names.{NameForm}
 use Rattle.test_results.specs.declared.result.TestResult.{TestResult}
 use Rattle.test_results.specs.declared.exoneration.TestExoneration.{TestExoneration}
 use Rattle.result_forms.specs.Names as name

@@ -75,7 +75,7 @@ pub record IsMore (d : Data) (r : More) : Type 0 where
   pub tags_are : HoldsList IsTag (set_at name.tags d) r.tags
   pub message_is : HoldsOr IsReason [] (set_at name.failure_reason d) r.message
   pub properties_are :
-    HoldsOr IsPropertiesOf [] (filled_at name.properties empty_object d) r.properties
+      HoldsOr IsPropertiesOf [] (filled_at name.properties empty_object d) r.properties
 
 -- the two parts of a row
 abbrev pub what_of : TestResult → What

@@ -1,7 +1,7 @@
 -- What is written of the values of a row. What is empty is left out, and bytes that are no text are
 -- written as the empty one.
-use Rattle.std.specs.Prelude.{◌≡◌, ◌≢◌, ◌⊎◌, if◌then◌else◌, ℕ, ℤ, List, [], ◌∷◌, codes, fold, Bool, Option, Some, None, option_and_then, option_map}
-use Rattle.std.specs.Str.{IsUtf8, is_utf8}
+use Rattle.std.specs.Prelude.{if◌then◌else◌, ℕ, ℤ, List, [], ◌∷◌, fold, Bool, Option, Some, None, option_and_then, option_map}
+use Rattle.std.specs.Str.{is_utf8}
 use Rattle.serde_json.specs.Data.{Data, boolean, string, object, Members, no_members, put}
 use Rattle.serde_json.specs.Read.{read}
 use Rattle.moments_spans.specs.Moments.{moment_text}
@@ -62,7 +62,8 @@ reason_of message = object_of ((name.primary_error_message, Some message) ∷ []
 abbrev pub reason_shown : List ℕ → Option Data
 reason_shown message = option_map reason_of (text_shown message)
 
--- The object that a text of properties is; none where it is empty, or the text is of no such object.
+-- The object that a text of properties is; none where it has no members, or the text is of no such
+-- object.
 abbrev pub unless_faulty : Option FieldFault → Data → Option Data
 unless_faulty None d = if empty_object d then None else Some d
 unless_faulty (Some f) d = None

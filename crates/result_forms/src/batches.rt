@@ -41,7 +41,7 @@ impl Form for BatchCreateTestResults {
         false
     }
 
-    #[tactic(auto, unfolding(crate::specs::Batches::a_batch, json_fields::specs::Fields::required))]
+    #[tactic(auto, unfolding(crate::proofs::Opened::fields))]
     fn read(alloc: Global, value: &Value) -> Result<BatchCreateTestResults, ReadFault> {
         object(alloc, value)?;
         let named: InvocationName = required(alloc, value, invocation())?;
@@ -65,7 +65,12 @@ impl BatchCreateTestResults {
         ensures value { IfOk result (λ v. view v ≡ results_form.json self.now) }
         ensures again { results_form.CanBeAsked self.now → IsReadAgain results_form self.now }
     {
-        batch_value(alloc, &self.invocation, &self.request_id, self.requests.as_slice())
+        batch_value(
+            alloc,
+            &self.invocation,
+            &self.request_id,
+            self.requests.as_slice(),
+        )
     }
 }
 
@@ -94,18 +99,13 @@ impl Form for BatchCreateTestExonerations {
         false
     }
 
-    #[tactic(auto, unfolding(crate::specs::Batches::a_batch, json_fields::specs::Fields::required))]
+    #[tactic(auto, unfolding(crate::proofs::Opened::fields))]
     fn read(alloc: Global, value: &Value) -> Result<BatchCreateTestExonerations, ReadFault> {
         object(alloc, value)?;
         let named: InvocationName = required(alloc, value, invocation())?;
         let request_id = optional_filled(alloc, value, request_id())?;
         let outer = outer_of(value);
-        match required_list_beside::<Outer<'_>, TestExoneration>(
-            alloc,
-            &outer,
-            value,
-            requests(),
-        ) {
+        match required_list_beside::<Outer<'_>, TestExoneration>(alloc, &outer, value, requests()) {
             Ok(requests) => Ok(BatchCreateTestExonerations {
                 invocation: named.into_id(),
                 request_id,
@@ -121,8 +121,14 @@ impl BatchCreateTestExonerations {
     /// there is no memory for it.
     pub fn write(&self, alloc: Global) -> Result<Value, AllocError>
         ensures value { IfOk result (λ v. view v ≡ exonerations_form.json self.now) }
-        ensures again { exonerations_form.CanBeAsked self.now → IsReadAgain exonerations_form self.now }
+        ensures again { exonerations_form.CanBeAsked self.now
+            → IsReadAgain exonerations_form self.now }
     {
-        batch_value(alloc, &self.invocation, &self.request_id, self.requests.as_slice())
+        batch_value(
+            alloc,
+            &self.invocation,
+            &self.request_id,
+            self.requests.as_slice(),
+        )
     }
 }

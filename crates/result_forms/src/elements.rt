@@ -48,11 +48,11 @@ impl<'v> FormBeside<Outer<'v>> for TestResult {
     ghost use Rattle.result_forms.specs.Batches.{an_element, IsElement};
     ghost use Rattle.result_forms.specs.Methods.{result_row};
 
-    ghost fault = { λ outer d. an_element result_row outer.invocation.now outer.request_id.now d };
+    ghost fault = { λ outer. an_element result_row outer.invocation.now outer.request_id.now };
 
     ghost means = { λ _ d row. IsElement result_row d row };
 
-    #[tactic(auto, unfolding(crate::specs::Batches::an_element, json_fields::specs::Fields::required, json_fields::specs::Fields::optional))]
+    #[tactic(auto, unfolding(crate::proofs::Opened::fields))]
     fn read_beside(
         alloc: Global,
         context: &Outer<'v>,
@@ -72,13 +72,11 @@ impl<'v> FormBeside<Outer<'v>> for TestExoneration {
     ghost use Rattle.result_forms.specs.Batches.{an_element, IsElement};
     ghost use Rattle.result_forms.specs.Methods.{exoneration_row};
 
-    ghost fault = {
-        λ outer d. an_element exoneration_row outer.invocation.now outer.request_id.now d
-    };
+    ghost fault = { λ outer. an_element exoneration_row outer.invocation.now outer.request_id.now };
 
     ghost means = { λ _ d row. IsElement exoneration_row d row };
 
-    #[tactic(auto, unfolding(crate::specs::Batches::an_element, json_fields::specs::Fields::required, json_fields::specs::Fields::optional))]
+    #[tactic(auto, unfolding(crate::proofs::Opened::fields))]
     fn read_beside(
         alloc: Global,
         context: &Outer<'v>,

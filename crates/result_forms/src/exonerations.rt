@@ -46,7 +46,7 @@ impl Form for NewExoneration {
         false
     }
 
-    #[tactic(auto, unfolding(crate::specs::Exonerations::an_exoneration, json_fields::specs::Fields::required, json_fields::specs::Fields::optional))]
+    #[tactic(auto, unfolding(crate::proofs::Opened::fields))]
     fn read(alloc: Global, value: &Value) -> Result<NewExoneration, ReadFault> {
         object(alloc, value)?;
         let test = required(alloc, value, test_id())?;

@@ -36,7 +36,8 @@ pub(crate) fn put_some(
 
 /// Appends what is written of a value.
 fn add_shown<T: Shown>(alloc: Global, list: &mut Vec<Value>, x: &T) -> Result<(), AllocError>
-    ensures { OnOk result (map view list.new.items ≡ map view list.old.items ++ T.shows x.now ∷ []) }
+    ensures { OnOk result (map view list.new.items
+        ≡ map view list.old.items ++ T.shows x.now ∷ []) }
 {
     let value = x.value(alloc)?;
     list.push(value)?;

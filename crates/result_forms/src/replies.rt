@@ -51,11 +51,7 @@ fn put_label(
 
 /// The name of a result of an invocation.
 #[tactic(auto, unfolding(names_realms::specs::ResultNames::result_name))]
-fn name_of_result(
-    alloc: Global,
-    id: &InvocationId,
-    row: &TestResult,
-) -> Result<String, AllocError>
+fn name_of_result(alloc: Global, id: &InvocationId, row: &TestResult) -> Result<String, AllocError>
     ensures { IfOk result (λ text. string_bytes text ≡ name_of_result id.now row.now) }
 {
     let id = id.as_str();
@@ -66,11 +62,7 @@ fn name_of_result(
 
 /// The JSON object of a result of the invocation with this id. `Err` where there is no memory for
 /// it.
-pub fn result_value(
-    alloc: Global,
-    id: &InvocationId,
-    row: &TestResult,
-) -> Result<Value, AllocError>
+pub fn result_value(alloc: Global, id: &InvocationId, row: &TestResult) -> Result<Value, AllocError>
     ensures { IfOk result (λ v. view v ≡ result_data id.now row.now) }
 {
     let mut map = Map::new(alloc);

@@ -8,9 +8,7 @@ use crate::names::{
     duration, expected, failure_reason, properties, result_id, start_time, status, summary_html,
     tags, test_id, variant,
 };
-use crate::values::{
-    read_flag, read_html, read_message, read_properties, read_tags, read_variant,
-};
+use crate::values::{read_flag, read_html, read_message, read_properties, read_tags, read_variant};
 use json_fields::{Form, ReadFault, object, optional, required};
 use lists::{Bytes, Listed};
 use names_realms::{Moment, Pair, ResultId, Span, Status, TestId, Variant};
@@ -65,7 +63,7 @@ impl NewResult {
 }
 
 /// What a value says that the result is.
-#[tactic(auto, unfolding(crate::specs::Results::a_what, json_fields::specs::Fields::required))]
+#[tactic(auto, unfolding(crate::proofs::Opened::fields))]
 fn read_what(alloc: Global, value: &Value) -> Result<What, ReadFault>
     ensures ok { IfOk result (λ x. (a_what (view value.now) ≡ None) × IsWhat (view value.now) x) }
     ensures err { IfErr result (λ e. Says e (a_what (view value.now))) }
@@ -90,7 +88,7 @@ fn read_what(alloc: Global, value: &Value) -> Result<What, ReadFault>
 }
 
 /// What else a value says of the result.
-#[tactic(auto, unfolding(crate::specs::Results::a_more, json_fields::specs::Fields::optional))]
+#[tactic(auto, unfolding(crate::proofs::Opened::fields))]
 fn read_more(alloc: Global, value: &Value) -> Result<More, ReadFault>
     ensures ok { IfOk result (λ x. (a_more (view value.now) ≡ None) × IsMore (view value.now) x) }
     ensures err { IfErr result (λ e. Says e (a_more (view value.now))) }

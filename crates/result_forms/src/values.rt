@@ -59,11 +59,7 @@ pub(crate) fn read_html(alloc: Global, value: &Value, name: Name) -> Result<Byte
 }
 
 /// The pairs that tags are.
-pub(crate) fn read_tags(
-    alloc: Global,
-    value: &Value,
-    name: Name,
-) -> Result<Listed<Pair>, ReadFault>
+pub(crate) fn read_tags(alloc: Global, value: &Value, name: Name) -> Result<Listed<Pair>, ReadFault>
     ensures ok { IfOk result (λ tags. (optional name (a_list a_tag) (view value.now) ≡ None)
         × HoldsList IsTag (set_at name (view value.now)) tags) }
     ensures err { IfErr result (λ e. Says e (optional name (a_list a_tag) (view value.now))) }
@@ -88,11 +84,7 @@ pub(crate) fn read_message(alloc: Global, value: &Value, name: Name) -> Result<B
 }
 
 /// The text of properties, empty where there are none.
-pub(crate) fn read_properties(
-    alloc: Global,
-    value: &Value,
-    name: Name,
-) -> Result<Bytes, ReadFault>
+pub(crate) fn read_properties(alloc: Global, value: &Value, name: Name) -> Result<Bytes, ReadFault>
     ensures ok { IfOk result (λ text.
         (optional_filled name empty_object a_properties (view value.now) ≡ None)
         × HoldsOr IsPropertiesOf [] (filled_at name empty_object (view value.now)) text) }

@@ -41,7 +41,12 @@ pub(crate) fn put_what(
     put_some(alloc, map, expected(), flag_value(row.expected))?;
     let pairs = variant_value(alloc, row.variant.as_slice())?;
     put_some(alloc, map, variant(), pairs)?;
-    put_some(alloc, map, result_id(), text_value(alloc, row.result.as_str())?)?;
+    put_some(
+        alloc,
+        map,
+        result_id(),
+        text_value(alloc, row.result.as_str())?,
+    )?;
     put_some(alloc, map, test_id(), text_value(alloc, row.test.as_str())?)
 }
 

@@ -1,4 +1,3 @@
-use Rattle.std.proofs.Common.{refl}
 use Rattle.result_forms.proofs.NameTextLaws.{escaped_utf8}
 use Rattle.result_forms.proofs.replies.escaped_test.Goals as goal
 
