@@ -1,13 +1,15 @@
 //! Properties of a result.
 ghost use Rattle.std.specs.Prelude.{◌≡◌, ◌≤◌, None, length, IfOk, IfErr};
+ghost use Rattle.std.specs.Str.{IsUtf8};
 ghost use Rattle.serde_json.specs.View.{view};
 ghost use Rattle.serde_json.specs.Written.{compact_text};
 ghost use Rattle.json_fields.specs.Faults.{Says};
 ghost use Rattle.json_fields.specs.Kinds.{an_object};
-ghost use Rattle.field_kinds.specs.Properties.{properties_fault, IsKept, value_in};
+ghost use Rattle.field_kinds.specs.Properties.{properties_fault, IsKept};
 
 use crate::trees::{has_float, is_within};
 use json_fields::{FaultKind, Form, ReadFault, Why, Written};
+use lists::Bytes;
 use serde_json::Value;
 use std::alloc::{AllocError, Global};
 use std::marker::Model;
@@ -37,6 +39,16 @@ impl Properties {
         ensures kept { IsKept self.now }
     {
         self.text.as_str()
+    }
+
+    /// The bytes of the compact text, moved out.
+    pub fn into_bytes(self) -> Bytes
+        ensures bytes { result ≡ self }
+        ensures utf8 { IsUtf8 self }
+        ensures kept { IsKept self }
+    {
+        let _utf8 = self.text.as_str();
+        Bytes::new(self.text.into_bytes())
     }
 }
 
@@ -84,18 +96,6 @@ impl Form for Properties {
     }
 }
 
-/// The object of a text that was kept. Such a text is always read, so that only memory may be
-/// wanting.
-fn value_in(alloc: Global, text: &str) -> Result<Value, AllocError>
-    requires { IsKept text.now }
-    ensures { IfOk result (λ v. view v ≡ value_in text.now) }
-{
-    match Value::from_str(alloc, text) {
-        Ok(value) => Ok(value),
-        Err(_) => Err(AllocError),
-    }
-}
-
 impl Written for Properties {
     ghost use Rattle.field_kinds.specs.Properties.{value_in, is_braces};
 
@@ -104,6 +104,10 @@ impl Written for Properties {
     ghost blank = { is_braces };
 
     fn write(&self, alloc: Global) -> Result<Value, AllocError> {
-        value_in(alloc, self.as_str())
+        // A text that was kept is always read, so that only memory may be wanting.
+        match Value::from_str(alloc, self.as_str()) {
+            Ok(value) => Ok(value),
+            Err(_) => Err(AllocError),
+        }
     }
 }

@@ -1,11 +1,13 @@
 //! Texts with a limit.
 ghost use Rattle.std.specs.Prelude.{◌≡◌, ℕ, Bool, [], None, Some, not, option_map, IfOk, IfErr, refl};
 ghost use Rattle.std.specs.List.{position};
+ghost use Rattle.std.specs.Str.{IsUtf8};
 ghost use Rattle.json_fields.specs.Faults.{Says};
 ghost use Rattle.json_fields.specs.Texts.{bad_value};
 ghost use Rattle.text_kinds.specs.Texts.{limited_why, any_byte, printed, inked, most_of_html, most_of_message, most_of_content_type, least_of_request_id, most_of_request_id};
 
 use json_fields::{FaultKind, Form, ReadFault, Why, Written, is_empty_text};
+use lists::Bytes;
 use serde_json::Value;
 use std::alloc::{AllocError, Global};
 use std::marker::{Model, PhantomData};
@@ -210,6 +212,16 @@ impl<R: TextRule> LimitedText<R> {
         ensures allowed { limited_why R.least R.limit R.allowed self.now ≡ None }
     {
         self.text.as_str()
+    }
+
+    /// The bytes of the text, moved out.
+    pub fn into_bytes(self) -> Bytes
+        ensures bytes { result ≡ self }
+        ensures utf8 { IsUtf8 self }
+        ensures allowed { limited_why R.least R.limit R.allowed self ≡ None }
+    {
+        let _utf8 = self.text.as_str();
+        Bytes::new(self.text.into_bytes())
     }
 }
 

@@ -1,0 +1,12 @@
+pub mod MemberLaws
+pub mod FieldLaws
+pub mod ShownLaws
+pub mod OrderLaws
+pub mod KindLaws
+pub mod ResultLaws
+pub mod ExonerationLaws
+pub mod BatchLaws
+pub mod MethodLaws
+pub mod NameTextLaws
+pub mod PlainLaws
+pub mod Opened

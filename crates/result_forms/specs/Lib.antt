@@ -1,0 +1,11 @@
+pub mod Names
+pub mod Rows
+pub mod Members
+pub mod Shown
+pub mod Fields
+pub mod Results
+pub mod Exonerations
+pub mod Batches
+pub mod Methods
+pub mod Replies
+pub mod Laws
