@@ -23,7 +23,9 @@ use Rattle.json_fields.proofs.WriteLaws.{differ, listed_written, member_put, mem
 use Rattle.field_kinds.specs.Beside.{a_same_text}
 use Rattle.field_kinds.specs.Filled.{optional_filled}
 use Rattle.result_forms.specs.Names as name
-use Rattle.result_forms.specs.Fields.{an_invocation_name, IsNameOf, request_id_why, a_request_id, IsRequestId, text_in}
+use Rattle.text_kinds.specs.Texts.{a_request_id, request_id_why, IsRequestId}
+use Rattle.text_kinds.proofs.TextLaws.{only_request_ids_are_read, request_id_form}
+use Rattle.result_forms.specs.Fields.{an_invocation_name, IsNameOf, text_in}
 use Rattle.result_forms.specs.Batches.{Batch, RowForm, an_element, elements, a_batch, IsElement, IsBatch, element_data, batch_members, batch_data, IsBatchOfForm}
 use Rattle.result_forms.proofs.MemberLaws.{member_of, two_names, one_name}
 use Rattle.result_forms.proofs.FieldLaws.{required_read, spelled_read, empty_read, filled_read}
@@ -41,24 +43,12 @@ pub record IsLawfulRow {A : Type 0} (f : RowForm A) : Type 0 where
   pub no_request_proto : differ name.request_id.proto f.member.camel ≡ true
 
 -- texts that aren't empty, and lists
-bare_text : (s : List ℕ) → empty_text (string s) ≡ false → s ≡ [] → ⊥
-bare_text [] e same = absurd cc
-bare_text (b ∷ bs) e same = absurd cc
-
 some_text : (text : List ℕ) → (text ≡ [] → ⊥) → empty_text (string text) ≡ false
 some_text [] some = absurd (some refl)
 some_text (b ∷ bs) some = grind arith
 
 name_form : GivesForm an_invocation_name IsNameOf IsInvocationId
 name_form = text_form invocation_name_fault (λ text id. IsInvocationName id text) IsInvocationId (λ s a none is. is.1)
-
-filled_text : (d : Data) (text : List ℕ) → empty_text d ≡ false → IsText IsSame d text → text ≡ [] → ⊥
-filled_text null text e is same = absurd is
-filled_text (boolean b) text e is same = absurd is
-filled_text (number n) text e is same = absurd is
-filled_text (string s) text e is same = let bare : s ≡ [] = sym is ∙ same in bare_text s e bare
-filled_text (array ds) text e is same = absurd is
-filled_text (object ms) text e is same = absurd is
 
 request_right : (d : Data) (text : List ℕ) → a_request_id d ≡ None → IsText IsSame d text → request_id_why text ≡ None
 request_right null text none is = absurd is
@@ -68,14 +58,14 @@ request_right (string s) text none is = subst (λ (t : List ℕ). request_id_why
 request_right (array ds) text none is = absurd is
 request_right (object ms) text none is = absurd is
 
-request_formed : (o : Option Data) (a : Option (List ℕ)) → ((e : Data) → o ≡ Some e → empty_text e ≡ false)
+request_formed : (o : Option Data) (a : Option (List ℕ))
     → fault_optional name.request_id a_request_id o ≡ None → HoldsMaybe (IsText IsSame) o a → ForSome a IsRequestId
-request_formed None None some none holds b e = absurd (none-some b e)
-request_formed None (Some a) some none holds b e = absurd holds
-request_formed (Some d) None some none holds b e = absurd holds
-request_formed (Some d) (Some a) some none holds b e =
+request_formed None None none holds b e = absurd (none-some b e)
+request_formed None (Some a) none holds b e = absurd holds
+request_formed (Some d) None none holds b e = absurd holds
+request_formed (Some d) (Some a) none holds b e =
     subst IsRequestId (same_Some a b e)
-    (filled_text d a (some d refl) holds, request_right d a (moved_none (Member name.request_id) (a_request_id d) none) holds)
+    (request_id_form a (request_right d a (moved_none (Member name.request_id) (a_request_id d) none) holds))
 
 each_some : {A : Type 0} (means : Data → A → Type 0) (d : Data) (rows : List A) → empty_list d ≡ false → IsEach means d rows → rows ≡ [] → ⊥
 each_some means null rows e is same = absurd is
@@ -142,7 +132,7 @@ module _ {A : Type 0} (f : RowForm A) (law : IsLawfulRow f) where
   request_id_read d None there is = empty_read name.request_id d a_request_id (IsText IsSame) empty_text there
   request_id_read d (Some text) there is =
       let right = is text refl in
-      filled_read name.request_id d a_request_id (IsText IsSame) empty_text (string text) text there refl (some_text text right.0) (rw (right.1) refl) refl
+      filled_read name.request_id d a_request_id (IsText IsSame) empty_text (string text) text there refl (some_text text right.filled) (rw ((only_request_ids_are_read text).1 right) refl) refl
 
   pub batch_written : (b : Batch A) → IsBatchOfForm f b → (a_batch f (batch_data f b) ≡ None) × IsBatch f (batch_data f b) b
   unfolding a_batch
@@ -195,7 +185,7 @@ module _ {A : Type 0} (f : RowForm A) (law : IsLawfulRow f) where
       let numbered : List ℕ = text_in (set_at name.request_id d) in
       record {
         invocation = required_form name.invocation empty_text an_invocation_name IsNameOf IsInvocationId name_form d b.invocation (first_left _ _ one) is.invocation_is;
-        request_id = request_formed (filled_at name.request_id empty_text d) b.request_id (is_filled name.request_id empty_text d) (first_left _ _ two) is.request_id_is;
+        request_id = request_formed (filled_at name.request_id empty_text d) b.request_id (first_left _ _ two) is.request_id_is;
         some = rows_some (IsElement f) (filled_at name.requests empty_list d) b.rows (is_filled name.requests empty_list d) is.rows_are;
         rows = required_form name.requests empty_list (a_list (an_element f inner numbered)) (IsEach (IsElement f)) (All f.OfForm)
             (list_form (an_element f inner numbered) (IsElement f) f.OfForm (element_formed inner numbered)) d b.rows rows_none is.rows_are;

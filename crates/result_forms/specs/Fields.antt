@@ -9,7 +9,7 @@ use Rattle.json_fields.specs.Kinds.{an_object}
 use Rattle.json_fields.specs.Texts.{a_text, IsText, IsSame}
 use Rattle.json_fields.specs.declared.faults.FieldFault.{FieldFault}
 use Rattle.json_fields.specs.declared.whys.Why.{Why}
-use Rattle.text_kinds.specs.Texts.{a_string, limited_why, any_byte, inked, most_of_html, most_of_message, most_of_request_id}
+use Rattle.text_kinds.specs.Texts.{a_string, limited_why, any_byte, most_of_html, most_of_message}
 use Rattle.field_kinds.specs.Defaults.{HoldsOr}
 use Rattle.field_kinds.specs.Properties.{IsCompact, IsKept}
 use Rattle.result_forms.specs.Names as name
@@ -21,16 +21,12 @@ an_invocation_name = a_text invocation_name_fault
 abbrev pub IsNameOf : Data → List ℕ → Type 0
 IsNameOf = IsText (λ text id. IsInvocationName id text)
 
--- why a text is refused as a summary or an explanation, as an error's message, and as the id of a
--- request
+-- why a text is refused as a summary or an explanation, and as an error's message
 abbrev pub html_why : List ℕ → Option Why
-html_why = limited_why most_of_html any_byte
+html_why = limited_why 0 most_of_html any_byte
 
 abbrev pub message_why : List ℕ → Option Why
-message_why = limited_why most_of_message any_byte
-
-abbrev pub request_id_why : List ℕ → Option Why
-request_id_why = limited_why most_of_request_id inked
+message_why = limited_why 0 most_of_message any_byte
 
 abbrev pub html : Data → Option FieldFault
 html = a_string html_why
@@ -38,18 +34,12 @@ html = a_string html_why
 abbrev pub message : Data → Option FieldFault
 message = a_string message_why
 
-abbrev pub a_request_id : Data → Option FieldFault
-a_request_id = a_string request_id_why
-
--- The texts of each that aren't refused. An id of a request isn't empty.
+-- The texts of each that aren't refused.
 abbrev pub IsHtml : List ℕ → Type 0
 IsHtml text = IsUtf8 text × (html_why text ≡ None)
 
 abbrev pub IsMessage : List ℕ → Type 0
 IsMessage text = IsUtf8 text × (message_why text ≡ None)
-
-abbrev pub IsRequestId : List ℕ → Type 0
-IsRequestId text = (text ≢ []) × (request_id_why text ≡ None)
 
 -- the text that a value is, which is UTF-8 as all text of JSON is
 abbrev pub IsUtf8Text : Data → List ℕ → Type 0
