@@ -47,7 +47,7 @@ impl<'a, C: Clock> CoreTeller<'a, C> {
 impl<'a, C: Clock> Teller for CoreTeller<'a, C> {
     ghost use Rattle.std.specs.Prelude.{[], ◌∷◌};
     ghost use Rattle.service_core.specs.CoreState.{world_in};
-ghost use Rattle.service_core.specs.Service.{service_of};
+    ghost use Rattle.service_core.specs.Service.{service_of};
     ghost use Rattle.record_desk.specs.Standing.{Moves};
 
     ghost stands = { λ first now exchanges.
