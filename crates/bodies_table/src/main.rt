@@ -7,13 +7,15 @@
 //!
 //! - one of a kind, of which `names`, `texts` and `kinds` have a list: what is written of the value
 //!   that is read is told;
-//! - one of fields, parts of a value, or a reply: `fields`, `beside`, `parts`, `replies`;
+//! - one of fields, parts of a value, a batch of rows, or a reply: `fields`, `beside`, `parts`,
+//!   `batches`, `replies`;
 //! - else a method: what is written of the request that the body asks for is told.
 //!
 //! A body that isn't read comes to its fault, or to the text of its refusal. `same` stands for the
 //! body as it is (`telling`).
 #![tactic(auto)]
 
+mod batches;
 mod beside;
 mod faults;
 mod fields;
@@ -72,6 +74,9 @@ fn told_of_form(alloc: Global, word: &str, body: &[u8]) -> Result<Option<Vec<u8>
         return Ok(Some(told));
     }
     if let Some(told) = parts::told(alloc, word, body)? {
+        return Ok(Some(told));
+    }
+    if let Some(told) = batches::told(alloc, word, body)? {
         return Ok(Some(told));
     }
     replies::told(alloc, word, body)
