@@ -1,8 +1,7 @@
 -- Lists of bytes, and places that are moved.
-use Rattle.std.proofs.Common.{◌≡◌, ℕ, zero, suc, ◌+◌, ◌*◌, ◌^◌, ◌<◌, ◌≤◌, List, [], ◌∷◌, ◌++◌, length, get_or, take, drop, Option, Some, None, option_map, refl, sym, ap, ◌∙◌, arith}
+use Rattle.std.proofs.Common.{◌≡◌, ℕ, zero, suc, ◌+◌, ◌*◌, ◌^◌, ◌<◌, List, [], ◌∷◌, ◌++◌, length, get_or, drop, Option, Some, None, option_map, refl, ap, arith}
 use Rattle.std.proofs.lemmas.Nat.{from_le_bytes-to_le_bytes_2, le_bytes_2}
-use Rattle.std.specs.Int.{w16, to_le_bytes, from_le_bytes}
-use Rattle.std.specs.Option.{option_or}
+use Rattle.std.specs.Int.{w16, to_le_bytes}
 use Rattle.base64.specs.GeneralPurpose.{IsBytes}
 
 -- lists with fronts of one length are equal in both parts
@@ -32,10 +31,10 @@ pub bytes_two : (low high : ℕ) → low < 256 → high < 256 → to_le_bytes w1
 bytes_two low high l h =
     le_bytes_2 (low ∷ high ∷ []) (low + 256 * high) refl (two low high l h) (omega arith)
   where
-  two : (low high : ℕ) → low < 256 → high < 256 → (i : ℕ) → get_or (low ∷ high ∷ []) i 0 < 256
-  two low high l h zero = l
-  two low high l h (suc zero) = h
-  two low high l h (suc (suc i)) = omega arith
+    two : (low high : ℕ) → low < 256 → high < 256 → (i : ℕ) → get_or (low ∷ high ∷ []) i 0 < 256
+    two low high l h zero = l
+    two low high l h (suc zero) = h
+    two low high l h (suc (suc i)) = omega arith
 
 pub unmoved : (o : Option ℕ) → option_map (λ n. 0 + n) o ≡ o
 unmoved None = refl

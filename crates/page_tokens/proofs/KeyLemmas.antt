@@ -5,9 +5,9 @@ use Rattle.std.proofs.lemmas.List.{append-nil, drop_all, drop_at, drop_more, get
 use Rattle.std.specs.Option.{option_or}
 use Rattle.base64.specs.GeneralPurpose.{IsBytes}
 use Rattle.page_tokens.specs.declared.keys.KeyPart.{KeyPart}
-use Rattle.page_tokens.specs.Keys.{AreContents, BreaksAt, BreaksNext, IsContent, key_bytes, key_place, part_bytes, part_len, part_place}
+use Rattle.page_tokens.specs.Keys.{AreContents, BreaksAt, BreaksNext, IsContent, key_bytes, key_place, part_bytes, part_place}
 use Rattle.page_tokens.proofs.ByteLemmas.{bytes_behind, moved_twice, unmoved}
-use Rattle.page_tokens.proofs.PartLemmas.{IsWhole, HasFront, has_front, one_front, whole_part}
+use Rattle.page_tokens.proofs.PartLemmas.{HasFront, has_front, one_front, whole_part}
 
 -- one part more behind others
 pub AreContents-snoc : (parts : List KeyPart) (contents : List (List ℕ)) (part : KeyPart) (content : List ℕ) → AreContents parts contents → IsContent part content
@@ -159,11 +159,11 @@ judged (p ∷ ps) bytes are =
       | Some n ↦ λ broken. judged_broken p ps bytes n broken
     ] refl
   where
-  behind_are : (part : KeyPart) (bytes : List ℕ) (front : HasFront part bytes) → IsBytes bytes → IsBytes front.rest
-  behind_are part bytes front are =
-      let cut : drop (length (part_bytes part front.content)) bytes ≡ front.rest =
-      ap (drop (length (part_bytes part front.content))) front.form ∙ drop_at (part_bytes part front.content) front.rest (length (part_bytes part front.content)) refl in
-      subst IsBytes cut (bytes_behind (length (part_bytes part front.content)) bytes are)
+    behind_are : (part : KeyPart) (bytes : List ℕ) (front : HasFront part bytes) → IsBytes bytes → IsBytes front.rest
+    behind_are part bytes front are =
+        let cut : drop (length (part_bytes part front.content)) bytes ≡ front.rest =
+        ap (drop (length (part_bytes part front.content))) front.form ∙ drop_at (part_bytes part front.content) front.rest (length (part_bytes part front.content)) refl in
+        subst IsBytes cut (bytes_behind (length (part_bytes part front.content)) bytes are)
 
 pub one_key : (parts : List KeyPart) (contents others : List (List ℕ)) → AreContents parts contents → AreContents parts others
     → key_bytes parts contents ≡ key_bytes parts others → contents ≡ others
@@ -201,19 +201,21 @@ holds_len parts contents rest key holds = ap length holds.form ∙ length-append
 pub breaks_so : (parts whole left : List KeyPart) (contents : List (List ℕ)) (rest key : List ℕ) (place : ℕ) → HoldsSoFar whole contents rest key
     → parts ≡ whole ++ left → BreaksNext left rest place → place ≤ length rest
     → BreaksAt parts key (length key - length rest + place) × (length key - length rest + place ≤ length key)
-breaks_so parts whole left contents rest key place holds split next within =
-    (record {
-      whole = whole;
-      left = left;
-      split = split;
-      contents = contents;
-      are = holds.are;
-      rest = rest;
-      form = holds.form;
-      place = place;
-      next = next;
-      there = omega (arith, holds_len whole contents rest key holds);
-    }, omega (arith, holds_len whole contents rest key holds))
+breaks_so parts whole left contents rest key place holds split next within = (
+  record {
+    whole = whole;
+    left = left;
+    split = split;
+    contents = contents;
+    are = holds.are;
+    rest = rest;
+    form = holds.form;
+    place = place;
+    next = next;
+    there = omega (arith, holds_len whole contents rest key holds);
+  },
+  omega (arith, holds_len whole contents rest key holds),
+)
 
 pub told_place : (parts : List KeyPart) (key : List ℕ) (n at : ℕ) → n ≡ at → BreaksAt parts key n × (n ≤ length key) → BreaksAt parts key at × (at ≤ length key)
 told_place parts key n at e both = subst (λ (m : ℕ). BreaksAt parts key m × (m ≤ length key)) e both

@@ -1,5 +1,5 @@
 -- What the parts of each kind hold.
-use Rattle.std.proofs.Common.{◌≡◌, ℕ, Bor, List, [], ◌∷◌, length, map, get_or, refl, ap, arith}
+use Rattle.std.proofs.Common.{◌≡◌, ℕ, Bor, List, [], ◌∷◌, length, map, get_or, refl, arith}
 use Rattle.name_parts.specs.Parts.{IsPart}
 use Rattle.name_parts.specs.declared.parts.PartForm.TheVariants.{TestId}
 use Rattle.page_tokens.specs.Keys.{AreContents}

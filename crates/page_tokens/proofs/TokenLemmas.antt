@@ -1,5 +1,5 @@
 -- Tokens: what is wrong with bytes, and that a text has one cursor.
-use Rattle.std.proofs.Common.{◌≡◌, ◌≢◌, ℕ, zero, suc, ◌+◌, ◌<◌, ◌≤◌, ◌==◌, Bool, true, false, cond, nat_eq, List, [], ◌∷◌, ◌++◌, length, drop, Option, Some, None, Ok, Err, option_map, refl, sym, ap, subst, ◌∙◌, arith, length-append}
+use Rattle.std.proofs.Common.{◌≡◌, ◌≢◌, ℕ, zero, suc, ◌+◌, ◌≤◌, ◌==◌, Bool, true, false, cond, nat_eq, List, [], ◌∷◌, ◌++◌, length, drop, Option, Some, None, Ok, Err, option_map, refl, sym, ap, subst, ◌∙◌, arith, length-append}
 use Rattle.std.proofs.lemmas.Bool.Decides.{Decides-eqb, nat_tests}
 use Rattle.std.proofs.lemmas.List.{drop_at, drop-drop}
 use Rattle.std.proofs.lemmas.Slice.Eq.{starts_is}
@@ -190,12 +190,12 @@ not_at_all : (query : List ℕ) (kind : ℕ) (parts : List KeyPart) (bytes : Lis
 unfolding bytes_fault
 not_at_all query kind parts bytes e = never (front_place bytes) (starts_with nat_eq (drop 1 bytes) query) (rest_place kind parts (drop 33 bytes)) e
   where
-  never : (p : Option ℕ) (t : Bool) (r : Option ℕ)
-      → option_or (option_map BadForm p) (option_or (cond t None (Some OtherQuery)) (option_map (λ n. BadForm (33 + n)) r)) ≡ Some NotBase64 → ⊥
-  never (Some n) t r e = cc
-  never None false r e = cc
-  never None true (Some n) e = cc
-  never None true None e = cc
+    never : (p : Option ℕ) (t : Bool) (r : Option ℕ)
+        → option_or (option_map BadForm p) (option_or (cond t None (Some OtherQuery)) (option_map (λ n. BadForm (33 + n)) r)) ≡ Some NotBase64 → ⊥
+    never (Some n) t r e = cc
+    never None false r e = cc
+    never None true (Some n) e = cc
+    never None true None e = cc
 
 pub only_base64 : (query : List ℕ) (kind : ℕ) (parts : List KeyPart) (text bytes : List ℕ) → token_fault query kind parts text ≡ Some NotBase64
     → IsBytes bytes → text ≢ encode_of standard bytes

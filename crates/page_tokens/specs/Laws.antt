@@ -7,9 +7,9 @@ use Rattle.page_tokens.specs.declared.faults.TokenFault.TheVariants.{NotBase64}
 use Rattle.page_tokens.specs.declared.kinds.VerdictCursor.{VerdictCursor}
 use Rattle.page_tokens.specs.declared.kinds.ResultCursor.{ResultCursor}
 use Rattle.page_tokens.specs.declared.kinds.ArtifactCursor.{ArtifactCursor}
-use Rattle.page_tokens.specs.Keys.{BreaksAt, key_bytes, key_place}
-use Rattle.page_tokens.specs.Tokens.{IsToken, token_bytes, token_fault}
-use Rattle.page_tokens.specs.Cursors.{verdict_parts, verdict_contents, result_parts, result_contents, artifact_parts, artifact_contents}
+use Rattle.page_tokens.specs.Keys.{BreaksAt, key_place}
+use Rattle.page_tokens.specs.Tokens.{IsToken, token_fault}
+use Rattle.page_tokens.specs.Cursors.{verdict_contents, result_contents, artifact_contents}
 
 -- A token has no fault, and so is read.
 abbrev pub TokensHaveNoFault : Type 0
@@ -39,6 +39,13 @@ abbrev pub KeysBreakThere : Type 0
 KeysBreakThere =
     (parts : List KeyPart) (bytes : List ℕ) (at : ℕ) → IsBytes bytes
     → (key_place parts bytes ≡ Some at) ↔ BreaksAt parts bytes at
+
+-- What the parts of a key hold has one text.
+abbrev pub OneTextWritten : Type 0
+OneTextWritten =
+    (query : List ℕ) (kind : ℕ) (parts : List KeyPart) (contents : List (List ℕ))
+    (text other : List ℕ) → IsToken query kind parts contents text
+    → IsToken query kind parts contents other → text ≡ other
 
 -- One text has one query, and the key in it one content for each part.
 abbrev pub OneKeyTold : Type 0

@@ -9,7 +9,7 @@ use std::alloc::{AllocError, AllocFailed, Global};
 /// The form of a part of a key.
 #[derive(Clone, Copy)]
 pub enum KeyPart {
-    /// So many bytes of any kind, of which a number's lowest stands first.
+    /// So many bytes of any kind. Of a number the lowest stands first.
     Plain(usize),
     /// A text, in front of which its length stands.
     Text(PartForm),
@@ -114,10 +114,10 @@ fn text_of(form: PartForm, bytes: &[u8]) -> Result<Front<'_>, usize>
     ensures within { IfErr result (λ at. at ≤ length bytes.now) }
 {
     let Some((low, behind)) = bytes.split_first() else {
-        return Err(0);
+        return Err(bytes.len());
     };
     let Some((high, behind)) = behind.split_first() else {
-        return Err(1);
+        return Err(bytes.len());
     };
     let len = *low as usize + 256 * *high as usize;
     if is_bad_len(form, len) {

@@ -1,6 +1,6 @@
 //! Laws of the definitions that the contracts cite. These functions do nothing: what each of them
 //! ensures is the law.
-ghost use Rattle.page_tokens.specs.Laws.{KeysBreakThere, OneArtifactHeld, OneKeyTold, OneResultHeld, OneVerdictHeld, OnlyBase64IsRead, OnlyTokensAreRead, TokensHaveNoFault};
+ghost use Rattle.page_tokens.specs.Laws.{KeysBreakThere, OneArtifactHeld, OneKeyTold, OneResultHeld, OneTextWritten, OneVerdictHeld, OnlyBase64IsRead, OnlyTokensAreRead, TokensHaveNoFault};
 
 /// A token has no fault, and so is read.
 pub fn tokens_have_no_fault()
@@ -21,6 +21,11 @@ pub fn only_base64_is_read()
 /// at which it breaks behind them.
 pub fn keys_break_there()
     ensures { KeysBreakThere }
+{}
+
+/// What the parts of a key hold has one text.
+pub fn one_text_written()
+    ensures { OneTextWritten }
 {}
 
 /// One text has one query, and the key in it one content for each part.

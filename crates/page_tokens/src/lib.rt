@@ -6,6 +6,8 @@ mod keys;
 mod kinds;
 pub mod laws;
 mod query;
+#[cfg(test)]
+mod tests;
 mod tokens;
 
 pub use faults::TokenFault;

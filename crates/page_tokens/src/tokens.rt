@@ -142,7 +142,8 @@ fn held_in<'a>(
 /// breaks the kind or the key, at the second byte of a length that no such text has, and at the end
 /// where a part ends too soon. `Memory` where there is none.
 pub fn read_token<C: Cursor>(alloc: Global, text: &[u8], query: &Query) -> Result<C, TokenFault>
-    ensures ok { IfOk result (λ cursor. IsToken query.now C.number C.form (C.held cursor) text.now) }
+    ensures ok { IfOk result
+        (λ cursor. IsToken query.now C.number C.form (C.held cursor) text.now) }
     ensures refused { IfErr result (λ f. f ≢ TokenFault.Memory → (held : List (List ℕ))
         → ¬ IsToken query.now C.number C.form held text.now) }
     ensures fault { IfErr result (λ f. f ≢ TokenFault.Memory

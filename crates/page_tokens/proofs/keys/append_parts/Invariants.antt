@@ -1,4 +1,4 @@
-use Rattle.std.proofs.Common.{drop, map}
+use Rattle.std.proofs.Common.{map}
 use Rattle.page_tokens.proofs.KeyLemmas.{Appends}
 use Rattle.page_tokens.proofs.keys.append_parts.Given as goal
 

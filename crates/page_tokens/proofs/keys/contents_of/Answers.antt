@@ -1,7 +1,7 @@
 use Rattle.std.proofs.Common.{◌≡◌, ◌+◌, ◌-◌, List, ℕ, length, map, take, sym, ap, subst, ◌∙◌}
 use Rattle.std.proofs.lemmas.List.{map_push}
 use Rattle.page_tokens.specs.declared.keys.KeyPart.TheVariants.{Plain}
-use Rattle.page_tokens.proofs.KeyLemmas.{HoldsSoFar, breaks_end, breaks_part, holds_all, holds_next, is_bare, not_bare, told_place}
+use Rattle.page_tokens.proofs.KeyLemmas.{HoldsSoFar, breaks_end, breaks_part, holds_next, not_bare, told_place}
 use Rattle.page_tokens.proofs.keys.contents_of.Goals as goal
 
 pub returns-in-Err-clause-fault : goal.returns-in-Err-clause-fault

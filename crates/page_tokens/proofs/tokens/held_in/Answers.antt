@@ -1,6 +1,4 @@
 use Rattle.std.proofs.Common.{Err, arith, ap, ◌∙◌}
-use Rattle.page_tokens.specs.Keys.{BreaksAt}
-use Rattle.page_tokens.specs.declared.keys.KeyFault.TheVariants.{At}
 use Rattle.page_tokens.proofs.TokenLemmas.{broken_there, key_within}
 use Rattle.page_tokens.proofs.tokens.held_in.Goals as goal
 

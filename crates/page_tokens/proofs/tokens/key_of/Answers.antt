@@ -1,4 +1,4 @@
-use Rattle.std.proofs.Common.{◌≡◌, ℕ, List, Some, None, true, false, nat_eq, drop, sym, ap, ◌∙◌}
+use Rattle.std.proofs.Common.{◌≡◌, true, false, nat_eq, drop, sym, ap, ◌∙◌}
 use Rattle.std.proofs.lemmas.List.{take_rest}
 use Rattle.std.specs.List.{starts_with}
 use Rattle.page_tokens.specs.Tokens.{rest_place}

@@ -10,5 +10,5 @@ returns g c =
     let text = rw (c.as_slice.ensures.value) at c.encoded.ensures.text in
     IfOk-weaker c.encoded.result _ _
     (λ t spelled. token_read c.args.query.now g.C.Cursor.number g.C.Cursor.form (g.C.Cursor.held c.args.cursor.now) _ c.in_ok-bytes.bytes.items
-        are bytes spelled form)
+    are bytes spelled form)
     text

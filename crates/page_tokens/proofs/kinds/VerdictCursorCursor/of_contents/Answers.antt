@@ -1,4 +1,4 @@
-use Rattle.std.proofs.Common.{◌≡◌, ◌∷◌, [], List, ℕ, length, get_or, sym, ◌∙◌, arith}
+use Rattle.std.proofs.Common.{◌≡◌, [], length, sym, arith}
 use Rattle.page_tokens.proofs.KindLemmas.{holds_verdict, one_byte}
 use Rattle.page_tokens.proofs.kinds.VerdictCursorCursor.of_contents.Goals as goal
 
