@@ -1,0 +1,4 @@
+pub mod Keys
+pub mod Tokens
+pub mod Cursors
+pub mod Laws
