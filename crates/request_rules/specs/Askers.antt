@@ -1,11 +1,21 @@
 -- The code's own words: what was found of a caller's rights before they are asked.
-use Rattle.std.specs.Prelude.{◌≡◌, ◌<◌, ℕ, IfSome, length}
+use Rattle.std.specs.Prelude.{◌≡◌, ◌<◌, ℕ, List, [], ◌∷◌, Option, Some, None, IfSome, length, nat_le, if◌then◌else◌}
+use Rattle.policy_checks.specs.declared.permission.Permission.{Permission}
 use Rattle.policy_tables.specs.declared.tables.PolicyTables.{PolicyTables}
 use Rattle.permissions.specs.Granting.{Granting}
 use Rattle.request_rules.specs.declared.judging.Situation.{Situation}
 use Rattle.request_rules.specs.declared.rights.Asker.{Asker}
 use Rattle.request_rules.specs.Demands.{Demand}
 use Rattle.request_rules.specs.Locating.{located}
+
+abbrev pub first_permission : List Permission → Option Permission
+first_permission [] = None
+first_permission (permission ∷ _) = Some permission
+
+-- The permission of which a demand asks often, if there is one: the first that it takes in the
+-- realm of each one to be included, where these are more than eight.
+abbrev pub asked_often : Demand → Option Permission
+asked_often d = if nat_le (length d.included) 8 then None else first_permission d.of_included
 
 -- What was found is of this caller, by this policy.
 pub record IsHeldBy (policy : PolicyTables) (caller : ℕ) (found : Granting) : Type 0 where

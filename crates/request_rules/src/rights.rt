@@ -1,12 +1,12 @@
 //! Whether a caller has the rights that a request takes.
-ghost use Rattle.std.specs.Prelude.{◌≡◌, ◌<◌, ◌↔◌, ◌∷◌, [], Some, All, IfOk, IfSome, IsTrue, length};
+ghost use Rattle.std.specs.Prelude.{◌≡◌, ◌<◌, ◌↔◌, ◌∷◌, [], Some, All, IfOk, IfSome, IsTrue, length, option_map};
 ghost use Rattle.permissions.specs.Allows.{Allows};
-ghost use Rattle.request_rules.specs.Demands.{right, rights_here, rights_in, rights_of, rights_taken};
+ghost use Rattle.request_rules.specs.Demands.{demand_of, right, rights_here, rights_in, rights_of, rights_taken};
 ghost use Rattle.request_rules.specs.Named.{row_at};
 ghost use Rattle.request_rules.specs.Locating.{located};
 ghost use Rattle.request_rules.specs.Order.{FirstOf};
 ghost use Rattle.request_rules.specs.Broken.{Lacks};
-ghost use Rattle.request_rules.specs.Askers.{IsAsker, IsHeldBy};
+ghost use Rattle.request_rules.specs.Askers.{IsAsker, IsHeldBy, asked_often};
 
 use crate::demand::{Demand, demand_of};
 use crate::locating::Located;
@@ -63,7 +63,8 @@ impl<'p> Holding<'p> {
         permission: Permission,
     ) -> Result<Holding<'p>, AllocError>
         requires { caller < length policy.now.users }
-        ensures { IfOk result (IsHeldBy policy.now caller) }
+        ensures held { IfOk result (IsHeldBy policy.now caller) }
+        ensures asked { IfOk result (λ holding. holding.permission ≡ permission) }
     {
         let granted = policy.granted(alloc, caller, permission)?;
         Ok(Holding {
@@ -86,7 +87,9 @@ impl<'p> Holding<'p> {
 }
 
 /// The permission of which a demand asks many realms, if there is one.
-fn asked_often(demand: &Demand) -> Option<Permission> {
+fn asked_often(demand: &Demand) -> Option<Permission>
+    ensures { result ≡ asked_often demand.now }
+{
     if demand.included.len() <= FEW {
         return None;
     }
@@ -101,7 +104,9 @@ pub fn holding_for<'p>(
     call: &Call,
 ) -> Result<Option<Holding<'p>>, AllocError>
     requires { call.now.caller < length policy.now.users }
-    ensures { IfOk result (λ found. IfSome found (IsHeldBy policy.now call.now.caller)) }
+    ensures held { IfOk result (λ found. IfSome found (IsHeldBy policy.now call.now.caller)) }
+    ensures found { IfOk result (λ found. option_map (λ held. held.permission) found
+        ≡ asked_often (demand_of call.now.request)) }
 {
     match asked_often(&demand_of(&call.request)) {
         Some(permission) => Ok(Some(Holding::of(alloc, policy, call.caller, permission)?)),
