@@ -43,7 +43,7 @@ LISTED = {
         "finaliser": 2,
         "http_wire": 2,
         "http_workers": 9,
-        "journal_trial": 4,
+        "journal_trial": 2,
         "names_realms": 14,
         "outside": 38,
         "permissions": 3,

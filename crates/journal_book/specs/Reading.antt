@@ -23,10 +23,12 @@ pub record HasPlayedAll {D W : Type 0} (told : D → Option Told) (plays : Play 
   pub commands : List (List ℕ)
   pub played : HasPlayed told plays first opening w commands
   pub ended : is_ended opening ≡ true
-  pub all : (t : Told) → told (opened_disk opening) ≡ Some t → Reads t.now.first.bytes (Bodies commands)
+  pub all : (t : Told) → told (opened_disk opening) ≡ Some t
+      → Reads t.now.first.bytes (Bodies commands)
 
 -- One more was played, or all were.
-abbrev pub GoesOnPlaying : {D W : Type 0} → (D → Option Told) → Play W → W → Opening D → W → Bool → Type 0
+abbrev pub GoesOnPlaying : {D W : Type 0} → (D → Option Told) → Play W → W → Opening D → W → Bool
+    → Type 0
 GoesOnPlaying told plays first opening w true =
     (commands : List (List ℕ)) × HasPlayed told plays first opening w commands
 GoesOnPlaying told plays first opening w false = HasPlayedAll told plays first opening w

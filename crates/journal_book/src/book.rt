@@ -104,7 +104,8 @@ impl<M: Machine, D: Disk> Book<M, D> {
 
         ensures still { StandsForSome D.told M.plays (M.world self.new.machine)
             self.new.journal }
-        ensures other { OtherStays (D.told (disk_of self.old.journal)) (D.told (disk_of self.new.journal)) }
+        ensures other { OtherStays (D.told (disk_of self.old.journal))
+            (D.told (disk_of self.new.journal)) }
         ensures cause { CountsRecord (end_of self.old.journal) (5 + length (M.said plan))
             (D.faults (disk_of self.old.journal)) result (D.faults (disk_of self.new.journal)) }
     {

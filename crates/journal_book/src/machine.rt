@@ -34,8 +34,8 @@ pub trait Machine: Drop {
     ghost one_way: { (w : World) (command : List ℕ) (v x : World) → plays w command v
         → plays w command x → v ≡ x };
 
-    // The command of a plan, the answer that the plan gives, and whether it was made for the machine
-    // as it stands.
+    // The command of a plan, the answer that the plan gives, and whether it was made for the
+    // machine as it stands.
     ghost said: { Self.Plan → List ℕ };
 
     ghost gives: { Self.Plan → Self.Answer → Type 0 };

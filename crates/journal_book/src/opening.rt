@@ -102,13 +102,15 @@ impl<M: Machine, D: Disk> Book<M, D> {
         ensures world { IfOk result (λ book. HasWorldOf M.plays (M.world machine)
             (M.world book.machine) (D.told disk)) }
         ensures settled { IfOk result (λ book. is_settled book.journal ≡ true) }
-        ensures begins { IfOk result (λ book. OpensAs (D.told disk) (D.told (disk_of book.journal))) }
+        ensures begins { IfOk result (λ book. OpensAs (D.told disk)
+            (D.told (disk_of book.journal))) }
         ensures shown { IfErr result (λ e. IsOpenFault M.plays (M.world machine) (D.told disk)
             (D.told e.1) e.0) }
 
         // A part that is refused stays, and so does the other part, whatever is answered.
         ensures kept { IfErr result (λ e. LongPartStays (D.told disk) (D.told e.1)) }
-        ensures other { IfOk result (λ book. OtherStays (D.told disk) (D.told (disk_of book.journal))) }
+        ensures other { IfOk result (λ book. OtherStays (D.told disk)
+            (D.told (disk_of book.journal))) }
         ensures other_err { IfErr result (λ e. OtherStays (D.told disk) (D.told e.1)) }
 
         ensures any_moment { IfOk result (λ book. AtEachMoment (D.told disk)

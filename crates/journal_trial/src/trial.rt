@@ -1,13 +1,114 @@
-//! Numbered records in a journal.
-ghost use Rattle.std.specs.Prelude.{◌≡◌, ◌≤◌, ◌^◌, true, length, IfOk};
-ghost use Rattle.result_journal.specs.Journals.{StandsForSome, is_settled};
-ghost use Rattle.journal_trial.specs.Opened.{IfOpened};
+//! Numbered records in a journal: a machine whose world is how many there are.
+ghost use Rattle.std.specs.Prelude.{◌≡◌, ◌++◌, IfOk, IfSome, codes, decimal, string_bytes};
+ghost use Rattle.journal_book.specs.Books.{StandsForSome};
+ghost use Rattle.journal_trial.specs.Counting.{Counts, IsCounted};
 
 use disks::Disk;
-use result_journal::{Journal, OpenFault, Opening};
+use journal_book::{Book, Machine, ReplayFault};
 use std::alloc::{AllocError, Global};
 
-const GREATEST_SIZE: u64 = 1 << 23;
+const GREATEST_SIZE: usize = 1 << 23;
+
+/// How many records there are. The command of each is its number, a point, and any bytes.
+#[derive(Drop)]
+pub struct Records {
+    count: u64,
+}
+
+/// One record more.
+#[derive(Drop)]
+pub struct Next {
+    command: Vec<u8>,
+}
+
+/// How the command of the record with this number begins.
+fn front_of(alloc: Global, number: u64) -> Result<String, AllocError>
+    ensures { IfOk result (λ text. string_bytes text ≡ decimal number ++ codes ".") }
+{
+    format!(in alloc; "{number}.")
+}
+
+impl Machine for Records {
+    ghost use Rattle.std.specs.Prelude.{ℕ, ⊤};
+    ghost use Rattle.journal_trial.specs.Counting.{Counts, IsCounted, counted_on, counted_once};
+
+    type Plan = Next;
+
+    type Answer = u64;
+
+    ghost World = { ℕ };
+
+    ghost world = { λ records. records.count };
+
+    ghost plays = { Counts };
+
+    ghost one_way = { counted_once };
+
+    ghost said = { λ next. next.command.items };
+
+    ghost gives = { λ next answer. ⊤ };
+
+    ghost fits = { λ records next. IsCounted records.count next.command.items };
+
+    ghost is_body = { λ records next fits. fits.body };
+
+    ghost leads = { λ records next fits. counted_on records.count next.command.items fits };
+
+    fn command(plan: &Next) -> &[u8] {
+        &plan.command
+    }
+
+    fn commit(&mut self, _plan: Next) -> u64 {
+        let number = self.count;
+        self.count += 1;
+        number
+    }
+
+    fn replay(&mut self, alloc: Global, command: &[u8]) -> Result<(), ReplayFault> {
+        let Ok(front) = front_of(alloc, self.count) else {
+            return Err(ReplayFault::Memory);
+        };
+        if self.count == u64::MAX || !command.starts_with(front.as_bytes()) {
+            return Err(ReplayFault::OutOfPlace);
+        }
+        self.count += 1;
+        Ok(())
+    }
+}
+
+impl Records {
+    /// The next record, of so many bytes, or a few more; none where it can't be one, or there is no
+    /// memory.
+    fn next(&self, alloc: Global, size: u64) -> Option<Next>
+        ensures { IfSome result (λ next. IsCounted self.now.count next.command.items) }
+    {
+        let front = front_of(alloc, self.count).ok()?;
+        let command = numbered(alloc, &front, size).ok()?;
+        let is_body = !command.is_empty() && command.len() <= GREATEST_SIZE;
+        if self.count < u64::MAX && is_body && command.starts_with(front.as_bytes()) {
+            return Some(Next { command });
+        }
+        None
+    }
+}
+
+/// A body of so many bytes, or a few more, that begins so.
+fn numbered(alloc: Global, front: &str, size: u64) -> Result<Vec<u8>, AllocError> {
+    let mut body = front.as_bytes().to_vec(alloc)?;
+    body.resize(
+        (size.min(GREATEST_SIZE as u64) as usize).max(front.len()),
+        b'.',
+    )?;
+    Ok(body)
+}
+
+/// Opens a journal, and counts its records. None where a call failed, or a record has another
+/// number than its place.
+fn open<D: Disk + Drop>(alloc: Global, disk: D) -> Option<Book<Records, D>>
+    ensures { IfSome result (λ book. StandsForSome D.told Counts book.machine.count book.journal) }
+{
+    Book::open(alloc, Records { count: 0 }, disk).ok()
+}
 
 /// Appends records behind those that are there, and prints each number once it is acknowledged.
 pub fn append_records<D: Disk + Drop, R: Print>(
@@ -17,72 +118,30 @@ pub fn append_records<D: Disk + Drop, R: Print>(
     count: u64,
     size: u64,
 ) -> bool {
-    let Some((mut journal, first)) = open(alloc, disk) else {
+    let Some(mut book) = open(alloc, disk) else {
         return false;
     };
-    for number in 0..count {
-        let number = first.saturating_add(number);
-        if !append_one(alloc, &mut journal, number, size) || rt.println(number).is_err() {
+    for _ in 0..count {
+        let Some(next) = book.machine.next(alloc, size) else {
             return false;
+        };
+        match book.record(alloc, next) {
+            Ok(number) => {
+                if rt.println(number).is_err() {
+                    return false;
+                }
+            }
+            Err(_) => return false,
         }
     }
     true
 }
 
-/// Reads all records, and prints how many there are. False where one has another number than its place.
+/// Reads all records, and prints how many there are. False where one has another number than its
+/// place.
 pub fn read_records<D: Disk + Drop, R: Print>(rt: &R, alloc: Global, disk: D) -> bool {
     match open(alloc, disk) {
-        Some((_, count)) => rt.println(count).is_ok(),
+        Some(book) => rt.println(book.machine.count).is_ok(),
         None => false,
     }
-}
-
-fn append_one<D: Disk>(alloc: Global, journal: &mut Journal<D>, number: u64, size: u64) -> bool
-    requires stands { StandsForSome D.told journal.old }
-    requires settled { is_settled journal.old ≡ true }
-    ensures stands { StandsForSome D.told journal.new }
-    ensures settled { result ≡ true → is_settled journal.new ≡ true }
-{
-    let Ok(body) = numbered(alloc, number, size.min(GREATEST_SIZE) as usize) else {
-        return false;
-    };
-    if body.is_empty() || body.len() as u64 > GREATEST_SIZE {
-        return false;
-    }
-    journal.prepare_record(alloc, &body).is_ok() && journal.append().is_ok()
-}
-
-/// A body of so many bytes, or a few more, that begins with a number.
-fn numbered(alloc: Global, number: u64, size: usize) -> Result<Vec<u8>, AllocError> {
-    let mut text = format!(in alloc; "{number}.")?;
-    while text.len() < size {
-        text.push('.')?;
-    }
-    Ok(text.into_bytes())
-}
-
-/// Opens a journal, and counts its records. None where a call failed, or a record has another number than its place.
-fn open<D: Disk + Drop>(alloc: Global, disk: D) -> Option<(Journal<D>, u64)>
-    ensures { IfOpened D.told result }
-{
-    let Ok(mut opening) = Opening::begin(alloc, disk) else {
-        return None;
-    };
-    let mut body = Vec::new(alloc);
-    for number in 0..u64::MAX {
-        match opening.next(alloc, &mut body) {
-            Ok(Some(_)) if number_in(&body) == Some(number) => {}
-            Ok(None) => return Some((opening.ready(), number)),
-            _ => return None,
-        }
-    }
-    None
-}
-
-fn number_in(body: &[u8]) -> Option<u64> {
-    let end = body.iter().position(|b| *b == b'.')?;
-    std::str::from_utf8(body.get(..end)?)
-        .ok()?
-        .parse::<u64>()
-        .ok()
 }
