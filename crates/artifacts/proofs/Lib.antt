@@ -1,0 +1,10 @@
+pub mod BatchLemmas
+pub mod FollowLemmas
+pub mod KeyLemmas
+pub mod LawLemmas
+pub mod ListLemmas
+pub mod OrderLemmas
+pub mod PageLemmas
+pub mod PlaceLemmas
+pub mod RequestLemmas
+pub mod TableLemmas

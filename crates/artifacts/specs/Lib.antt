@@ -1,0 +1,9 @@
+pub mod Artifacts
+pub mod Batches
+pub mod Cuts
+pub mod Laws
+pub mod Lists
+pub mod Orders
+pub mod Pages
+pub mod Places
+pub mod Requests

@@ -1,0 +1,43 @@
+//! An artifact, and a batch of them.
+ghost use Rattle.std.specs.Prelude.{◌≡◌};
+
+use lists::Bytes;
+use names_realms::ArtifactName;
+use std::marker::Model;
+
+/// A file of an invocation or of a result, recorded whole.
+#[derive(Drop)]
+pub struct Artifact {
+    /// The place of the invocation that holds it; 0 in a request.
+    pub holder: u32,
+    pub name: ArtifactName,
+    /// Of which kind its contents are, which may be empty.
+    pub content_type: Bytes,
+    pub contents: Bytes,
+    /// The SHA-256 of its contents.
+    pub hash: [u8; 32],
+}
+
+/// Artifacts of one holder that are to be added to a table.
+#[derive(Drop)]
+pub struct ArtifactBatch {
+    pub(crate) rows: Vec<Artifact>,
+}
+
+impl Model for ArtifactBatch {
+    ghost use Rattle.std.specs.Prelude.{List};
+    ghost use Rattle.artifacts.specs.declared.artifact.Artifact.{Artifact};
+
+    ghost Value = { List Artifact };
+
+    ghost view = { λ b. b.rows.items };
+}
+
+impl ArtifactBatch {
+    /// The artifacts, as they will stand in the table, one behind the other.
+    pub fn rows(&self) -> &[Artifact]
+        ensures { result.now ≡ self.now }
+    {
+        self.rows.as_slice()
+    }
+}

@@ -1,0 +1,3 @@
+pub mod TestNames
+pub mod Rooms
+pub mod Digests

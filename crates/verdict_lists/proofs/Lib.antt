@@ -1,0 +1,9 @@
+pub mod EntryLemmas
+pub mod GroupLemmas
+pub mod LawLemmas
+pub mod ListLemmas
+pub mod ListingLemmas
+pub mod NumberLemmas
+pub mod OrderLemmas
+pub mod TallyLemmas
+pub mod VerdictLemmas

@@ -1,0 +1,13 @@
+use Rattle.std.proofs.Common.{◌++◌, ◌∷◌, [], List, ℕ, get_or, sym, ap, ◌∙◌}
+use Rattle.verdict_lists.specs.declared.entries.Entry.TheVariants.{Result}
+use Rattle.verdict_lists.specs.Entries.{exoneration_in}
+use Rattle.verdict_lists.specs.Groups.{exonerations_in}
+use Rattle.verdict_lists.proofs.TallyLemmas.{picked_more}
+use Rattle.verdict_lists.proofs.groups.exonerations_in.Goals as goal
+
+pub loop-entry-preserved : goal.loop-entry-preserved
+loop-entry-preserved c =
+    let entries = c.args.entries.now in
+    let i = c.loop-entry.entry-index in
+    c.in_ok-add_exoneration.ensures ∙ ap (λ (l : List ℕ). l ++ exonerations_in (get_or entries i (Result 0) ∷ [])) c.loop-entry.invariant
+    ∙ sym (picked_more exoneration_in entries i (Result 0) c.loop-entry-test.true)

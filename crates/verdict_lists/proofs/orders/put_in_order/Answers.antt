@@ -1,0 +1,10 @@
+use Rattle.std.proofs.Common.{rules}
+use Rattle.verdict_lists.specs.World.{world_of}
+use Rattle.verdict_lists.proofs.ListLemmas.{sorted_by}
+use Rattle.verdict_lists.proofs.VerdictLemmas.{verdict_order_total}
+use Rattle.verdict_lists.proofs.orders.put_in_order.Goals as goal
+
+pub returns-clause-sorted : goal.returns-clause-sorted
+returns-clause-sorted c =
+    sorted_by (verdict_order_total (world_of c.args.view.now)) c.sort_unstable_by.new.self.items c.sort_unstable_by.ensures.sorted
+    (λ a r g called. search rules)

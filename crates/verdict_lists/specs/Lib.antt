@@ -1,0 +1,8 @@
+pub mod Entries
+pub mod Groups
+pub mod Laws
+pub mod Listing
+pub mod Orders
+pub mod Statuses
+pub mod Verdicts
+pub mod World

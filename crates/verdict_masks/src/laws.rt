@@ -1,0 +1,13 @@
+//! Laws of the definitions that the contracts cite. These functions do nothing: what each of them
+//! ensures is the law.
+ghost use Rattle.verdict_masks.specs.Laws.{HiddenUnseen, OneCut};
+
+/// A text has one cut.
+pub fn one_cut()
+    ensures { OneCut }
+{}
+
+/// Results that differ in what is hidden are seen alike where they are masked.
+pub fn hidden_unseen()
+    ensures { HiddenUnseen }
+{}
