@@ -95,6 +95,22 @@ def updating(name, mask, **members):
     return {"invocation": {**named(name), **members}, "updateMask": mask}
 
 
+def rows(name, field, rows, number=None):
+    """A batch of these rows of an invocation, under a number where one is given."""
+    numbered = {"requestId": number} if number else {}
+    return {"invocation": f"invocations/{name}", **numbered, "requests": [{field: row} for row in rows]}
+
+
+def results(name, *ids, number=None):
+    shown = [{"testId": "t", "resultId": each, "status": "PASS"} for each in ids]
+    return changing(name, "BatchCreateTestResults", rows(name, "testResult", shown, number))
+
+
+def exonerations(name, count, number=None):
+    shown = [{"testId": "t"}] * count
+    return changing(name, "BatchCreateTestExonerations", rows(name, "testExoneration", shown, number))
+
+
 # Runs and replies
 
 

@@ -1,10 +1,11 @@
-"""What becomes of invocations: deadlines that are moved, tokens, requests that are sent again, full tables, and drawn
-graphs beside a model.
+"""What becomes of invocations: deadlines that are moved, tokens, requests that are sent again, batches, full tables, and
+drawn graphs beside a model.
 """
 
 import random
 
-from harness import Wrong, adding, changing, named, new, replies, request, run, same, told, told_by, token, updating
+from harness import Wrong, adding, changing, exonerations, named, new, replies, request, results, run, same, told, told_by
+from harness import token, updating
 from moments import micros, moment_in, now
 
 
@@ -67,6 +68,57 @@ def requests_that_are_sent_again(folder):
     reused, missing = (400, "7 RequestIdReused: q\n"), (404, "8 NotFound: invocations/u-b\n")
     same(rest, [reused, final, missing, (409, "19 Taken: invocations/u-a\n")])
     same((accepted[0], accepted[1]["name"]), (200, "invocations/u-b"))
+
+
+def batches_that_come_in_whole(folder):
+    """A batch with a row that is there adds none of its rows. Under its request id a batch gets its first reply again,
+    byte for byte, where it was sent again because the reply was lost, and also once its invocation has ended."""
+    first, placed = results("u-a", "r0", "r1", number="q"), exonerations("u-a", 2, number="x")
+    end = changing("u-a", "FinalizeInvocation", named("u-a"))
+    stream = [
+        request("CreateInvocation", new("u-a")),
+        first,
+        results("u-a", "r2", "r3", "r1"),
+        first,
+        results("u-a", "r3", "r2"),
+        results("u-a", "r4", number="q"),
+        placed,
+        exonerations("u-a", 1),
+        end,
+        first,
+        placed,
+        results("u-a", "r4"),
+    ]
+    out, *ended = run(b"".join(stream), folder)
+    same(ended, [b"", 0])
+    came = list(replies(out))
+    same([came[3], came[9], came[10]], [came[1], came[1], came[6]])
+    _, one, taken, _, two, reused, both, third, _, _, _, late = [told_by(int(h.split(b" ")[1]), b) for h, b in came]
+    same([row["resultId"] for row in one[1]["testResults"] + two[1]["testResults"]], ["r0", "r1", "r3", "r2"])
+    same(taken, (409, "19 Taken: invocations/u-a/tests/t/results/r1\n"))
+    same(reused, (400, "7 RequestIdReused: q\n"))
+    given = [row["exonerationId"] for row in both[1]["testExonerations"] + third[1]["testExonerations"]]
+    same(given, [f"e3b0c44298fc1c14:{place}" for place in (1, 2, 3)])
+    same(late, (400, "12 NotActive: invocations/u-a FINALIZED\n"))
+
+
+def full_invocations(folder):
+    """An invocation has at most 100,000 results, and as many exonerations. A batch that would go past them is refused
+    whole; another invocation has its own."""
+    full = [[f"r{n}" for n in range(at, at + 500)] for at in range(0, 100_000, 500)]
+    stream = request("CreateInvocation", new("u-a")) + request("CreateInvocation", new("u-b"))
+    stream += b"".join(results("u-a", *ids) for ids in [*full[:-1], full[-1][:-1]])
+    stream += results("u-a", "one", "two") + results("u-a", "one") + results("u-a", "two") + results("u-b", "two")
+    stream += exonerations("u-a", 500) * 200 + exonerations("u-a", 1) + exonerations("u-b", 1)
+    got = told(stream, folder)[2:]
+    same({status for status, _ in got[:200]}, {200})
+    same(got[200], (429, "20 TableFull: results 99999\n"))
+    same([status for status, _ in got[201:204]], [200, 429, 200])
+    same(got[202][1], "20 TableFull: results 100000\n")
+    same({status for status, _ in got[204:404]}, {200})
+    same(got[403][1]["testExonerations"][-1]["exonerationId"], "e3b0c44298fc1c14:100000")
+    same(got[404], (429, "20 TableFull: exonerations 100000\n"))
+    same(got[405][0], 200)
 
 
 def full_tables(folder):
@@ -135,6 +187,8 @@ CHECKS = {
     "a deadline that is moved": a_deadline_that_is_moved,
     "tokens, and many names": tokens_and_many_names,
     "requests that are sent again": requests_that_are_sent_again,
+    "batches that come in whole": batches_that_come_in_whole,
     "graphs beside a model": graphs_beside_a_model,
+    "full invocations": full_invocations,
     "full tables": full_tables,
 }

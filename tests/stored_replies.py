@@ -108,6 +108,7 @@ CHECKS = {
     "a tree of invocations": answers("tree"),
     "changes that are refused": answers("refused-changes"),
     "a creation that is sent again": answers("repeat"),
+    "a batch that is sent again": answers("batch"),
     "the same bytes one at a time": a_byte_at_a_time,
     "a request cut short": answers("cut-short", b"rdb: wire 8 CutShort\n", 8),
     "another method": answers("other-method"),

@@ -1,5 +1,5 @@
 -- What contracts see of a dialer in memory.
-use Rattle.std.specs.Prelude.{◌≡◌, ℕ, ◌+◌, List, [], ◌∷◌, Some, Result, Ok, Err, IfOk, IfErr}
+use Rattle.std.specs.Prelude.{◌≡◌, ℕ, List, [], ◌∷◌, Some, Result, Ok, IfOk}
 use Rattle.fault_counts.specs.Calls.{Calls}
 use Rattle.fault_counts.specs.declared.Failed.{Failed}
 use Rattle.fault_counts.specs.declared.schedule.Outcome.{Outcome}

@@ -6,5 +6,6 @@ pub mod Variants
 pub mod OutsideProfile
 pub mod Properties
 pub mod Filled
+pub mod Requests
 pub mod Beside
 pub mod Defaults

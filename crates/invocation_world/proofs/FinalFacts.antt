@@ -14,7 +14,7 @@ use Rattle.invocations.specs.Rows.{IsInState, begun, with_changed}
 use Rattle.invocations.proofs.RowLemmas.{at_front}
 use Rattle.invocation_world.specs.World.{World, IsValid, with_row}
 use Rattle.invocation_world.specs.Advancing.{Advances, CarriesOut, after_deadlines, all_begun}
-use Rattle.invocation_world.specs.Changes.{is_update, updated, with_begun, with_edges, with_inclusions, with_row_updated, with_update}
+use Rattle.invocation_world.specs.Changes.{is_update, updated, with_begun, with_edges, with_inclusions, with_moment, with_row_updated, with_update}
 use Rattle.invocation_world.specs.Laws.{KeepsFinal}
 use Rattle.invocation_world.specs.Settling.{Settles, SettlesRows}
 use Rattle.invocation_world.proofs.BegunFacts.{all_begun_at, not_begun}
@@ -125,6 +125,9 @@ changed_final change rows p active = λ q row e is.
 
 pub row_final : (w : World) (row : Invocation) → KeepsFinal w (with_row w row)
 row_final w row = same_inclusions w (with_row w row) refl (λ p other e is. at_front w.invocations row other p e)
+
+pub moment_final : (moment : ℤ) (w : World) → KeepsFinal w (with_moment moment w)
+moment_final moment w = same_inclusions w (with_moment moment w) refl (λ p row e is. e)
 
 pub begin_final : (moment : ℤ) (w : World) (p : ℕ) → IsInState Active w.invocations p → KeepsFinal w (with_begun moment p w)
 begin_final moment w p active =

@@ -13,12 +13,12 @@ use Rattle.invocations.specs.Faults.{CanAdd}
 use Rattle.invocations.specs.Rows.{IsInState, with_changed}
 use Rattle.invocation_world.specs.World.{World, IsCallMoment, IsPair, IsRow, IsValid, latest_deadline, with_row}
 use Rattle.invocation_world.specs.Advancing.{IsQuiet}
-use Rattle.invocation_world.specs.Changes.{is_update, updated, with_begun, with_edges, with_inclusions, with_row_updated, with_update}
+use Rattle.invocation_world.specs.Changes.{is_update, updated, with_begun, with_edges, with_inclusions, with_moment, with_row_updated, with_update}
 use Rattle.invocation_world.specs.Settling.{Settles}
 use Rattle.invocation_world.proofs.ChangeFacts.{valid_added, valid_included, valid_updated}
 use Rattle.invocation_world.proofs.CodeFacts.{fresh_twice}
 use Rattle.invocation_world.proofs.RowFacts.{row_in}
-use Rattle.invocation_world.proofs.ValidFacts.{valid_retired}
+use Rattle.invocation_world.proofs.ValidFacts.{valid_later, valid_retired}
 use Rattle.invocation_world.proofs.WorldFacts.{same_world}
 
 -- a valid world that may change at this moment
@@ -78,3 +78,6 @@ keeps_included moment w p targets h active are few =
     keeps_edges moment w p (fresh held targets) h active (fresh_twice held targets)
     (All-weaker Is (λ t. t < length w.invocations) (λ t both. both.0) (fresh held targets) all)
     (All-weaker Is (λ t. t ≢ p) (λ t both. both.1) (fresh held targets) all) few
+
+pub keeps_moment : (moment : ℤ) (w : World) → MayChange moment w → IsValid (with_moment moment w)
+keeps_moment moment w h = valid_later w.invocations w.inclusions w.last moment h.valid h.call h.later h.quiet

@@ -17,6 +17,10 @@ with_begun moment place w = record {
   last = moment;
 }
 
+-- the world with this moment of its last change: what changes is beside the invocations
+abbrev pub with_moment : ℤ → World → World
+with_moment moment w = record w { last = moment }
+
 -- whether two pairs are the same
 abbrev pub is_same_pair : Pair → Pair → Bool
 is_same_pair a b = pointwise nat_eq a.key b.key && pointwise nat_eq a.value b.value

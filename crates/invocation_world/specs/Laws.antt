@@ -10,7 +10,7 @@ use Rattle.invocations.specs.Faults.{CanAdd}
 use Rattle.invocations.specs.Rows.{IsInState}
 use Rattle.invocation_world.specs.World.{World, IsCallMoment, IsPair, IsRow, IsValid, latest_deadline, with_row}
 use Rattle.invocation_world.specs.Settling.{Settles}
-use Rattle.invocation_world.specs.Changes.{is_update, updated, with_begun, with_inclusions, with_update}
+use Rattle.invocation_world.specs.Changes.{is_update, updated, with_begun, with_inclusions, with_moment, with_update}
 use Rattle.invocation_world.specs.Advancing.{Advances, IsQuiet}
 
 -- A world settles in one way at most.
@@ -43,8 +43,8 @@ AdvanceKeepsValid =
 
 -- So does each change at the moment of a call that isn't before the last change, at which nothing
 -- is due: a new row; the retirement of an active row, once the rows settled; an update of an active
--- row to a deadline that is still to come; and inclusions in an active row of other rows that are
--- there.
+-- row to a deadline that is still to come; inclusions in an active row of other rows that are
+-- there; and a change beside the invocations, which is the moment of the last change alone.
 abbrev pub ChangesKeepValid : Type 0
 ChangesKeepValid =
     (moment : ℤ) (w : World) (place : ℕ) → IsValid w → IsCallMoment moment → w.last ≤ℤ moment
@@ -63,6 +63,7 @@ ChangesKeepValid =
     → All (λ target. (target < length w.invocations) × (target ≢ place)) targets
     → length w.inclusions + length (fresh (targets_of w.inclusions place) targets) ≤ 262_144
     → IsValid (with_inclusions moment place targets w))
+    × IsValid (with_moment moment w)
 
 -- The rows that are final stay as they are, and what they include and reach stays. In a valid world
 -- each row that a final one reaches is final itself, before and after, and stays as it is.
@@ -85,7 +86,8 @@ AdvanceKeepsFinal = (moment : ℤ) (w after : World) → Advances w moment after
 abbrev pub SettlingKeepsFinal : Type 0
 SettlingKeepsFinal = (moment : ℤ) (w after : World) → Settles moment w after → KeepsFinal w after
 
--- So it is with each change of a valid world: of an active row, or by a new one.
+-- So it is with each change of a valid world: of an active row, by a new one, or of the moment
+-- alone.
 abbrev pub ChangesKeepFinal : Type 0
 ChangesKeepFinal =
     (moment : ℤ) (w : World) (place : ℕ) → IsValid w
@@ -95,6 +97,7 @@ ChangesKeepFinal =
     → KeepsFinal w (with_update moment place deadline tags w))
     × ((targets : List ℕ) → IsInState Active w.invocations place
     → KeepsFinal w (with_inclusions moment place targets w))
+    × KeepsFinal w (with_moment moment w)
 
 -- An update is said to change a row just where the row is another one afterwards.
 abbrev pub UpdateIsTold : Type 0

@@ -7,7 +7,7 @@ ghost use Rattle.invocations.specs.declared.invocation.Invocation.{Invocation};
 ghost use Rattle.invocations.specs.Faults.{CanAdd, IsAddFault};
 ghost use Rattle.invocations.specs.Rows.{HasId, IsInState, IsPlaceOf};
 ghost use Rattle.invocation_world.specs.Advancing.{Advances, IsDueAt, IsQuiet};
-ghost use Rattle.invocation_world.specs.Changes.{with_begun, with_edges, with_update};
+ghost use Rattle.invocation_world.specs.Changes.{with_begun, with_edges, with_moment, with_update};
 ghost use Rattle.invocation_world.specs.Changes as changes;
 ghost use Rattle.invocation_world.specs.Settling.{Settles};
 ghost use Rattle.invocation_world.specs.States.{Fits, IsNoLess, IsRoomier, graph_of, without_inclusions, without_row};
@@ -225,6 +225,18 @@ impl InvocationWorld {
         if self.finaliser.graph().edges().len() != before {
             self.last = moment;
         }
+    }
+
+    /// Makes a moment that of the last change: something that stands beside the invocations has
+    /// changed. It takes no memory.
+    pub fn note_change(&mut self, moment: Moment)
+        requires moment { IsCallMoment moment }
+        requires later { self.old.world.last ≤ℤ moment }
+        requires quiet { IsQuiet self.old.world moment }
+        ensures world { self.new.world ≡ with_moment moment self.old.world }
+        ensures room { self.new.room ≡ self.old.room }
+    {
+        self.last = moment;
     }
 
     /// Whether an active row would be final at once, if it were retired now. It takes no memory,

@@ -12,6 +12,16 @@ pub enum KeptAnswer {
         deadline: Moment,
         tags: Listed<Pair>,
     },
+    /// So many test results, one behind the other, from this place on.
+    Results {
+        first: u32,
+        count: u32,
+    },
+    /// So many exonerations, one behind the other, from this place on.
+    Exonerations {
+        first: u32,
+        count: u32,
+    },
 }
 
 /// An accepted numbered request: its caller's name, its number, the digest by which a repeat is

@@ -29,7 +29,7 @@ told method d (fault.Field f) says h = record { found = f; is_first = says; told
 faulty : (service name body : List ℕ) (method : Method) (d : Data) → method_of service name ≡ Some method → IsJson body d
     → (o : Option FieldFault) → request_fault method d ≡ o → IsAskedOrFaulty service name body
 faulty service name body method d named json None e =
-    let there = asked_there method d e in
+    let there = asked_there method body d json e in
     inl (there.0, record { method = method; named = named; value = d; json = json; no_fault = e; meant = there.1 })
 faulty service name body method d named json (Some f) e =
     inr (field_fault f.kind f.path, in_field method named d json (record { found = f; is_first = e; told = refl }))

@@ -1,14 +1,5 @@
-pub mod UserLaws
-pub mod MaskLaws
-pub mod ListLaws
-pub mod Lawful
-pub mod NamedLaws
-pub mod CreateLaws
-pub mod UpdateLaws
-pub mod IncludedLaws
 pub mod MethodLaws
 pub mod RequestLaws
 pub mod FaultLaws
 pub mod TextLaws
-pub mod Opened
 pub mod FormLaws

@@ -5,16 +5,17 @@ use Rattle.json_fields.specs.Fields.{IsJson}
 use Rattle.message_forms.specs.Methods.{row_of, by_request, method_asked, said_in, request_fault, AsksFor, Means}
 use Rattle.message_forms.specs.Laws.{OneRequestAsked, AskedCanBeWritten, UpdateChangesSomething}
 use Rattle.message_forms.specs.Reading.{Asks}
-use Rattle.message_forms.specs.Updates.{ChangesSomething}
+use Rattle.invocation_forms.specs.Updates.{ChangesSomething}
 use Rattle.names_realms.specs.declared.pairs.Pair.{Pair}
 use Rattle.message_forms.specs.declared.requests.Method.{Method}
 use Rattle.message_forms.specs.declared.requests.Request.{Request}
 use Rattle.message_forms.specs.declared.requests.Request.TheVariants as asks
+use Rattle.field_kinds.proofs.ReadLaws.{value_of_text}
 use Rattle.message_forms.proofs.MethodLaws.{lawful, asked_of, said_means, said_asked}
 
 -- a request is what it says, by its method's row
 rebuilt : (q : Request) → (row_of (method_asked q)).asks (said_in q) ≡ q
-rebuilt = by_request (λ q. (row_of (method_asked q)).asks (said_in q) ≡ q) (λ q. refl) (λ q. refl) (λ q. refl) (λ q. refl) (λ q. refl)
+rebuilt = by_request (λ q. (row_of (method_asked q)).asks (said_in q) ≡ q) (λ q. refl) (λ q. refl) (λ q. refl) (λ q. refl) (λ q. refl) (λ q. refl) (λ q. refl)
 
 -- what it says, by the row of a method that it is one of
 record SaysBy (m : Method) (q : Request) : Type 0 where
@@ -42,8 +43,10 @@ one_request_asked service name body q r h k =
     let d : h.value ≡ k.value = one_json body h.value k.value h.json k.json in
     one_meant k.method k.value q r (subst (λ (e : Data). Means k.method e q) d (subst (λ (n : Method). Means n h.value q) m h.meant)) k.meant
 
-pub asked_there : (m : Method) (d : Data) → request_fault m d ≡ None → (q : Request) × Means m d q
-asked_there m d h = let there = (lawful m).there d h in ((row_of m).asks there.0, asked_of m d there.0 there.1)
+pub asked_there : (m : Method) (body : List ℕ) (d : Data) → IsJson body d → request_fault m d ≡ None → (q : Request) × Means m d q
+asked_there m body d json h =
+    let there = (lawful m).there d (value_of_text body d json.0 json.1) h in
+    ((row_of m).asks there.0, asked_of m d there.0 there.1)
 
 -- what is asked for has no fault by its own method
 pub own_fault : (service name body : List ℕ) (q : Request) (is : Asks service name body q) → request_fault (method_asked q) is.value ≡ None

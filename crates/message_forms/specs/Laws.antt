@@ -1,19 +1,14 @@
 -- Laws of requests and their faults: each service, method and body asks for one request or has one
 -- fault.
-use Rattle.std.specs.Prelude.{◌≡◌, ◌⊎◌, ◌≤◌, ◌≢◌, ℕ, true, List, All, Some, None}
-use Rattle.json_fields.specs.Tags.{IsPairOfGrammar}
+use Rattle.std.specs.Prelude.{◌≡◌, ◌⊎◌, ◌≤◌, ◌≢◌, ℕ, List, Some, None}
 use Rattle.message_forms.specs.Forms.{IsOfForm}
 use Rattle.message_forms.specs.Methods.{CanBeAsked}
-use Rattle.message_forms.specs.Replies.{IsShowable}
-use Rattle.message_forms.specs.Shown.{InvocationShown}
-use Rattle.message_forms.specs.Users.{is_user_name}
-use Rattle.message_forms.specs.declared.replies.Reply.TheVariants.{Invocation}
 use Rattle.message_forms.specs.Reading.{Asks, HasFault}
 use Rattle.message_forms.specs.Refusals.{refusal_of}
 use Rattle.message_forms.specs.declared.reading.FormFault.{FormFault}
 use Rattle.message_forms.specs.declared.requests.Request.{Request}
 use Rattle.message_forms.specs.declared.requests.Request.TheVariants as asks
-use Rattle.message_forms.specs.declared.updates.UpdateInvocation.{UpdateInvocation}
+use Rattle.invocation_forms.specs.declared.updates.UpdateInvocation.{UpdateInvocation}
 use Rattle.call_forms.specs.declared.forms.Refusal.{Refusal}
 
 -- One body asks for at most one request.
@@ -68,10 +63,3 @@ abbrev pub UpdateChangesSomething : Type 0
 UpdateChangesSomething =
     (service method body : List ℕ) (q : UpdateInvocation) → q.deadline ≡ None → q.tags ≡ None
     → ¬ Asks service method body (asks.UpdateInvocation q)
-
--- What a row shows can be shown: its creator has the form of a user's name, and its tags are pairs
--- of their grammar.
-abbrev pub RowIsShowable : Type 0
-RowIsShowable =
-    (s : InvocationShown) → is_user_name s.creator ≡ true → All IsPairOfGrammar s.tags
-    → IsShowable (Invocation s)

@@ -1,15 +1,9 @@
 pub mod Names
-pub mod Masks
 pub mod Rows
-pub mod Named
-pub mod Create
-pub mod Updates
-pub mod Included
 pub mod Methods
 pub mod Reading
 pub mod Refusals
-pub mod Users
-pub mod Shown
+pub mod Batches
 pub mod Replies
 pub mod Forms
 pub mod Laws

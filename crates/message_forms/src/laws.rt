@@ -1,6 +1,6 @@
 //! Laws of the definitions that the contracts cite. These functions do nothing: what each of them
 //! ensures is the law.
-ghost use Rattle.message_forms.specs.Laws.{OneRequestAsked, OneFault, NeverBoth, AsksOrHasFault, FaultIsRefused, AskedIsOfForm, AskedCanBeWritten, UpdateChangesSomething, RowIsShowable};
+ghost use Rattle.message_forms.specs.Laws.{OneRequestAsked, OneFault, NeverBoth, AsksOrHasFault, FaultIsRefused, AskedIsOfForm, AskedCanBeWritten, UpdateChangesSomething};
 
 /// One body asks for one request.
 pub fn one_request_asked()
@@ -41,10 +41,4 @@ pub fn asked_can_be_written()
 /// No body asks for an update that changes nothing.
 pub fn update_changes_something()
     ensures { UpdateChangesSomething }
-{}
-
-/// What a row shows is UTF-8: a creator of the form of a user's name, and tags of the grammar of
-/// pairs.
-pub fn row_is_showable()
-    ensures { RowIsShowable }
 {}

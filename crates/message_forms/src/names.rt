@@ -1,107 +1,17 @@
-//! The names of the members of messages.
+//! The names of the members of replies of batches.
 ghost use Rattle.std.specs.Prelude.{◌≡◌};
-ghost use Rattle.message_forms.specs.Names.{request_id, invocation_id, invocation, realm, deadline, tags, create_time, created_by, finalize_start_time, finalize_time, included_invocations, name, state, update_mask, including_invocation, add_invocations, remove_invocations};
+ghost use Rattle.message_forms.specs.Names.{test_results, test_exonerations};
 
 use json_fields::Name;
 
-pub(crate) fn request_id() -> Name
-    ensures { result ≡ request_id }
+pub(crate) fn test_results() -> Name
+    ensures { result ≡ test_results }
 {
-    Name::new("requestId", "request_id")
+    Name::new("testResults", "test_results")
 }
 
-pub(crate) fn invocation_id() -> Name
-    ensures { result ≡ invocation_id }
+pub(crate) fn test_exonerations() -> Name
+    ensures { result ≡ test_exonerations }
 {
-    Name::new("invocationId", "invocation_id")
-}
-
-pub(crate) fn invocation() -> Name
-    ensures { result ≡ invocation }
-{
-    Name::word("invocation")
-}
-
-pub(crate) fn realm() -> Name
-    ensures { result ≡ realm }
-{
-    Name::word("realm")
-}
-
-pub(crate) fn deadline() -> Name
-    ensures { result ≡ deadline }
-{
-    Name::word("deadline")
-}
-
-pub(crate) fn tags() -> Name
-    ensures { result ≡ tags }
-{
-    Name::word("tags")
-}
-
-pub(crate) fn create_time() -> Name
-    ensures { result ≡ create_time }
-{
-    Name::new("createTime", "create_time")
-}
-
-pub(crate) fn created_by() -> Name
-    ensures { result ≡ created_by }
-{
-    Name::new("createdBy", "created_by")
-}
-
-pub(crate) fn finalize_start_time() -> Name
-    ensures { result ≡ finalize_start_time }
-{
-    Name::new("finalizeStartTime", "finalize_start_time")
-}
-
-pub(crate) fn finalize_time() -> Name
-    ensures { result ≡ finalize_time }
-{
-    Name::new("finalizeTime", "finalize_time")
-}
-
-pub(crate) fn included_invocations() -> Name
-    ensures { result ≡ included_invocations }
-{
-    Name::new("includedInvocations", "included_invocations")
-}
-
-pub(crate) fn name() -> Name
-    ensures { result ≡ name }
-{
-    Name::word("name")
-}
-
-pub(crate) fn state() -> Name
-    ensures { result ≡ state }
-{
-    Name::word("state")
-}
-
-pub(crate) fn update_mask() -> Name
-    ensures { result ≡ update_mask }
-{
-    Name::new("updateMask", "update_mask")
-}
-
-pub(crate) fn including_invocation() -> Name
-    ensures { result ≡ including_invocation }
-{
-    Name::new("includingInvocation", "including_invocation")
-}
-
-pub(crate) fn add_invocations() -> Name
-    ensures { result ≡ add_invocations }
-{
-    Name::new("addInvocations", "add_invocations")
-}
-
-pub(crate) fn remove_invocations() -> Name
-    ensures { result ≡ remove_invocations }
-{
-    Name::new("removeInvocations", "remove_invocations")
+    Name::new("testExonerations", "test_exonerations")
 }

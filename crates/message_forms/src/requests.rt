@@ -8,12 +8,12 @@ ghost use Rattle.json_fields.specs.Faults.{Says};
 ghost use Rattle.message_forms.specs.Reading.{Asks};
 ghost use Rattle.message_forms.specs.Methods.{is_called, method_of, service_of, name_of, request_fault, method_asked, request_data, Means, CanBeAsked, IsReadAgain};
 
-use crate::create::CreateInvocation;
-use crate::included::UpdateIncludedInvocations;
-use crate::named::{NamedInvocation, named_value};
-use crate::updates::UpdateInvocation;
+use invocation_forms::{
+    CreateInvocation, NamedInvocation, UpdateIncludedInvocations, UpdateInvocation,
+};
 use json_fields::{Form, ReadFault};
 use lists::Bytes;
+use result_forms::{BatchCreateTestExonerations, BatchCreateTestResults};
 use serde_json::Value;
 use std::alloc::{AllocError, Global};
 
@@ -28,12 +28,16 @@ pub enum Method {
     FinalizeInvocation,
     /// `luci.resultdb.v1.Recorder.UpdateIncludedInvocations`.
     UpdateIncludedInvocations,
+    /// `luci.resultdb.v1.Recorder.BatchCreateTestResults`.
+    BatchCreateTestResults,
+    /// `luci.resultdb.v1.Recorder.BatchCreateTestExonerations`.
+    BatchCreateTestExonerations,
     /// `luci.resultdb.v1.ResultDB.GetInvocation`.
     GetInvocation,
 }
 
 /// What a request asks for.
-#[derive(Debug, Drop)]
+#[derive(Drop)]
 pub enum Request {
     /// A new invocation.
     CreateInvocation(CreateInvocation),
@@ -43,16 +47,22 @@ pub enum Request {
     FinalizeInvocation(NamedInvocation),
     /// That an invocation include others.
     UpdateIncludedInvocations(UpdateIncludedInvocations),
+    /// That results be added to an invocation.
+    BatchCreateTestResults(BatchCreateTestResults),
+    /// That exonerations be added to an invocation.
+    BatchCreateTestExonerations(BatchCreateTestExonerations),
     /// What an invocation is.
     GetInvocation(NamedInvocation),
 }
 
 /// Every method.
-const EVERY: [Method; 5] = [
+const EVERY: [Method; 7] = [
     Method::CreateInvocation,
     Method::UpdateInvocation,
     Method::FinalizeInvocation,
     Method::UpdateIncludedInvocations,
+    Method::BatchCreateTestResults,
+    Method::BatchCreateTestExonerations,
     Method::GetInvocation,
 ];
 
@@ -91,6 +101,8 @@ impl Method {
             Method::UpdateInvocation => (RECORDER, "UpdateInvocation"),
             Method::FinalizeInvocation => (RECORDER, "FinalizeInvocation"),
             Method::UpdateIncludedInvocations => (RECORDER, "UpdateIncludedInvocations"),
+            Method::BatchCreateTestResults => (RECORDER, "BatchCreateTestResults"),
+            Method::BatchCreateTestExonerations => (RECORDER, "BatchCreateTestExonerations"),
             Method::GetInvocation => (READER, "GetInvocation"),
         }
     }
@@ -117,24 +129,29 @@ impl Method {
     {
         match self {
             Method::CreateInvocation => {
-                let request = CreateInvocation::read(alloc, value)?;
-                Ok(Request::CreateInvocation(request))
+                Ok(Request::CreateInvocation(CreateInvocation::read(alloc, value)?))
             }
             Method::UpdateInvocation => {
-                let request = UpdateInvocation::read(alloc, value)?;
-                Ok(Request::UpdateInvocation(request))
+                Ok(Request::UpdateInvocation(UpdateInvocation::read(alloc, value)?))
             }
             Method::FinalizeInvocation => {
-                let request = NamedInvocation::read(alloc, value)?;
-                Ok(Request::FinalizeInvocation(request))
+                Ok(Request::FinalizeInvocation(NamedInvocation::read(alloc, value)?))
             }
             Method::UpdateIncludedInvocations => {
-                let request = UpdateIncludedInvocations::read(alloc, value)?;
-                Ok(Request::UpdateIncludedInvocations(request))
+                Ok(Request::UpdateIncludedInvocations(UpdateIncludedInvocations::read(
+                    alloc, value,
+                )?))
+            }
+            Method::BatchCreateTestResults => {
+                Ok(Request::BatchCreateTestResults(BatchCreateTestResults::read(alloc, value)?))
+            }
+            Method::BatchCreateTestExonerations => {
+                Ok(Request::BatchCreateTestExonerations(BatchCreateTestExonerations::read(
+                    alloc, value,
+                )?))
             }
             Method::GetInvocation => {
-                let request = NamedInvocation::read(alloc, value)?;
-                Ok(Request::GetInvocation(request))
+                Ok(Request::GetInvocation(NamedInvocation::read(alloc, value)?))
             }
         }
     }
@@ -150,6 +167,8 @@ impl Request {
             Request::UpdateInvocation(_) => Method::UpdateInvocation,
             Request::FinalizeInvocation(_) => Method::FinalizeInvocation,
             Request::UpdateIncludedInvocations(_) => Method::UpdateIncludedInvocations,
+            Request::BatchCreateTestResults(_) => Method::BatchCreateTestResults,
+            Request::BatchCreateTestExonerations(_) => Method::BatchCreateTestExonerations,
             Request::GetInvocation(_) => Method::GetInvocation,
         }
     }
@@ -163,9 +182,11 @@ impl Request {
         match self {
             Request::CreateInvocation(request) => request.write(alloc),
             Request::UpdateInvocation(request) => request.write(alloc),
-            Request::FinalizeInvocation(request) => named_value(alloc, &request.id),
+            Request::FinalizeInvocation(request) => request.write(alloc),
             Request::UpdateIncludedInvocations(request) => request.write(alloc),
-            Request::GetInvocation(request) => named_value(alloc, &request.id),
+            Request::BatchCreateTestResults(request) => request.write(alloc),
+            Request::BatchCreateTestExonerations(request) => request.write(alloc),
+            Request::GetInvocation(request) => request.write(alloc),
         }
     }
 }

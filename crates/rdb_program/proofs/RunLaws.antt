@@ -9,7 +9,8 @@ use Rattle.fault_counts.specs.Causes.{Rose}
 use Rattle.policy_tables.specs.declared.tables.PolicyTables.{PolicyTables}
 use Rattle.policy_reading.specs.Reading.{IsPolicyOf, IsFirstFault}
 use Rattle.permissions.specs.declared.faults.PolicyFault.{PolicyFault}
-use Rattle.service_core.specs.Service.{Service, ServiceWorld, empty_service, service_of}
+use Rattle.service_effects.specs.Service.{ServiceWorld, empty_service}
+use Rattle.service_core.specs.Service.{Service, service_of}
 use Rattle.tellers.specs.Exchange.{Exchange}
 use Rattle.record_desk.specs.Clocked.{IsClocked}
 use Rattle.record_desk.specs.Standing.{Moves}

@@ -6,7 +6,8 @@ use Rattle.outside.specs.declared.whole.WriteEnd.{WriteEnd}
 use Rattle.policy_tables.specs.declared.tables.PolicyTables.{PolicyTables}
 use Rattle.permissions.specs.Faults.{fault_number, fault_name}
 use Rattle.permissions.specs.declared.faults.PolicyFault.{PolicyFault}
-use Rattle.service_core.specs.Service.{Service, empty_service, service_of}
+use Rattle.service_effects.specs.Service.{empty_service}
+use Rattle.service_core.specs.Service.{Service, service_of}
 use Rattle.tellers.specs.Exchange.{Exchange}
 use Rattle.record_desk.specs.Clocked.{IsClocked}
 use Rattle.record_desk.specs.Standing.{Moves}

@@ -18,29 +18,22 @@ use Rattle.update_tokens.specs.Hash.{token_text}
 use Rattle.request_rules.specs.Settings.{Settings, secret_of}
 use Rattle.request_rules.specs.Understood.{token_for}
 use Rattle.message_forms.specs.declared.replies.Reply.TheVariants as reply
-use Rattle.message_forms.specs.Shown.{InvocationShown}
+use Rattle.invocation_forms.specs.Shown.{InvocationShown}
 use Rattle.invocation_world.specs.World.{World, IsInclusion, ReachesActive, with_row}
-use Rattle.invocation_world.specs.Settling.{Settles, SettlesRows}
+use Rattle.invocation_world.specs.Settling.{Settles}
 use Rattle.invocation_world.specs.Changes.{updated, with_begun, with_update}
-use Rattle.invocation_world.proofs.RowFacts.{active≢finalizing, changed_here, row_in, same_lists}
+use Rattle.invocation_world.proofs.RowFacts.{active≢finalizing, changed_here, row_in}
 use Rattle.invocation_world.proofs.SettleFacts.{begun_here, ended_or_same, row_stays}
-use Rattle.request_effects.specs.declared.effect.Effect.{Effect}
-use Rattle.request_effects.specs.declared.effect.Effect.TheVariants as does
-use Rattle.request_effects.specs.Effects.{Does}
-use Rattle.request_effects.specs.Fitting.{IsTimely, Suits}
+use Rattle.service_effects.specs.declared.effect.Effect.{Effect}
+use Rattle.service_effects.specs.declared.effect.Effect.TheVariants as does
+use Rattle.service_effects.specs.Effects.{Does}
+use Rattle.service_effects.specs.Fitting.{IsTimely, Suits}
 use Rattle.request_effects.specs.Foreseen.{IsFinalTold, IsHere, ended_if}
 use Rattle.request_effects.specs.Shows.{ids_at, reply_at, shown_with, token_at}
-use Rattle.request_effects.proofs.EffectLaws.{stays_same, update_here}
-use Rattle.request_effects.proofs.PlaceFacts.{id_at, id_same}
+use Rattle.service_effects.proofs.EffectLaws.{stays_same, update_here}
+use Rattle.service_effects.proofs.IdFacts.{ids_settled}
 
--- ---- ids stay
-
-pub ids_settled : (moment : ℤ) (edges : List Edge) (old new : List Invocation) → SettlesRows moment edges old new → ids_of new ≡ ids_of old
-ids_settled moment edges old new s = same_lists (ids_of new) (ids_of old)
-    (λ p. elim (ended_or_same moment edges old new s p) [
-      | inl h ↦ id_at new p (ended moment h.row) h.stands ∙ sym (id_at old p h.row h.stood)
-      | inr same ↦ id_same old new p same.1
-    ])
+-- ---- ids
 
 -- the ids of one place more
 pub ids_more : (rows : List Invocation) (places : List ℕ) (i place : ℕ) (row : Invocation) (old new : List (List ℕ)) → i < length places

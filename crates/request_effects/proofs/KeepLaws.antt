@@ -7,7 +7,7 @@ use Rattle.names_realms.specs.declared.states.State.TheVariants.{Active}
 use Rattle.inclusion_graph.specs.Edges.{targets_of}
 use Rattle.invocations.specs.declared.invocation.Invocation.{Invocation}
 use Rattle.kept_replies.specs.declared.reply.KeptAnswer.{KeptAnswer}
-use Rattle.kept_replies.specs.declared.reply.KeptAnswer.TheVariants.{Created}
+use Rattle.kept_replies.specs.declared.reply.KeptAnswer.TheVariants.{Created, Results, Exonerations}
 use Rattle.kept_replies.specs.declared.reply.KeptReply.{KeptReply}
 use Rattle.call_forms.specs.declared.asked.Asked.{Asked}
 use Rattle.message_forms.specs.declared.replies.Reply.TheVariants as reply
@@ -15,21 +15,22 @@ use Rattle.invocation_world.specs.World.{World, IsRow, IsStage}
 use Rattle.request_rules.specs.Demands.{Demand}
 use Rattle.request_rules.specs.Numbered.{digest_of}
 use Rattle.request_rules.specs.Settings.{Settings}
-use Rattle.request_effects.specs.declared.effect.Effect.{Effect}
-use Rattle.request_effects.specs.declared.effect.Effect.TheVariants as does
+use Rattle.service_effects.specs.declared.effect.Effect.{Effect}
+use Rattle.service_effects.specs.declared.effect.Effect.TheVariants as does
 use Rattle.request_effects.specs.declared.keeping.Numbered.{Numbered}
 use Rattle.request_effects.specs.Keeps.{answer_kept, as_made, kept_answer, kept_of, made_answer, made_reply, numbered_of}
 use Rattle.request_effects.specs.Laws.{KeptIsFirst}
+use Rattle.service_effects.specs.Service.{Recorded}
 use Rattle.request_effects.specs.Shows.{done, ids_at, reply_at, shown_with, token_at}
 use Rattle.request_effects.proofs.AheadFacts.{added_includes, added_stands}
 
 -- nothing is kept of what does nothing
-pub nothing_kept : (w : World) (name : List ℕ) (numbered : Option Numbered) → kept_of w name numbered does.Nothing ≡ None
+pub nothing_kept : (w : Recorded) (name : List ℕ) (numbered : Option Numbered) → kept_of w name numbered does.Nothing ≡ None
 nothing_kept w name None = refl
 nothing_kept w name (Some n) = refl
 
 -- what is kept has the number, and the answer of the effect
-pub record IsKeptOf (w : World) (name : List ℕ) (numbered : Option Numbered) (effect : Effect) (reply : KeptReply) : Type 0 where
+pub record IsKeptOf (w : Recorded) (name : List ℕ) (numbered : Option Numbered) (effect : Effect) (reply : KeptReply) : Type 0 where
   pub n : Numbered
   pub numbered_is : numbered ≡ Some n
   pub caller : reply.caller ≡ name
@@ -37,7 +38,7 @@ pub record IsKeptOf (w : World) (name : List ℕ) (numbered : Option Numbered) (
   pub digest : reply.digest ≡ n.digest
   pub answer : answer_kept w effect ≡ Some reply.answer
 
-kept_with : (w : World) (name : List ℕ) (n : Numbered) (effect : Effect) (reply : KeptReply) (o : Option KeptAnswer) → answer_kept w effect ≡ o
+kept_with : (w : Recorded) (name : List ℕ) (n : Numbered) (effect : Effect) (reply : KeptReply) (o : Option KeptAnswer) → answer_kept w effect ≡ o
     → kept_of w name (Some n) effect ≡ Some reply → IsKeptOf w name (Some n) effect reply
 kept_with w name n effect reply None e is =
     let no : None ≡ Some reply =
@@ -55,7 +56,7 @@ kept_with w name n effect reply (Some answer) e is =
       answer = e;
     })
 
-pub kept_is : (w : World) (name : List ℕ) (numbered : Option Numbered) (effect : Effect) (reply : KeptReply)
+pub kept_is : (w : Recorded) (name : List ℕ) (numbered : Option Numbered) (effect : Effect) (reply : KeptReply)
     → kept_of w name numbered effect ≡ Some reply → IsKeptOf w name numbered effect reply
 kept_is w name None effect reply is = absurd (none-some reply is)
 kept_is w name (Some n) effect reply is = kept_with w name n effect reply (answer_kept w effect) refl is
@@ -96,15 +97,21 @@ made_again s after place row found is same none =
     ∙ (ap (done (token_at s (Some row))) shown_so ∙ ap (λ (f : Option Invocation). done (token_at s f) (reply_at after place f)) (sym is))
 
 pub kept_is_first : KeptIsFirst
-kept_is_first s w after moment does.Nothing answer timely may acts is = absurd (none-some answer is)
-kept_is_first s w after moment (does.Add row) answer timely may acts is =
-    let place = length w.invocations in
+kept_is_first s w after moment does.Nothing answer timely may makes is = absurd (none-some answer is)
+kept_is_first s w after moment (does.Add row) answer timely may makes is =
+    let place = length w.rows.invocations in
     let made : Created place row.deadline row.tags ≡ answer = same_Some (Created place row.deadline row.tags) answer is in
-    let stands = added_stands w moment (does.Add row) after place row row refl may refl refl acts in
-    let includes = added_includes w moment (does.Add row) after place row refl timely refl acts in
-    let none : [] ≡ ids_at after.invocations (targets_of after.inclusions place) = ap (ids_at after.invocations) includes.0 in
+    let stands = added_stands w.rows moment (does.Add row) after.rows place row row refl may refl refl makes.rows in
+    let includes = added_includes w.rows moment (does.Add row) after.rows place row refl timely refl makes.rows in
+    let none : [] ≡ ids_at after.rows.invocations (targets_of after.rows.inclusions place) = ap (ids_at after.rows.invocations) includes.0 in
     ap (kept_answer (record { settings = s; world = after })) (sym made)
-    ∙ made_again s after place row (slice_get after.invocations place) stands (as_it_is moment row may.is_row may.active) none
-kept_is_first s w after moment (does.Update place deadline tags) answer timely may acts is = absurd (none-some answer is)
-kept_is_first s w after moment (does.End place) answer timely may acts is = absurd (none-some answer is)
-kept_is_first s w after moment (does.Include plan) answer timely may acts is = absurd (none-some answer is)
+    ∙ made_again s after.rows place row (slice_get after.rows.invocations place) stands (as_it_is moment row may.is_row may.active) none
+kept_is_first s w after moment (does.Update place deadline tags) answer timely may makes is = absurd (none-some answer is)
+kept_is_first s w after moment (does.End place) answer timely may makes is = absurd (none-some answer is)
+kept_is_first s w after moment (does.Include plan) answer timely may makes is = absurd (none-some answer is)
+kept_is_first s w after moment (does.Results batch) answer timely may makes is =
+    ap (kept_answer (record { settings = s; world = after }))
+    (sym (same_Some (Results (length w.results) (length batch)) answer is))
+kept_is_first s w after moment (does.Exonerations batch) answer timely may makes is =
+    ap (kept_answer (record { settings = s; world = after }))
+    (sym (same_Some (Exonerations (length w.exonerations) (length batch)) answer is))

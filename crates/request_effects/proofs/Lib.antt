@@ -1,7 +1,6 @@
 pub mod PlaceFacts
 pub mod SafeLaws
-pub mod EffectLaws
-pub mod FullLaws
 pub mod DoneFacts
 pub mod AheadFacts
+pub mod BatchFacts
 pub mod KeepLaws

@@ -1,13 +1,14 @@
 -- Rows by their ids and places.
-use Rattle.std.proofs.Common.{◌≡◌, ◌≢◌, ◌<◌, ℕ, zero, List, [], ◌∷◌, length, Option, Some, None, option_map, refl, sym, ap, ◌∙◌, subst, inl, inr, arith}
+use Rattle.std.proofs.Common.{◌≡◌, ◌≢◌, ◌<◌, ℕ, zero, List, [], ◌∷◌, length, Option, Some, None, refl, sym, ap, ◌∙◌, subst, inl, inr, arith}
 use Rattle.std.specs.Prelude.{slice_get, Contains, IfSome}
 use Rattle.std.specs.List.{All, cons_option}
 use Rattle.std.proofs.lemmas.List.Elements.{All-cons, All-nil}
-use Rattle.std.proofs.lemmas.Option.{same_Some, slice_get-map, slice_get_read}
+use Rattle.std.proofs.lemmas.Option.{same_Some, slice_get_read}
 use Rattle.inclusion_graph.proofs.EdgeLemmas.{in_rest}
 use Rattle.invocations.specs.declared.invocation.Invocation.{Invocation}
 use Rattle.invocations.specs.Rows.{HasId, ids_of}
 use Rattle.invocation_world.proofs.RowFacts.{stands}
+use Rattle.service_effects.proofs.IdFacts.{id_none}
 use Rattle.message_forms.specs.declared.requests.Request.{Request}
 use Rattle.request_rules.specs.Demands.{demand_of}
 use Rattle.request_rules.specs.Locating.{Located, located}
@@ -21,17 +22,6 @@ named_there rows id has none =
     let found = place_there id (ids_of rows) has.0 here in
     let both : None ≡ Some found.0 = none ∙ found.1 in
     absurd cc
-
-pub id_at : (rows : List Invocation) (p : ℕ) (row : Invocation) → slice_get rows p ≡ Some row → slice_get (ids_of rows) p ≡ Some row.id
-id_at rows p row e = slice_get-map (λ (r : Invocation). r.id) rows p ∙ ap (option_map (λ (r : Invocation). r.id)) e
-
-pub id_none : (rows : List Invocation) (p : ℕ) → slice_get rows p ≡ None → slice_get (ids_of rows) p ≡ None
-id_none rows p e = slice_get-map (λ (r : Invocation). r.id) rows p ∙ ap (option_map (λ (r : Invocation). r.id)) e
-
-pub id_same : (old new : List Invocation) (p : ℕ) → slice_get new p ≡ slice_get old p → slice_get (ids_of new) p ≡ slice_get (ids_of old) p
-id_same old new p same =
-    slice_get-map (λ (r : Invocation). r.id) new p ∙ (ap (option_map (λ (r : Invocation). r.id)) same
-    ∙ sym (slice_get-map (λ (r : Invocation). r.id) old p))
 
 -- a row stands where an id is placed
 pub row_placed : (rows : List Invocation) (id : List ℕ) (place : ℕ) → place_named rows id ≡ Some place

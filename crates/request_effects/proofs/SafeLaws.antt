@@ -11,13 +11,17 @@ use Rattle.names_realms.specs.declared.pairs.Pair.{Pair}
 use Rattle.names_realms.specs.declared.states.State.{State}
 use Rattle.names_realms.specs.declared.states.State.TheVariants.{Active, Finalizing, Finalized}
 use Rattle.inclusion_graph.specs.Edges.{fresh, targets_of}
+use Rattle.inclusion_graph.specs.Plans.{PlanState}
 use Rattle.inclusion_graph.proofs.ListLemmas.{fresh_within}
 use Rattle.invocations.specs.declared.invocation.Invocation.{Invocation}
 use Rattle.invocations.specs.Rows.{HasId, IsInState, states_of}
+use Rattle.test_results.specs.declared.exoneration.TestExoneration.{TestExoneration}
+use Rattle.test_results.specs.declared.result.TestResult.{TestResult}
+use Rattle.test_results.specs.Exonerations as exonerations
 use Rattle.message_forms.specs.declared.requests.Request.{Request}
 use Rattle.message_forms.specs.declared.requests.Request.TheVariants as asks
-use Rattle.message_forms.specs.declared.create.CreateInvocation.{CreateInvocation}
-use Rattle.message_forms.specs.Replies.{state_text}
+use Rattle.invocation_forms.specs.declared.create.CreateInvocation.{CreateInvocation}
+use Rattle.invocation_forms.specs.Replies.{state_text}
 use Rattle.invocation_world.specs.World.{World, IsCallMoment, IsPair, IsRow, default_lifetime, latest_deadline, new_row}
 use Rattle.invocation_world.specs.Changes.{is_update}
 use Rattle.invocation_world.proofs.CodeFacts.{fresh_twice}
@@ -27,9 +31,12 @@ use Rattle.request_rules.specs.Demands.{demand_of}
 use Rattle.request_rules.specs.Broken.{IsInReach, of_invocation, out_of_reach, refusal}
 use Rattle.request_rules.proofs.Decided.{reach_or_not}
 use Rattle.request_rules.proofs.PlaceLaws.{place-named}
-use Rattle.request_effects.specs.declared.effect.Effect.TheVariants as does
-use Rattle.request_effects.specs.Effects.{effect_of, end_at, end_of, include_at, include_from, include_of, update_at, update_of}
-use Rattle.request_effects.specs.Fitting.{IsTimely, Suits}
+use Rattle.service_effects.specs.declared.effect.Effect.TheVariants as does
+use Rattle.request_effects.specs.Effects.{effect_of, end_at, end_of, exonerations_at, include_at, include_from, include_of, results_at, update_at, update_of}
+use Rattle.service_effects.specs.Service.{Recorded}
+use Rattle.service_effects.specs.declared.effect.Effect.{Effect}
+use Rattle.service_effects.specs.Fitting.{ArePlaced, IsTimely, Suits}
+use Rattle.service_effects.proofs.BatchFacts.{given_batch, given_places, placed_batch}
 use Rattle.request_effects.specs.Planned.{IsSafe}
 use Rattle.request_effects.proofs.PlaceFacts.{named_there, places_elsewhere, places_within, row_placed}
 
@@ -175,27 +182,107 @@ include_there w moment targets None may = tt
 include_there w moment targets (Some p) may =
     let is = may p refl in fresh_suit w moment p targets is.0 is.1 is.2
 
+-- ---- batches
+
+results_suit : (w : World) (moment : ℤ) (o : Option ℕ) (rows : List TestResult) → rows ≢ []
+    → ((p : ℕ) → o ≡ Some p → IsInState Active w.invocations p) → Suits w moment (results_at o rows)
+results_suit w moment None rows some active = tt
+results_suit w moment (Some p) rows some active = given_batch w p rows some (active p refl)
+
+exonerations_suit : (w : World) (moment : ℤ) (held : List TestExoneration) (o : Option ℕ) (rows : List TestExoneration) → rows ≢ []
+    → ((p : ℕ) → o ≡ Some p → IsInState Active w.invocations p) → Suits w moment (exonerations_at held o rows)
+exonerations_suit w moment held None rows some active = tt
+exonerations_suit w moment held (Some p) rows some active =
+    placed_batch w p (length (exonerations.places_in held p)) rows some (active p refl)
+
 -- ---- all requests
 
-pub suits : (w : World) (moment : ℤ) (name : List ℕ) (request : Request) → IsTimely w moment → IsSafe w moment name request
-    → Suits w moment (effect_of w moment name request)
+pub suits : (w : Recorded) (moment : ℤ) (name : List ℕ) (request : Request) → IsTimely w.rows moment → IsSafe w.rows moment name request
+    → Suits w.rows moment (effect_of w moment name request)
 suits w moment name (asks.CreateInvocation q) timely safe = record {
-  free = name_is_free w moment name (asks.CreateInvocation q) q.id safe refl;
-  is_row = new_is_row w moment name q timely.call safe;
+  free = name_is_free w.rows moment name (asks.CreateInvocation q) q.id safe refl;
+  is_row = new_is_row w.rows moment name q timely.call safe;
   active = refl;
   made = refl;
 }
 suits w moment name (asks.UpdateInvocation q) timely safe =
-    update_suits w moment q.deadline q.tags (deadline_ahead w moment name (asks.UpdateInvocation q) timely.call safe) safe.forms.tags
-    (place_named w.invocations q.id)
-    (λ p at. is_still_active w moment name (asks.UpdateInvocation q) q.id p safe refl at)
-suits w moment name (asks.FinalizeInvocation q) timely safe = end_there w moment (place_named w.invocations q.id)
+    update_suits w.rows moment q.deadline q.tags (deadline_ahead w.rows moment name (asks.UpdateInvocation q) timely.call safe) safe.forms.tags
+    (place_named w.rows.invocations q.id)
+    (λ p at. is_still_active w.rows moment name (asks.UpdateInvocation q) q.id p safe refl at)
+suits w moment name (asks.FinalizeInvocation q) timely safe = end_there w.rows moment (place_named w.rows.invocations q.id)
 suits w moment name (asks.UpdateIncludedInvocations q) timely safe =
     let request : Request = asks.UpdateIncludedInvocations q in
-    include_there w moment (places_named w.invocations q.add) (place_named w.invocations q.including)
+    include_there w.rows moment (places_named w.rows.invocations q.add) (place_named w.rows.invocations q.including)
     (λ p at. (
-      is_still_active w moment name request q.including p safe refl at,
-      places_within w.invocations q.add,
-      places_elsewhere w.invocations q.including p q.add at (not_among_included w moment name request q.including safe refl),
+      is_still_active w.rows moment name request q.including p safe refl at,
+      places_within w.rows.invocations q.add,
+      places_elsewhere w.rows.invocations q.including p q.add at
+          (not_among_included w.rows moment name request q.including safe refl),
     ))
-suits w moment name _ timely safe = tt
+suits w moment name (asks.BatchCreateTestResults q) timely safe =
+    results_suit w.rows moment (place_named w.rows.invocations q.invocation) q.requests safe.forms.some
+    (λ p at. is_still_active w.rows moment name (asks.BatchCreateTestResults q) q.invocation p safe refl at)
+suits w moment name (asks.BatchCreateTestExonerations q) timely safe =
+    exonerations_suit w.rows moment w.exonerations (place_named w.rows.invocations q.invocation) q.requests safe.forms.some
+    (λ p at. is_still_active w.rows moment name (asks.BatchCreateTestExonerations q) q.invocation p safe refl at)
+suits w moment name (asks.GetInvocation q) timely safe = tt
+
+-- ---- what is so of each effect on the invocations
+
+module _ (P : Effect → Type 0) (nothing : P does.Nothing) where
+  pub of_update : (deadline : Option ℤ) (tags : Option (List Pair)) (place : ℕ) (o : Option Invocation)
+      → P (does.Update place deadline tags) → P (update_of deadline tags place o)
+  of_update deadline tags place None update = nothing
+  of_update deadline tags place (Some row) update =
+      elim (cases_Bool (is_update deadline tags row)) [
+        | inl yes_ ↦ subst P (sym (cond-true (is_update deadline tags row) (does.Update place deadline tags) does.Nothing yes_)) update
+        | inr no_ ↦ subst P (sym (cond-false (is_update deadline tags row) (does.Update place deadline tags) does.Nothing no_)) nothing
+      ]
+
+  pub of_update_at : (rows : List Invocation) (deadline : Option ℤ) (tags : Option (List Pair)) (o : Option ℕ)
+      → ((place : ℕ) → P (does.Update place deadline tags)) → P (update_at rows deadline tags o)
+  of_update_at rows deadline tags None update = nothing
+  of_update_at rows deadline tags (Some place) update = of_update deadline tags place (slice_get rows place) (update place)
+
+  of_end : (place : ℕ) (o : Option State) → P (does.End place) → P (end_of place o)
+  of_end place None end = nothing
+  of_end place (Some Active) end = end
+  of_end place (Some Finalizing) end = nothing
+  of_end place (Some Finalized) end = nothing
+
+  pub of_end_at : (rows : List Invocation) (o : Option ℕ) → ((place : ℕ) → P (does.End place)) → P (end_at rows o)
+  of_end_at rows None end = nothing
+  of_end_at rows (Some place) end = of_end place (slice_get (states_of rows) place) (end place)
+
+  of_include : (from : ℕ) (held targets : List ℕ) → ((plan : PlanState) → P (does.Include plan)) → P (include_of from held targets)
+  of_include from held [] include = nothing
+  of_include from held (target ∷ targets) include = include (record { from = from; held = held; targets = target ∷ targets })
+
+  pub of_include_at : (w : World) (targets : List ℕ) (o : Option ℕ) → ((plan : PlanState) → P (does.Include plan)) → P (include_at w targets o)
+  of_include_at w targets None include = nothing
+  of_include_at w targets (Some place) include =
+      of_include place (targets_of w.inclusions place) (fresh (targets_of w.inclusions place) targets) include
+
+-- exonerations are placed
+results_placed : (held : List TestExoneration) (o : Option ℕ) (rows : List TestResult) → ArePlaced held (results_at o rows)
+results_placed held None rows = tt
+results_placed held (Some holder) rows = tt
+
+exonerations_placed : (held : List TestExoneration) (o : Option ℕ) (rows : List TestExoneration) → ArePlaced held (exonerations_at held o rows)
+exonerations_placed held None rows = tt
+exonerations_placed held (Some holder) rows = given_places held holder rows
+
+pub placed : (w : Recorded) (moment : ℤ) (name : List ℕ) (request : Request) → ArePlaced w.exonerations (effect_of w moment name request)
+placed w moment name (asks.CreateInvocation q) = tt
+placed w moment name (asks.UpdateInvocation q) =
+    of_update_at (ArePlaced w.exonerations) tt w.rows.invocations q.deadline q.tags (place_named w.rows.invocations q.id) (λ place. tt)
+placed w moment name (asks.FinalizeInvocation q) =
+    of_end_at (ArePlaced w.exonerations) tt w.rows.invocations (place_named w.rows.invocations q.id) (λ place. tt)
+placed w moment name (asks.UpdateIncludedInvocations q) =
+    of_include_at (ArePlaced w.exonerations) tt w.rows (places_named w.rows.invocations q.add)
+    (place_named w.rows.invocations q.including) (λ plan. tt)
+placed w moment name (asks.BatchCreateTestResults q) =
+    results_placed w.exonerations (place_named w.rows.invocations q.invocation) q.requests
+placed w moment name (asks.BatchCreateTestExonerations q) =
+    exonerations_placed w.exonerations (place_named w.rows.invocations q.invocation) q.requests
+placed w moment name (asks.GetInvocation q) = tt

@@ -1,19 +1,23 @@
--- What a request does to the world, and what the world is after it.
-use Rattle.std.specs.Prelude.{ℕ, ℤ, List, [], ◌∷◌, Option, Some, None, if◌then◌else◌, slice_get}
+-- What a request does to what is recorded.
+use Rattle.std.specs.Prelude.{ℕ, ℤ, List, [], ◌∷◌, Option, Some, None, if◌then◌else◌, length, slice_get}
 use Rattle.names_realms.specs.declared.pairs.Pair.{Pair}
 use Rattle.names_realms.specs.declared.states.State.{State}
 use Rattle.names_realms.specs.declared.states.State.TheVariants.{Active, Finalizing, Finalized}
-use Rattle.inclusion_graph.specs.Edges.{edges_from, fresh, targets_of}
+use Rattle.inclusion_graph.specs.Edges.{fresh, targets_of}
 use Rattle.invocations.specs.declared.invocation.Invocation.{Invocation}
 use Rattle.invocations.specs.Rows.{states_of}
+use Rattle.test_results.specs.declared.exoneration.TestExoneration.{TestExoneration}
+use Rattle.test_results.specs.declared.result.TestResult.{TestResult}
+use Rattle.test_results.specs.Batches as results
+use Rattle.test_results.specs.Exonerations as exonerations
 use Rattle.message_forms.specs.declared.requests.Request.{Request}
 use Rattle.message_forms.specs.declared.requests.Request.TheVariants as asks
-use Rattle.invocation_world.specs.World.{World, new_row, with_row}
-use Rattle.invocation_world.specs.Settling.{Settles}
-use Rattle.invocation_world.specs.Changes.{is_update, with_begun, with_edges, with_update}
+use Rattle.invocation_world.specs.World.{World, new_row}
+use Rattle.invocation_world.specs.Changes.{is_update}
 use Rattle.request_rules.specs.Named.{place_named, places_named}
-use Rattle.request_effects.specs.declared.effect.Effect.{Effect}
-use Rattle.request_effects.specs.declared.effect.Effect.TheVariants as does
+use Rattle.service_effects.specs.declared.effect.Effect.{Effect}
+use Rattle.service_effects.specs.declared.effect.Effect.TheVariants as does
+use Rattle.service_effects.specs.Service.{Recorded}
 
 -- another deadline or other tags of the row at a place, where they are others
 abbrev pub update_of : Option ℤ → Option (List Pair) → ℕ → Option Invocation → Effect
@@ -50,29 +54,32 @@ abbrev pub include_at : World → List ℕ → Option ℕ → Effect
 include_at w targets None = does.Nothing
 include_at w targets (Some place) = include_from place (targets_of w.inclusions place) targets
 
+-- test results of the row at a place, as they will stand in the table
+abbrev pub results_at : Option ℕ → List TestResult → Effect
+results_at None rows = does.Nothing
+results_at (Some holder) rows = does.Results (results.given holder rows)
+
+-- exonerations of the row at a place, each with its place behind those that the row has
+abbrev pub exonerations_at : List TestExoneration → Option ℕ → List TestExoneration → Effect
+exonerations_at held None rows = does.Nothing
+exonerations_at held (Some holder) rows =
+    does.Exonerations
+    (exonerations.given holder (length (exonerations.places_in held holder)) rows)
+
 -- What a request of a caller of this name does at this moment, a row a method.
-abbrev pub effect_of : World → ℤ → List ℕ → Request → Effect
+abbrev pub effect_of : Recorded → ℤ → List ℕ → Request → Effect
 effect_of w moment name (asks.CreateInvocation q) =
     does.Add (new_row moment name q.id
     q.invocation.realm q.invocation.deadline q.invocation.tags)
 effect_of w moment name (asks.UpdateInvocation q) =
-    update_at w.invocations q.deadline q.tags (place_named w.invocations q.id)
+    update_at w.rows.invocations q.deadline q.tags (place_named w.rows.invocations q.id)
 effect_of w moment name (asks.FinalizeInvocation q) =
-    end_at w.invocations (place_named w.invocations q.id)
+    end_at w.rows.invocations (place_named w.rows.invocations q.id)
 effect_of w moment name (asks.UpdateIncludedInvocations q) =
-    include_at w (places_named w.invocations q.add) (place_named w.invocations q.including)
+    include_at w.rows (places_named w.rows.invocations q.add)
+    (place_named w.rows.invocations q.including)
+effect_of w moment name (asks.BatchCreateTestResults q) =
+    results_at (place_named w.rows.invocations q.invocation) q.requests
+effect_of w moment name (asks.BatchCreateTestExonerations q) =
+    exonerations_at w.exonerations (place_named w.rows.invocations q.invocation) q.requests
 effect_of w moment name (asks.GetInvocation q) = does.Nothing
-
--- the world after an effect at a moment, before its rows settle
-abbrev pub with_effect : ℤ → Effect → World → World
-with_effect moment does.Nothing w = w
-with_effect moment (does.Add row) w = with_row w row
-with_effect moment (does.Update place deadline tags) w = with_update moment place deadline tags w
-with_effect moment (does.End place) w = with_begun moment place w
-with_effect moment (does.Include plan) w =
-    with_edges moment (edges_from plan.from plan.targets) w
-
--- What an effect makes of a world at a moment: it is done, and what then reaches no active
--- invocation becomes final.
-abbrev pub Does : ℤ → Effect → World → World → Type 0
-Does moment effect w after = Settles moment (with_effect moment effect w) after

@@ -4,29 +4,33 @@ use Rattle.names_realms.specs.declared.pairs.Pair.{Pair}
 use Rattle.names_realms.specs.declared.states.State.TheVariants.{Active}
 use Rattle.invocations.specs.declared.invocation.Invocation.{Invocation}
 use Rattle.kept_replies.specs.declared.reply.KeptAnswer.{KeptAnswer}
-use Rattle.kept_replies.specs.declared.reply.KeptAnswer.TheVariants.{Created}
+use Rattle.kept_replies.specs.declared.reply.KeptAnswer.TheVariants.{Created, Results, Exonerations}
 use Rattle.kept_replies.specs.declared.reply.KeptReply.{KeptReply}
 use Rattle.call_forms.specs.declared.asked.Asked.{Asked}
 use Rattle.call_forms.specs.declared.forms.Answer.{Answer}
 use Rattle.message_forms.specs.declared.replies.Reply.{Reply}
 use Rattle.message_forms.specs.declared.replies.Reply.TheVariants as reply
-use Rattle.invocation_world.specs.World.{World}
 use Rattle.request_rules.specs.Demands.{Demand}
 use Rattle.request_rules.specs.Settings.{Settings}
 use Rattle.request_rules.specs.Numbered.{digest_of}
-use Rattle.request_effects.specs.declared.effect.Effect.{Effect}
-use Rattle.request_effects.specs.declared.effect.Effect.TheVariants as does
+use Rattle.service_effects.specs.declared.effect.Effect.{Effect}
+use Rattle.service_effects.specs.declared.effect.Effect.TheVariants as does
 use Rattle.request_effects.specs.declared.keeping.Numbered.{Numbered}
-use Rattle.request_effects.specs.Shows.{Scene, done, shown_with, token_at}
+use Rattle.request_effects.specs.declared.shows.Shows.TheVariants as shows
+use Rattle.service_effects.specs.Service.{Recorded}
+use Rattle.request_effects.specs.Shows.{Scene, answer_of, done, shown_with, token_at}
 
 -- what is kept of the answer to a request that has this effect, by the places in the world before
 -- it, an effect a row: what no later effect changes, and what the request gave
-abbrev pub answer_kept : World → Effect → Option KeptAnswer
+abbrev pub answer_kept : Recorded → Effect → Option KeptAnswer
 answer_kept w does.Nothing = None
-answer_kept w (does.Add row) = Some (Created (length w.invocations) row.deadline row.tags)
+answer_kept w (does.Add row) = Some (Created (length w.rows.invocations) row.deadline row.tags)
 answer_kept w (does.Update place deadline tags) = None
 answer_kept w (does.End place) = None
 answer_kept w (does.Include plan) = None
+answer_kept w (does.Results batch) = Some (Results (length w.results) (length batch))
+answer_kept w (does.Exonerations batch) =
+    Some (Exonerations (length w.exonerations) (length batch))
 
 -- the number of a request, with its digest
 abbrev pub numbered_of : Asked → Demand → Option Numbered
@@ -34,7 +38,7 @@ numbered_of asked d =
     option_map (λ number. record { number = number; digest = digest_of asked }) d.number
 
 -- what is kept of a numbered request of a caller of this name, if anything is
-abbrev pub kept_of : World → List ℕ → Option Numbered → Effect → Option KeptReply
+abbrev pub kept_of : Recorded → List ℕ → Option Numbered → Effect → Option KeptReply
 kept_of w name None effect = None
 kept_of w name (Some numbered) effect =
     option_map (λ answer. record {
@@ -68,6 +72,9 @@ made_reply deadline tags (Some row) =
 abbrev pub made_answer : Settings → ℤ → List Pair → Option Invocation → Answer
 made_answer s deadline tags found = done (token_at s found) (made_reply deadline tags found)
 
+-- The answer to a repeat: recorded rows never change, and are shown as they stand.
 abbrev pub kept_answer : Scene → KeptAnswer → Answer
 kept_answer s (Created place deadline tags) =
-    made_answer s.settings deadline tags (slice_get s.world.invocations place)
+    made_answer s.settings deadline tags (slice_get s.world.rows.invocations place)
+kept_answer s (Results first count) = answer_of s (shows.Results first count)
+kept_answer s (Exonerations first count) = answer_of s (shows.Exonerations first count)

@@ -1,6 +1,4 @@
 pub mod Effects
-pub mod Fitting
-pub mod Full
 pub mod Foreseen
 pub mod Shows
 pub mod Keeps

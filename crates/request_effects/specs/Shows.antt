@@ -1,40 +1,56 @@
 -- What a request shows of the world that it leaves, and the answer that shows it.
-use Rattle.std.specs.Prelude.{ℕ, List, Option, Some, None, length, slice_get}
+use Rattle.std.specs.Prelude.{ℕ, List, [], ◌∷◌, Option, Some, None, drop, length, slice_get, take}
 use Rattle.std.specs.List.{filter_map}
 use Rattle.inclusion_graph.specs.Edges.{targets_of}
 use Rattle.invocations.specs.declared.invocation.Invocation.{Invocation}
 use Rattle.invocations.specs.Rows.{ids_of}
+use Rattle.test_results.specs.declared.exoneration.TestExoneration.{TestExoneration}
+use Rattle.test_results.specs.declared.result.TestResult.{TestResult}
 use Rattle.call_forms.specs.declared.forms.Answer.{Answer}
 use Rattle.message_forms.specs.declared.replies.Reply.{Reply}
 use Rattle.message_forms.specs.declared.replies.Reply.TheVariants as reply
 use Rattle.message_forms.specs.declared.requests.Request.{Request}
 use Rattle.message_forms.specs.declared.requests.Request.TheVariants as asks
 use Rattle.message_forms.specs.Replies.{reply_text}
-use Rattle.message_forms.specs.Shown.{InvocationShown}
+use Rattle.invocation_forms.specs.Shown.{InvocationShown}
 use Rattle.invocation_world.specs.World.{World}
 use Rattle.request_rules.specs.Settings.{Settings}
 use Rattle.request_rules.specs.Named.{place_named}
 use Rattle.request_rules.specs.Understood.{token_for}
 use Rattle.request_effects.specs.declared.shows.Shows.{Shows}
 use Rattle.request_effects.specs.declared.shows.Shows.TheVariants as shows
+use Rattle.service_effects.specs.Service.{Recorded}
 
 abbrev pub shows_row : Option ℕ → Shows
 shows_row None = shows.Empty
 shows_row (Some place) = shows.Row place
 
+-- so many new test results: they stand behind all that are there
+abbrev pub shows_results : Recorded → Option ℕ → ℕ → Shows
+shows_results w None count = shows.Empty
+shows_results w (Some holder) count = shows.Results (length w.results) count
+
+abbrev pub shows_exonerations : Recorded → Option ℕ → ℕ → Shows
+shows_exonerations w None count = shows.Empty
+shows_exonerations w (Some holder) count = shows.Exonerations (length w.exonerations) count
+
 -- What a request shows, by the places in the world before it, a row a method. A new row stands
 -- after all that are there.
-abbrev pub shows_of : World → Request → Shows
-shows_of w (asks.CreateInvocation q) = shows.Made (length w.invocations)
-shows_of w (asks.UpdateInvocation q) = shows_row (place_named w.invocations q.id)
-shows_of w (asks.FinalizeInvocation q) = shows_row (place_named w.invocations q.id)
+abbrev pub shows_of : Recorded → Request → Shows
+shows_of w (asks.CreateInvocation q) = shows.Made (length w.rows.invocations)
+shows_of w (asks.UpdateInvocation q) = shows_row (place_named w.rows.invocations q.id)
+shows_of w (asks.FinalizeInvocation q) = shows_row (place_named w.rows.invocations q.id)
 shows_of w (asks.UpdateIncludedInvocations q) = shows.Empty
-shows_of w (asks.GetInvocation q) = shows_row (place_named w.invocations q.id)
+shows_of w (asks.BatchCreateTestResults q) =
+    shows_results w (place_named w.rows.invocations q.invocation) (length q.requests)
+shows_of w (asks.BatchCreateTestExonerations q) =
+    shows_exonerations w (place_named w.rows.invocations q.invocation) (length q.requests)
+shows_of w (asks.GetInvocation q) = shows_row (place_named w.rows.invocations q.id)
 
--- Where it is shown: what the service is set up with, and the world.
+-- Where it is shown: what the service is set up with, and what is recorded.
 pub record Scene : Type 0 where
   pub settings : Settings
-  pub world : World
+  pub world : Recorded
 
 -- the ids of the rows at these places
 abbrev pub ids_at : List Invocation → List ℕ → List (List ℕ)
@@ -63,11 +79,41 @@ abbrev pub reply_at : World → ℕ → Option Invocation → Reply
 reply_at w place None = reply.Empty
 reply_at w place (Some row) = reply.Invocation (shown w place row)
 
+-- so many rows from a place on, of those that there are
+abbrev pub part_of : {A : Type 0} → ℕ → ℕ → List A → List A
+part_of first count rows = take count (drop first rows)
+
+-- what is shown of rows, beside the id of their holder, which is that of the first one
+abbrev pub results_shown : List TestResult → Option (List ℕ) → Reply
+results_shown rows None = reply.Empty
+results_shown rows (Some id) = reply.Results (record { invocation = id; rows = rows })
+
+abbrev pub exonerations_shown : List TestExoneration → Option (List ℕ) → Reply
+exonerations_shown rows None = reply.Empty
+exonerations_shown rows (Some id) =
+    reply.Exonerations (record { invocation = id; rows = rows })
+
+abbrev pub results_reply : List Invocation → List TestResult → Reply
+results_reply held [] = reply.Empty
+results_reply held (row ∷ rows) =
+    results_shown (row ∷ rows) (slice_get (ids_of held) row.holder)
+
+abbrev pub exonerations_reply : List Invocation → List TestExoneration → Reply
+exonerations_reply held [] = reply.Empty
+exonerations_reply held (row ∷ rows) =
+    exonerations_shown (row ∷ rows) (slice_get (ids_of held) row.holder)
+
 -- The reply that shows this.
 abbrev pub reply_of : Scene → Shows → Reply
 reply_of s shows.Empty = reply.Empty
-reply_of s (shows.Row place) = reply_at s.world place (slice_get s.world.invocations place)
-reply_of s (shows.Made place) = reply_at s.world place (slice_get s.world.invocations place)
+reply_of s (shows.Row place) =
+    reply_at s.world.rows place (slice_get s.world.rows.invocations place)
+reply_of s (shows.Made place) =
+    reply_at s.world.rows place (slice_get s.world.rows.invocations place)
+reply_of s (shows.Results first count) =
+    results_reply s.world.rows.invocations (part_of first count s.world.results)
+reply_of s (shows.Exonerations first count) =
+    exonerations_reply s.world.rows.invocations (part_of first count s.world.exonerations)
 
 -- the update token that is handed out: that of a new invocation
 abbrev pub token_at : Settings → Option Invocation → Option (List ℕ)
@@ -77,7 +123,9 @@ token_at s (Some row) = Some (token_for s row.id)
 abbrev pub token_of : Scene → Shows → Option (List ℕ)
 token_of s shows.Empty = None
 token_of s (shows.Row place) = None
-token_of s (shows.Made place) = token_at s.settings (slice_get s.world.invocations place)
+token_of s (shows.Made place) = token_at s.settings (slice_get s.world.rows.invocations place)
+token_of s (shows.Results first count) = None
+token_of s (shows.Exonerations first count) = None
 
 -- the answer that a request succeeded, with an update token where one is handed out
 abbrev pub done : Option (List ℕ) → Reply → Answer

@@ -4,17 +4,17 @@ ghost use Rattle.inclusion_graph.specs.Edges.{targets_of};
 ghost use Rattle.invocations.specs.Rows.{begun};
 ghost use Rattle.invocation_world.specs.World.{World};
 ghost use Rattle.invocation_world.specs.Changes.{updated};
-ghost use Rattle.request_effects.specs.Fitting.{Suits};
+ghost use Rattle.service_effects.specs.Fitting.{Suits};
 ghost use Rattle.request_effects.specs.Foreseen.{Foresees, IsFinalTold, IsHere, Leaves, ended_if};
 ghost use Rattle.invocation_world.specs.States.{IsRoomier};
 ghost use Rattle.request_effects.specs.Keeps.{as_made};
 ghost use Rattle.request_effects.specs.Shows.{ids_at};
 
-use crate::effect::Effect;
 use invocation_world::InvocationWorld;
 use invocations::Invocation;
 use lists::Listed;
 use names_realms::{Moment, Pair, State};
+use service_effects::{Effect, Tables};
 use std::marker::Model;
 
 /// An invocation as it will be: what doesn't change is read from the one that stands.
@@ -117,14 +117,16 @@ pub(crate) fn ends_at_once(world: &mut InvocationWorld, moment: Moment, effect: 
         Effect::Add(_) => false,
         Effect::Update { .. } => false,
         Effect::Include(_) => false,
+        Effect::Results(_) => false,
+        Effect::Exonerations(_) => false,
     }
 }
 
-/// What will be done to the world at a moment, and whether the invocation whose finalization it
-/// begins will be final at once.
+/// What will be done to what is recorded at a moment, and whether the invocation whose finalization
+/// it begins will be final at once.
 #[derive(Clone, Copy)]
 pub(crate) struct Ahead<'r> {
-    pub world: &'r InvocationWorld,
+    pub tables: &'r Tables,
     pub moment: Moment,
     pub effect: &'r Effect,
     pub is_final: bool,
@@ -134,38 +136,42 @@ impl<'r> Ahead<'r> {
     /// The invocation at a place as it will be, where it is the one that is changed, or nothing is.
     pub(crate) fn row(&self, place: u32) -> Seen<'r>
         requires foresees { Foresees self.now }
-        requires here { IsHere self.now.world.now.world self.now.effect.now place }
+        requires here { IsHere self.now.tables.now.world.world self.now.effect.now place }
         ensures { (after : World) → Leaves self.now after
             → slice_get after.invocations place ≡ Some result }
     {
         match self.effect {
-            Effect::Nothing => Seen::standing(self.world.row(place)),
+            Effect::Nothing => Seen::standing(self.tables.world.row(place)),
             Effect::Add(row) => Seen::standing(row),
             Effect::Update { deadline, tags, .. } => {
-                Seen::updated(self.world.row(place), *deadline, tags)
+                Seen::updated(self.tables.world.row(place), *deadline, tags)
             }
-            Effect::End(_) => Seen::ended(self.world.row(place), self.moment, self.is_final),
+            Effect::End(_) => Seen::ended(self.tables.world.row(place), self.moment, self.is_final),
             Effect::Include(_) => unreachable!(),
+            Effect::Results(_) => unreachable!(),
+            Effect::Exonerations(_) => unreachable!(),
         }
     }
 
     /// The places of the invocations that the one at a place will include.
     pub(crate) fn included(&self, place: u32) -> &'r [u32]
         requires foresees { Foresees self.now }
-        requires here { IsHere self.now.world.now.world self.now.effect.now place }
-        ensures within { All (λ target. target < length self.now.world.now.world.invocations)
+        requires here { IsHere self.now.tables.now.world.world self.now.effect.now place }
+        ensures within { All (λ target. target < length self.now.tables.now.world.world.invocations)
             result.now }
         ensures targets { (after : World) → Leaves self.now after
             → (result.now ≡ targets_of after.inclusions place)
-            × (ids_at self.now.world.now.world.invocations result.now
+            × (ids_at self.now.tables.now.world.world.invocations result.now
             ≡ ids_at after.invocations result.now) }
     {
         match self.effect {
-            Effect::Nothing => self.world.included(place),
+            Effect::Nothing => self.tables.world.included(place),
             Effect::Add(_) => &[],
-            Effect::Update { .. } => self.world.included(place),
-            Effect::End(_) => self.world.included(place),
+            Effect::Update { .. } => self.tables.world.included(place),
+            Effect::End(_) => self.tables.world.included(place),
             Effect::Include(_) => unreachable!(),
+            Effect::Results(_) => unreachable!(),
+            Effect::Exonerations(_) => unreachable!(),
         }
     }
 }

@@ -3,14 +3,15 @@ ghost use Rattle.std.specs.Prelude.{◌≡◌, IfOk};
 ghost use Rattle.call_forms.specs.declared.asked.Asked.{Asked};
 ghost use Rattle.request_rules.specs.Demands.{demand_of};
 ghost use Rattle.request_rules.specs.Understood.{IsDigested};
+ghost use Rattle.service_effects.specs.Fitting.{HasRoom};
+ghost use Rattle.service_effects.specs.States.{recorded_in};
 ghost use Rattle.request_effects.specs.Keeps.{answer_kept, kept_of, numbered_of};
 
-use crate::effect::Effect;
-use invocation_world::InvocationWorld;
 use kept_replies::{KeptAnswer, KeptReply};
 use lists::{Bytes, Listed};
 use names_realms::Pair;
 use request_rules::{Call, Demand, demand_of};
+use service_effects::{Effect, Tables};
 use std::alloc::{AllocError, Global};
 
 /// The number of a request, and the digest by which a repeat of it is known.
@@ -80,16 +81,17 @@ fn copied_pairs(alloc: Global, pairs: &[Pair]) -> Result<Listed<Pair>, AllocErro
 /// What is kept of the answer to a request that has this effect.
 fn answer_kept(
     alloc: Global,
-    world: &InvocationWorld,
+    tables: &Tables,
     effect: &Effect,
 ) -> Result<Option<KeptAnswer>, AllocError>
-    ensures { IfOk result (λ kept. kept ≡ answer_kept world.now.world effect.now) }
+    requires { HasRoom tables.now effect.now }
+    ensures { IfOk result (λ kept. kept ≡ answer_kept (recorded_in tables.now) effect.now) }
 {
     match effect {
         Effect::Add(row) => {
             let tags = copied_pairs(alloc, row.tags.as_slice())?;
             Ok(Some(KeptAnswer::Created {
-                place: world.count(),
+                place: tables.world.count(),
                 deadline: row.deadline,
                 tags,
             }))
@@ -98,24 +100,34 @@ fn answer_kept(
         Effect::Update { .. } => Ok(None),
         Effect::End(_) => Ok(None),
         Effect::Include(_) => Ok(None),
+        Effect::Results(batch) => Ok(Some(KeptAnswer::Results {
+            first: tables.results.count(),
+            count: batch.rows().len() as u32,
+        })),
+        Effect::Exonerations(batch) => Ok(Some(KeptAnswer::Exonerations {
+            first: tables.exonerations.count(),
+            count: batch.rows().len() as u32,
+        })),
     }
 }
 
-/// What is kept of a request of a caller of this name that has this effect: nothing where it has no
-/// number. `Err` where there is no memory for it.
+/// What is kept of a request of a caller of this name that has this effect, for which there is
+/// room: nothing where it has no number. `Err` where there is no memory for it.
 pub fn keep_of(
     alloc: Global,
-    world: &InvocationWorld,
+    tables: &Tables,
     name: &[u8],
     numbered: Option<Numbered>,
     effect: &Effect,
 ) -> Result<Option<KeptReply>, AllocError>
-    ensures { IfOk result (λ keep. keep ≡ kept_of world.now.world name.now numbered effect.now) }
+    requires { HasRoom tables.now effect.now }
+    ensures { IfOk result (λ keep. keep
+        ≡ kept_of (recorded_in tables.now) name.now numbered effect.now) }
 {
     let Some(numbered) = numbered else {
         return Ok(None);
     };
-    let Some(answer) = answer_kept(alloc, world, effect)? else {
+    let Some(answer) = answer_kept(alloc, tables, effect)? else {
         return Ok(None);
     };
     let caller = copied(alloc, name)?;

@@ -5,12 +5,10 @@ ghost use Rattle.invocation_world.specs.World.{IsValid};
 ghost use Rattle.request_rules.specs.Demands.{demand_of};
 ghost use Rattle.request_rules.specs.Locating.{located};
 ghost use Rattle.request_effects.specs.Effects.{effect_of, end_at, include_of, update_at};
-ghost use Rattle.request_effects.specs.Fitting.{IsTimely};
-ghost use Rattle.invocation_world.specs.States.{IsRoomier};
+ghost use Rattle.service_effects.specs.Fitting.{IsTimely};
+ghost use Rattle.service_effects.specs.States.{IsRoomier, recorded_in};
 ghost use Rattle.request_effects.specs.Planned.{AreEdgesPlanned, IsPlanned, IsSafe};
 
-use crate::effect::Effect;
-use crate::full::FullTable;
 use crate::making::{pairs_of, row_of};
 use inclusion_graph::{EdgeFault, EdgePlan};
 use invocation_world::InvocationWorld;
@@ -19,16 +17,10 @@ use lists::Listed;
 use message_forms::{CreateInvocation, Request, UpdateInvocation};
 use names_realms::{Moment, Pair, State};
 use request_rules::Located;
+use service_effects::{
+    Effect, EffectFault, FullTable, Planned, Tables, plan_exonerations, plan_results,
+};
 use std::alloc::{AllocError, Global};
-
-/// What a request is planned to.
-#[derive(Drop)]
-pub enum Planned {
-    /// It is refused, since this table is full.
-    Full(FullTable),
-    /// This is ready to be done, without memory.
-    Ready(Effect),
-}
 
 /// When a request is planned, for a caller of which name, and where the invocations stand that it
 /// names.
@@ -118,21 +110,23 @@ fn include_of(plan: EdgePlan) -> Effect
 /// Plans a new invocation.
 fn plan_row(
     alloc: Global,
-    world: &mut InvocationWorld,
+    tables: &mut Tables,
     moment: Moment,
     name: &[u8],
     q: CreateInvocation,
 ) -> Result<Planned, AllocError>
-    requires timely { IsTimely world.old.world moment }
-    requires safe { IsSafe world.old.world moment name.now (Request.CreateInvocation q) }
-    ensures roomier { IsRoomier world.old world.new }
-    ensures planned { IfOk result (IsPlanned world.new moment
-        (effect_of world.old.world moment name.now (Request.CreateInvocation q))) }
+    requires timely { IsTimely tables.old.world.world moment }
+    requires safe { IsSafe tables.old.world.world moment name.now (Request.CreateInvocation q) }
+    ensures roomier { IsRoomier tables.old tables.new }
+    ensures planned { IfOk result (IsPlanned tables.new moment
+        (effect_of (recorded_in tables.old) moment name.now (Request.CreateInvocation q))) }
 {
     let row = row_of(alloc, moment, name, q)?;
-    match world.prepare_add(alloc, &row.id) {
+    match tables.world.prepare_add(alloc, &row.id) {
         Ok(()) => Ok(Planned::Ready(Effect::Add(row))),
-        Err(AddFault::Full { count }) => Ok(Planned::Full(FullTable::Invocations { count })),
+        Err(AddFault::Full { count }) => {
+            Ok(Planned::Refused(EffectFault::Full(FullTable::Invocations { count })))
+        }
         Err(AddFault::Memory) => Err(AllocError),
         Err(AddFault::Taken { .. }) => unreachable!(),
     }
@@ -141,20 +135,23 @@ fn plan_row(
 /// Plans inclusions of the invocations at some places in an active one.
 fn plan_edges(
     alloc: Global,
-    world: &mut InvocationWorld,
+    tables: &mut Tables,
     place: u32,
     targets: &[u32],
 ) -> Result<Planned, AllocError>
-    requires valid { IsValid world.old.world }
-    requires active { IsInState State.Active world.old.world.invocations place }
-    requires there { All (λ target. target < length world.old.world.invocations) targets.now }
+    requires valid { IsValid tables.old.world.world }
+    requires active { IsInState State.Active tables.old.world.world.invocations place }
+    requires there { All (λ target. target < length tables.old.world.world.invocations)
+        targets.now }
     requires elsewhere { All (λ target. target ≢ place) targets.now }
-    ensures roomier { IsRoomier world.old world.new }
-    ensures planned { IfOk result (AreEdgesPlanned world.new place targets.now) }
+    ensures roomier { IsRoomier tables.old tables.new }
+    ensures planned { IfOk result (AreEdgesPlanned tables.new place targets.now) }
 {
-    match world.prepare_inclusions(alloc, place, targets) {
+    match tables.world.prepare_inclusions(alloc, place, targets) {
         Ok(plan) => Ok(Planned::Ready(include_of(plan))),
-        Err(EdgeFault::Full { count }) => Ok(Planned::Full(FullTable::Inclusions { count })),
+        Err(EdgeFault::Full { count }) => {
+            Ok(Planned::Refused(EffectFault::Full(FullTable::Inclusions { count })))
+        }
         Err(EdgeFault::Memory) => Err(AllocError),
         Err(EdgeFault::Itself { .. }) => unreachable!(),
     }
@@ -164,28 +161,41 @@ fn plan_edges(
 /// that it takes. Nothing is changed. `Err` where there is no memory.
 pub fn plan_change(
     alloc: Global,
-    world: &mut InvocationWorld,
+    tables: &mut Tables,
     context: &Context,
     request: Request,
 ) -> Result<Planned, AllocError>
-    requires timely { IsTimely world.old.world context.now.moment }
-    requires safe { IsSafe world.old.world context.now.moment context.now.name.now request }
+    requires timely { IsTimely tables.old.world.world context.now.moment }
+    requires safe { IsSafe tables.old.world.world context.now.moment context.now.name.now request }
     requires located { context.now.located.now
-        ≡ located world.old.world.invocations (demand_of request) }
-    ensures roomier { IsRoomier world.old world.new }
-    ensures planned { IfOk result (IsPlanned world.new context.now.moment
-        (effect_of world.old.world context.now.moment context.now.name.now request)) }
+        ≡ located tables.old.world.world.invocations (demand_of request) }
+    ensures roomier { IsRoomier tables.old tables.new }
+    ensures planned { IfOk result (IsPlanned tables.new context.now.moment
+        (effect_of (recorded_in tables.old) context.now.moment context.now.name.now request)) }
 {
     let first = context.located.first();
     match request {
-        Request::CreateInvocation(q) => plan_row(alloc, world, context.moment, context.name, q),
-        Request::UpdateInvocation(q) => Ok(Planned::Ready(update_of(alloc, world, first, q)?)),
-        Request::FinalizeInvocation(_) => Ok(Planned::Ready(end_of(world, first))),
+        Request::CreateInvocation(q) => plan_row(alloc, tables, context.moment, context.name, q),
+        Request::UpdateInvocation(q) => Ok(Planned::Ready(update_of(
+            alloc,
+            &tables.world,
+            first,
+            q,
+        )?)),
+        Request::FinalizeInvocation(_) => Ok(Planned::Ready(end_of(&tables.world, first))),
         Request::UpdateIncludedInvocations(_) => match first {
             Some(place) => {
                 let targets = context.located.targets(alloc)?;
-                plan_edges(alloc, world, place, targets.as_slice())
+                plan_edges(alloc, tables, place, targets.as_slice())
             }
+            None => Ok(Planned::Ready(Effect::Nothing)),
+        },
+        Request::BatchCreateTestResults(q) => match first {
+            Some(holder) => plan_results(alloc, tables, holder, q.requests.into_vec()),
+            None => Ok(Planned::Ready(Effect::Nothing)),
+        },
+        Request::BatchCreateTestExonerations(q) => match first {
+            Some(holder) => plan_exonerations(alloc, tables, holder, q.requests.into_vec()),
             None => Ok(Planned::Ready(Effect::Nothing)),
         },
         Request::GetInvocation(_) => Ok(Planned::Ready(Effect::Nothing)),

@@ -1,24 +1,28 @@
 //! The answer that shows what a request leaves, written before anything is done.
-ghost use Rattle.std.specs.Prelude.{◌≡◌, ◌<◌, None, Some, All, IfOk, length, map, slice_get};
+ghost use Rattle.std.specs.Prelude.{◌≡◌, ◌<◌, List, None, Some, All, IfOk, length, map, slice_get};
 ghost use Rattle.invocation_world.specs.World.{World};
-ghost use Rattle.request_effects.specs.Effects.{Does};
-ghost use Rattle.request_effects.specs.Fitting.{IsTimely, Suits};
-ghost use Rattle.request_effects.specs.Foreseen.{Foresees, IsHere, IsOwn, Leaves};
-ghost use Rattle.invocation_world.specs.States.{IsRoomier};
+ghost use Rattle.test_results.specs.declared.exoneration.TestExoneration.{TestExoneration};
+ghost use Rattle.test_results.specs.declared.result.TestResult.{TestResult};
+ghost use Rattle.service_effects.specs.Effects.{Makes};
+ghost use Rattle.service_effects.specs.Fitting.{IsTimely, Suits};
+ghost use Rattle.request_effects.specs.Foreseen.{Foresees, IsHere, IsOwn, Leaves, LeavesAll};
+ghost use Rattle.service_effects.specs.Service.{Recorded};
+ghost use Rattle.service_effects.specs.States.{IsRoomier, recorded_in};
 ghost use Rattle.request_effects.specs.Keeps.{kept_answer, made_answer};
-ghost use Rattle.request_effects.specs.Shows.{answer_of, done, ids_at, reply_at, shown_with, token_at};
+ghost use Rattle.request_effects.specs.Shows.{answer_of, done, exonerations_reply, ids_at, part_of, reply_at, results_reply, shown_with, token_at};
 
 use crate::ahead::{Ahead, Seen, ends_at_once};
-use crate::effect::Change;
 use crate::shows::Shows;
 use call_forms::Answer;
 use invocation_world::InvocationWorld;
 use invocations::Invocation;
 use kept_replies::KeptAnswer;
-use message_forms::{Reply, ShownInvocation, write_reply};
+use message_forms::{Reply, ShownExonerations, ShownInvocation, ShownResults, write_reply};
 use names_realms::{InvocationId, Moment, Pair};
 use permissions::Policy;
+use service_effects::{Change, Effect, Tables};
 use std::alloc::{AllocError, Global};
+use test_results::{TestExoneration, TestResult};
 use update_tokens::update_token;
 
 /// The ids of the invocations at these places.
@@ -70,11 +74,58 @@ fn done(alloc: Global, token: Option<[u8; 64]>, reply: &Reply) -> Result<Answer,
     })
 }
 
+/// So many rows from a place on, of those that there are.
+fn part_of<T>(rows: &[T], first: u32, count: u32) -> &[T]
+    ensures { result.now ≡ part_of first count rows.now }
+{
+    if first as usize > rows.len() {
+        return &[];
+    }
+    let (_, rest) = rows.split_at(first as usize);
+    if count as usize > rest.len() {
+        return rest;
+    }
+    let (part, _) = rest.split_at(count as usize);
+    part
+}
+
+/// What is shown of test results of one invocation.
+fn results_reply<'r>(world: &'r InvocationWorld, rows: &'r [TestResult]) -> Reply<'r, 'r>
+    ensures { result ≡ results_reply world.now.world.invocations rows.now }
+{
+    let Some(row) = rows.first() else {
+        return Reply::Empty;
+    };
+    if row.holder >= world.count() {
+        return Reply::Empty;
+    }
+    Reply::Results(ShownResults {
+        invocation: &world.row(row.holder).id,
+        rows,
+    })
+}
+
+/// What is shown of exonerations of one invocation.
+fn exonerations_reply<'r>(world: &'r InvocationWorld, rows: &'r [TestExoneration]) -> Reply<'r, 'r>
+    ensures { result ≡ exonerations_reply world.now.world.invocations rows.now }
+{
+    let Some(row) = rows.first() else {
+        return Reply::Empty;
+    };
+    if row.holder >= world.count() {
+        return Reply::Empty;
+    }
+    Reply::Exonerations(ShownExonerations {
+        invocation: &world.row(row.holder).id,
+        rows,
+    })
+}
+
 impl<'r> Ahead<'r> {
     /// The update token of the invocation at a place.
     fn token(&self, policy: &Policy, place: u32) -> [u8; 64]
         requires foresees { Foresees self.now }
-        requires here { IsHere self.now.world.now.world self.now.effect.now place }
+        requires here { IsHere self.now.tables.now.world.world self.now.effect.now place }
         ensures { (after : World) → Leaves self.now after
             → token_at (record { policy = policy.now }) (slice_get after.invocations place)
             ≡ Some result }
@@ -92,22 +143,59 @@ impl<'r> Ahead<'r> {
         token: Option<[u8; 64]>,
     ) -> Result<Answer, AllocError>
         requires foresees { Foresees self.now }
-        requires here { IsHere self.now.world.now.world self.now.effect.now place }
+        requires here { IsHere self.now.tables.now.world.world self.now.effect.now place }
         ensures { (after : World) → Leaves self.now after
             → IfOk result (λ answer. answer ≡ done token
             (reply_at after place (slice_get after.invocations place))) }
     {
         let seen = self.row(place);
-        let included = ids_at(alloc, self.world, self.included(place))?;
+        let included = ids_at(alloc, &self.tables.world, self.included(place))?;
         let shown = shown_with(&seen, included.as_slice());
         done(alloc, token, &Reply::Invocation(shown))
+    }
+
+    /// The answer that shows the test results that will be added. `Err` where there is no memory
+    /// for it.
+    fn results(&self, alloc: Global) -> Result<Answer, AllocError>
+        requires { (batch : List TestResult) × (self.now.effect.now ≡ Effect.Results batch) }
+        ensures { (batch : List TestResult) → self.now.effect.now ≡ Effect.Results batch
+            → IfOk result (λ answer. answer ≡ done None
+            (results_reply self.now.tables.now.world.world.invocations batch)) }
+    {
+        let Effect::Results(batch) = self.effect else {
+            unreachable!()
+        };
+        done(
+            alloc,
+            None,
+            &results_reply(&self.tables.world, batch.rows()),
+        )
+    }
+
+    /// The answer that shows the exonerations that will be added. `Err` where there is no memory
+    /// for it.
+    fn exonerations(&self, alloc: Global) -> Result<Answer, AllocError>
+        requires { (batch : List TestExoneration)
+            × (self.now.effect.now ≡ Effect.Exonerations batch) }
+        ensures { (batch : List TestExoneration) → self.now.effect.now ≡ Effect.Exonerations batch
+            → IfOk result (λ answer. answer ≡ done None
+            (exonerations_reply self.now.tables.now.world.world.invocations batch)) }
+    {
+        let Effect::Exonerations(batch) = self.effect else {
+            unreachable!()
+        };
+        done(
+            alloc,
+            None,
+            &exonerations_reply(&self.tables.world, batch.rows()),
+        )
     }
 
     /// The answer that shows this.
     fn show(&self, alloc: Global, policy: &Policy, shows: Shows) -> Result<Answer, AllocError>
         requires foresees { Foresees self.now }
-        requires own { IsOwn self.now.world.now.world self.now.effect.now shows }
-        ensures { (after : World) → Leaves self.now after
+        requires own { IsOwn (recorded_in self.now.tables.now) self.now.effect.now shows }
+        ensures { (after : Recorded) → LeavesAll self.now after
             → IfOk result (λ answer. answer ≡ answer_of
             (record { settings = record { policy = policy.now }; world = after }) shows) }
     {
@@ -118,6 +206,8 @@ impl<'r> Ahead<'r> {
                 let token = self.token(policy, place);
                 self.answer(alloc, place, Some(token))
             }
+            Shows::Results { .. } => self.results(alloc),
+            Shows::Exonerations { .. } => self.exonerations(alloc),
         }
     }
 }
@@ -126,23 +216,23 @@ impl<'r> Ahead<'r> {
 /// is changed. `Err` where there is no memory for it.
 pub fn show(
     alloc: Global,
-    world: &mut InvocationWorld,
+    tables: &mut Tables,
     policy: &Policy,
     change: &Change,
     shows: Shows,
 ) -> Result<Answer, AllocError>
-    requires timely { IsTimely world.old.world change.now.moment }
-    requires suits { Suits world.old.world change.now.moment change.now.effect }
-    requires own { IsOwn world.old.world change.now.effect shows }
-    ensures roomier { IsRoomier world.old world.new }
-    ensures answer { (after : World)
-        → Does change.now.moment change.now.effect world.old.world after
+    requires timely { IsTimely tables.old.world.world change.now.moment }
+    requires suits { Suits tables.old.world.world change.now.moment change.now.effect }
+    requires own { IsOwn (recorded_in tables.old) change.now.effect shows }
+    ensures roomier { IsRoomier tables.old tables.new }
+    ensures answer { (after : Recorded)
+        → Makes change.now.moment change.now.effect (recorded_in tables.old) after
         → IfOk result (λ answer. answer ≡ answer_of
         (record { settings = record { policy = policy.now }; world = after }) shows) }
 {
-    let is_final = ends_at_once(world, change.moment, &change.effect);
+    let is_final = ends_at_once(&mut tables.world, change.moment, &change.effect);
     let ahead = Ahead {
-        world,
+        tables,
         moment: change.moment,
         effect: &change.effect,
         is_final,
@@ -168,16 +258,17 @@ fn show_made(
     done(alloc, Some(token), &Reply::Invocation(shown))
 }
 
-/// The answer to a repeat, made again of what is kept. Where no invocation stands at a place that
-/// is kept, none is shown. `Err` where there is no memory for it.
+/// The answer to a repeat, made again of what is kept. Where no row stands at a place that is kept,
+/// none is shown. `Err` where there is no memory for it.
 pub fn show_kept(
     alloc: Global,
-    world: &InvocationWorld,
+    tables: &Tables,
     policy: &Policy,
     kept: &KeptAnswer,
 ) -> Result<Answer, AllocError>
     ensures { IfOk result (λ answer. answer ≡ kept_answer
-        (record { settings = record { policy = policy.now }; world = world.now.world }) kept.now) }
+        (record { settings = record { policy = policy.now }; world = recorded_in tables.now })
+        kept.now) }
 {
     match kept {
         KeptAnswer::Created {
@@ -185,11 +276,20 @@ pub fn show_kept(
             deadline,
             tags,
         } => {
-            if *place < world.count() {
-                show_made(alloc, policy, world.row(*place), *deadline, tags.as_slice())
+            if *place < tables.world.count() {
+                let row = tables.world.row(*place);
+                show_made(alloc, policy, row, *deadline, tags.as_slice())
             } else {
                 done(alloc, None, &Reply::Empty)
             }
+        }
+        KeptAnswer::Results { first, count } => {
+            let rows = part_of(tables.results.rows(), *first, *count);
+            done(alloc, None, &results_reply(&tables.world, rows))
+        }
+        KeptAnswer::Exonerations { first, count } => {
+            let rows = part_of(tables.exonerations.rows(), *first, *count);
+            done(alloc, None, &exonerations_reply(&tables.world, rows))
         }
     }
 }

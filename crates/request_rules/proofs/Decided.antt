@@ -21,7 +21,7 @@ use Rattle.call_forms.specs.declared.forms.Refusal.{Refusal}
 use Rattle.message_forms.specs.declared.requests.Method.{Method}
 use Rattle.message_forms.specs.declared.requests.Request.{Request}
 use Rattle.message_forms.specs.Methods.{method_of}
-use Rattle.message_forms.specs.Replies.{state_text}
+use Rattle.invocation_forms.specs.Replies.{state_text}
 use Rattle.message_forms.proofs.FaultLaws.{asks_or_has_fault, fault_is_refused}
 use Rattle.request_rules.specs.declared.rules.Rule.{Rule}
 use Rattle.request_rules.specs.declared.rules.Rule.TheVariants as rule

@@ -75,6 +75,8 @@ inked_word text is = λ k d lt same.
 
 pub number_is_word : (request : Request) (number : List ℕ) → IsOfForm request → (demand_of request).number ≡ Some number → IsWord number
 number_is_word (asks.CreateInvocation q) number form e = inked_word number (form.request_id number e)
+number_is_word (asks.BatchCreateTestResults q) number form e = inked_word number (form.request_id number e)
+number_is_word (asks.BatchCreateTestExonerations q) number form e = inked_word number (form.request_id number e)
 number_is_word _ number form e = absurd (none-some number e)
 
 -- what was checked to be no repeat is none

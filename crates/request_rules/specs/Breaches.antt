@@ -4,7 +4,7 @@ use Rattle.names_realms.specs.Names.{invocation_name}
 use Rattle.kept_replies.specs.declared.reply.KeptReply.{KeptReply}
 use Rattle.call_forms.specs.declared.asked.Asked.{Asked}
 use Rattle.call_forms.specs.declared.forms.Refusal.{Refusal}
-use Rattle.message_forms.specs.Replies.{state_text}
+use Rattle.invocation_forms.specs.Replies.{state_text}
 use Rattle.request_rules.specs.declared.breaches.Breach.{Breach}
 use Rattle.request_rules.specs.declared.breaches.Breach.TheVariants.{RequestIdReused, NotFound, NoUpdateToken, BadUpdateToken, Denied, NotActive, DeadlineRange, Itself, TooMany, Taken}
 use Rattle.request_rules.specs.declared.judging.Situation.{Situation}

@@ -17,7 +17,7 @@ use Rattle.message_forms.specs.declared.reading.FormFault.{FormFault}
 use Rattle.message_forms.specs.Methods.{method_of}
 use Rattle.message_forms.specs.Reading.{Asks, HasFault}
 use Rattle.message_forms.specs.Refusals.{refusal_of}
-use Rattle.message_forms.specs.Replies.{state_text}
+use Rattle.invocation_forms.specs.Replies.{state_text}
 use Rattle.request_rules.specs.declared.rules.Rule.{Rule}
 use Rattle.request_rules.specs.declared.rules.Rule.TheVariants as rule
 use Rattle.request_rules.specs.Settings.{Settings, caller_name, caller_of, secret_of}

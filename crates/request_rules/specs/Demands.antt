@@ -54,6 +54,15 @@ to_create id =
     if bytes_eq (take 2 id) (codes "u-") then permission.CreateInvocation ∷ []
     else permission.CreateInvocation ∷ permission.CreateWithReservedId ∷ []
 
+-- a batch of rows of an invocation, which is changed and has to be active
+abbrev pub of_batch : Option (List ℕ) → List ℕ → Demand
+of_batch number invocation = record nothing {
+  number = number;
+  named = invocation ∷ [];
+  changed = Some invocation;
+  active = Some invocation;
+}
+
 abbrev pub demand_of : Request → Demand
 demand_of (asks.CreateInvocation r) = record nothing {
   number = r.request_id;
@@ -79,6 +88,8 @@ demand_of (asks.UpdateIncludedInvocations r) = record nothing {
   active = Some r.including;
   of_included = permission.IncludeInvocation ∷ [];
 }
+demand_of (asks.BatchCreateTestResults r) = of_batch r.request_id r.invocation
+demand_of (asks.BatchCreateTestExonerations r) = of_batch r.request_id r.invocation
 demand_of (asks.GetInvocation r) = record nothing {
   named = r.id ∷ [];
   of_named = permission.GetInvocation ∷ [];

@@ -3,7 +3,7 @@ ghost use Rattle.std.specs.Prelude.{◌≡◌, ◌++◌, IfOk, codes, decimal};
 ghost use Rattle.moments_spans.specs.Moments.{moment_text};
 ghost use Rattle.policy_checks.specs.Permissions.{permission_text};
 ghost use Rattle.call_forms.specs.Rules.{refusal_answer};
-ghost use Rattle.message_forms.specs.Replies.{state_text};
+ghost use Rattle.invocation_forms.specs.Replies.{state_text};
 ghost use Rattle.request_rules.specs.Broken.{number_of};
 ghost use Rattle.request_rules.specs.Breaches.{refusal_of};
 

@@ -1,6 +1,6 @@
 //! What a request demands of the world: a row of a table for each method.
 ghost use Rattle.std.specs.Prelude.{◌≡◌};
-ghost use Rattle.request_rules.specs.Demands.{demand_of, nothing, to_create};
+ghost use Rattle.request_rules.specs.Demands.{demand_of, nothing, of_batch, to_create};
 
 use message_forms::{LimitedText, Request, RequestId};
 use names_realms::{InvocationId, Moment, Realm};
@@ -74,6 +74,22 @@ impl<'r> Demand<'r> {
             of_included: &[],
         }
     }
+
+    /// What a batch of rows of an invocation demands.
+    fn of_batch(
+        number: &'r Option<LimitedText<RequestId>>,
+        invocation: &'r InvocationId,
+    ) -> Demand<'r>
+        ensures { result ≡ of_batch number.now invocation.now }
+    {
+        Demand {
+            number: number.as_ref(),
+            named: from_ref(invocation),
+            changed: Some(invocation),
+            active: Some(invocation),
+            ..Demand::nothing()
+        }
+    }
 }
 
 /// The permissions that a new invocation of this id takes: an id that begins with `u-` is for all
@@ -124,6 +140,8 @@ pub fn demand_of(request: &Request) -> Demand<'_>
             of_included: &[Permission::IncludeInvocation],
             ..Demand::nothing()
         },
+        Request::BatchCreateTestResults(r) => Demand::of_batch(&r.request_id, &r.invocation),
+        Request::BatchCreateTestExonerations(r) => Demand::of_batch(&r.request_id, &r.invocation),
         Request::GetInvocation(r) => Demand {
             named: from_ref(&r.id),
             of_named: &[Permission::GetInvocation],

@@ -116,7 +116,7 @@ no_memory s (no_text e f) = absurd cc
 no_memory s (bad some place first f) = absurd cc
 no_memory s (outside micros said over f) = absurd cc
 
-unrefused : (s : List ℕ) (o : Option NameFault) → span_fault s ≡ o → refused o ≡ None → o ≡ None
+pub unrefused : (s : List ℕ) (o : Option NameFault) → span_fault s ≡ o → refused o ≡ None → o ≡ None
 unrefused s None e h = refl
 unrefused s (Some fault.Empty) e h = absurd cc
 unrefused s (Some (fault.TooLong n)) e h = absurd cc

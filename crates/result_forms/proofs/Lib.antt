@@ -9,4 +9,5 @@ pub mod BatchLaws
 pub mod MethodLaws
 pub mod NameTextLaws
 pub mod PlainLaws
+pub mod ThereLaws
 pub mod Opened

@@ -2,15 +2,17 @@
 use Rattle.std.proofs.Common.{◌≡◌, ℕ, List, Some, refl, sym, subst, ◌∙◌}
 use Rattle.serde_json.specs.Data.{Data}
 use Rattle.json_fields.specs.Fields.{IsJson}
-use Rattle.json_fields.proofs.FormLaws.{GivesForm}
 use Rattle.result_forms.specs.declared.batches.BatchCreateTestResults.{BatchCreateTestResults}
 use Rattle.result_forms.specs.declared.batches.BatchCreateTestExonerations.{BatchCreateTestExonerations}
-use Rattle.result_forms.specs.Rows.{RequestForm}
+use Rattle.field_kinds.specs.Requests.{RequestForm}
+use Rattle.field_kinds.proofs.RequestLaws.{IsLawful}
 use Rattle.result_forms.specs.Methods.{result_row, exoneration_row, results_of, exonerations_of, results_form, exonerations_form}
 use Rattle.result_forms.specs.Laws.{AsksForOne, AsksOfForm, IsReadAgain}
 use Rattle.result_forms.proofs.ResultLaws.{result_one, result_formed, result_written}
 use Rattle.result_forms.proofs.ExonerationLaws.{exoneration_one, exoneration_formed, exoneration_written}
 use Rattle.result_forms.proofs.BatchLaws.{IsLawfulRow, batch_one, batch_formed, batch_written}
+use Rattle.result_forms.proofs.PlainLaws.{batch_plain, result_row_plain, exoneration_row_plain}
+use Rattle.result_forms.proofs.ThereLaws.{result_there, exoneration_there, batch_there}
 
 result_lawful : IsLawfulRow result_row
 result_lawful = record {
@@ -34,14 +36,6 @@ exoneration_lawful = record {
   no_request_proto = refl;
 }
 
--- What the laws ask of a method's form: a value asks for one request at most, which is of its form
--- where the value has no fault.
-pub record IsLawful {Q : Type 0} (f : RequestForm Q) : Type 0 where
-  pub one : (d : Data) (q r : Q) → f.means d q → f.means d r → q ≡ r
-  pub formed : GivesForm f.fault f.means f.OfForm
-  pub asked : GivesForm f.fault f.means f.CanBeAsked
-  pub again : (q : Q) → f.CanBeAsked q → IsReadAgain f q
-
 results_one : (d : Data) (q r : BatchCreateTestResults) → results_form.means d q → results_form.means d r → q ≡ r
 results_one d q r h k =
     let same : results_of q ≡ results_of r = batch_one result_row result_lawful d (results_of q) (results_of r) h k in
@@ -55,17 +49,23 @@ exonerations_one d q r h k =
 pub results_lawful : IsLawful results_form
 results_lawful = record {
   one = results_one;
+  there = λ d is none.
+      let there = batch_there result_row result_there d is none in
+      (record { invocation = there.0.invocation; request_id = there.0.request_id; requests = there.0.rows }, there.1);
   formed = λ d q none is. batch_formed result_row result_lawful d (results_of q) none is;
   asked = λ d q none is. batch_formed result_row result_lawful d (results_of q) none is;
-  again = λ q is. batch_written result_row result_lawful (results_of q) is;
+  plain = λ q. batch_plain result_row result_row_plain (results_of q);
 }
 
 pub exonerations_lawful : IsLawful exonerations_form
 exonerations_lawful = record {
   one = exonerations_one;
+  there = λ d is none.
+      let there = batch_there exoneration_row exoneration_there d is none in
+      (record { invocation = there.0.invocation; request_id = there.0.request_id; requests = there.0.rows }, there.1);
   formed = λ d q none is. batch_formed exoneration_row exoneration_lawful d (exonerations_of q) none is;
   asked = λ d q none is. batch_formed exoneration_row exoneration_lawful d (exonerations_of q) none is;
-  again = λ q is. batch_written exoneration_row exoneration_lawful (exonerations_of q) is;
+  plain = λ q. batch_plain exoneration_row exoneration_row_plain (exonerations_of q);
 }
 
 -- a body is one value
@@ -81,7 +81,7 @@ pub asks_of_form : {Q : Type 0} (f : RequestForm Q) → IsLawful f → AsksOfFor
 asks_of_form f law body q is = law.formed is.value q is.no_fault is.meant
 
 pub results_again : (q : BatchCreateTestResults) → results_form.CanBeAsked q → IsReadAgain results_form q
-results_again q is = results_lawful.again q is
+results_again q is = batch_written result_row result_lawful (results_of q) is
 
 pub exonerations_again : (q : BatchCreateTestExonerations) → exonerations_form.CanBeAsked q → IsReadAgain exonerations_form q
-exonerations_again q is = exonerations_lawful.again q is
+exonerations_again q is = batch_written exoneration_row exoneration_lawful (exonerations_of q) is

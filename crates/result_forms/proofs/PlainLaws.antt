@@ -125,7 +125,7 @@ whole d false is h = record {
   deep = not_deep d (nat_lt 64 (depth d)) refl (not_long d (nat_lt 8192 (length (compact_text d))) h);
 }
 
-right_plain : (d : Data) → a_properties d ≡ None → IsPlain 64 d
+pub right_plain : (d : Data) → a_properties d ≡ None → IsPlain 64 d
 right_plain null h = absurd cc
 right_plain (boolean b) h = absurd cc
 right_plain (number n) h = absurd cc

@@ -5,7 +5,7 @@ use Rattle.serde_json.specs.Written.{has_float}
 use Rattle.json_fields.specs.Fields.{IsJson}
 use Rattle.test_results.specs.declared.result.TestResult.{TestResult}
 use Rattle.test_results.specs.declared.exoneration.TestExoneration.{TestExoneration}
-use Rattle.result_forms.specs.Rows.{RequestForm}
+use Rattle.field_kinds.specs.Requests.{RequestForm}
 use Rattle.result_forms.specs.Replies.{result_data, exoneration_data}
 
 -- The body is the JSON text of a value without a fault, which asks for this request.

@@ -1,5 +1,4 @@
 pub mod Names
-pub mod Rows
 pub mod Members
 pub mod Shown
 pub mod Fields

@@ -2,7 +2,7 @@
 use Rattle.test_results.specs.declared.result.TestResult.{TestResult}
 use Rattle.test_results.specs.declared.exoneration.TestExoneration.{TestExoneration}
 use Rattle.result_forms.specs.Names as name
-use Rattle.result_forms.specs.Rows.{RequestForm}
+use Rattle.field_kinds.specs.Requests.{RequestForm}
 use Rattle.result_forms.specs.Results.{a_result, IsResult, new_result_data, IsResultOfForm}
 use Rattle.result_forms.specs.Exonerations.{an_exoneration, IsExoneration, new_exoneration_data, IsExonerationOfForm}
 use Rattle.result_forms.specs.Batches.{Batch, RowForm, a_batch, IsBatch, batch_data, IsBatchOfForm}

@@ -8,11 +8,11 @@ use Rattle.invocations.specs.declared.invocation.Invocation.{Invocation}
 use Rattle.invocations.specs.Rows.{IsInState, begun, with_changed}
 use Rattle.invocation_world.specs.World.{World}
 use Rattle.invocation_world.specs.Changes.{updated, with_edges}
-use Rattle.request_effects.specs.declared.effect.Effect.{Effect}
-use Rattle.request_effects.specs.declared.effect.Effect.TheVariants as does
-use Rattle.request_effects.specs.Effects.{with_effect}
-use Rattle.request_effects.specs.Fitting.{Suits}
-use Rattle.request_effects.proofs.EffectLaws.{update_here}
+use Rattle.service_effects.specs.declared.effect.Effect.{Effect}
+use Rattle.service_effects.specs.declared.effect.Effect.TheVariants as does
+use Rattle.service_effects.specs.Effects.{with_effect}
+use Rattle.service_effects.specs.Fitting.{Suits}
+use Rattle.service_effects.proofs.EffectLaws.{update_here}
 
 -- It holds of rows and what each kind of effect makes of them.
 pub record Kept (Holds : List Invocation → List Invocation → Type 0) (moment : ℤ) (rows : List Invocation) : Type 0 where
@@ -37,3 +37,5 @@ effect_keeps Holds w moment (does.Update place deadline tags) may kept =
 effect_keeps Holds w moment (does.End place) may kept = kept.when_begun place may
 effect_keeps Holds w moment (does.Include plan) may kept =
     edges_keep Holds moment w (edges_from plan.from plan.targets) kept.when_same
+effect_keeps Holds w moment (does.Results batch) may kept = kept.when_same
+effect_keeps Holds w moment (does.Exonerations batch) may kept = kept.when_same

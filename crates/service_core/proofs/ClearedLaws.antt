@@ -9,15 +9,15 @@ use Rattle.request_rules.specs.declared.rules.Rule.TheVariants as rule
 use Rattle.request_rules.specs.Settings.{Settings, HasNames, caller_name}
 use Rattle.request_rules.specs.Demands.{demand_of}
 use Rattle.request_rules.specs.Order.{IsUnbroken}
-use Rattle.request_rules.specs.Broken.{IsBroken, RequestIdReused, order}
+use Rattle.request_rules.specs.Broken.{IsBroken, NotFound, RequestIdReused, order}
 use Rattle.request_rules.proofs.Judged.{IsAmong, unbroken_each}
 use Rattle.request_rules.proofs.NumberLaws.{free_number, number_is_word}
 use Rattle.request_rules.proofs.PolicyLaws.{caller_is_there, name_is}
-use Rattle.request_effects.specs.Fitting.{IsTimely, Suits}
+use Rattle.service_effects.specs.Fitting.{ArePlaced, IsTimely, Suits}
 use Rattle.request_effects.specs.Planned.{IsSafe}
 use Rattle.request_effects.proofs.KeepLaws.{kept_is, numbered_is}
-use Rattle.request_effects.proofs.SafeLaws.{suits}
-use Rattle.service_core.specs.Service.{ServiceWorld}
+use Rattle.request_effects.proofs.SafeLaws.{placed, suits}
+use Rattle.service_effects.specs.Service.{ServiceWorld, recorded}
 use Rattle.service_core.specs.Step.{IsAccepted, IsJudgedAs, IsNew, case_in, effect_for, keep_for}
 use Rattle.message_forms.proofs.FormLaws.{asked_is_of_form}
 
@@ -34,6 +34,9 @@ unbroken s w moment asked caller request h k at =
 
 reused_among : IsAmong rule.RequestIdReused order
 reused_among = search rules
+
+not_found_among : IsAmong rule.NotFound order
+not_found_among = search rules
 
 not_active_among : IsAmong rule.NotActive order
 not_active_among = search rules
@@ -62,8 +65,19 @@ safe s w moment asked caller request names h = record {
 pub accepted_suits : (s : Settings) (w : ServiceWorld) (moment : ℤ) (asked : Asked) (caller : ℕ) (request : Request) → HasNames s
     → IsTimely w.rows moment → IsAccepted s w moment asked caller request → Suits w.rows moment (effect_for s w moment caller request)
 accepted_suits s w moment asked caller request names timely h =
-    suits w.rows moment (caller_name s caller) request timely
+    suits (recorded w) moment (caller_name s caller) request timely
     (safe s w moment asked caller request names (record { new = h.new; judged = h.judged }))
+
+-- and is placed behind what its holder has
+pub effect_placed : (s : Settings) (w : ServiceWorld) (moment : ℤ) (caller : ℕ) (request : Request)
+    → ArePlaced w.exonerations (effect_for s w moment caller request)
+effect_placed s w moment caller request = placed (recorded w) moment (caller_name s caller) request
+
+-- each invocation that it names is there
+pub accepted_found : (s : Settings) (w : ServiceWorld) (moment : ℤ) (asked : Asked) (caller : ℕ) (request : Request)
+    → IsAccepted s w moment asked caller request → IsUnbroken (NotFound w.rows.invocations (demand_of request))
+accepted_found s w moment asked caller request h =
+    unbroken s w moment asked caller request (record { new = h.new; judged = h.judged }) rule.NotFound not_found_among
 
 -- no other request had its number
 pub unused : (s : Settings) (w : ServiceWorld) (moment : ℤ) (asked : Asked) (caller : ℕ) (request : Request)
@@ -76,7 +90,7 @@ pub kept_free : (s : Settings) (w : ServiceWorld) (moment : ℤ) (asked : Asked)
     → IsWord reply.number × IsFree w.kept reply.caller reply.number
 kept_free s w moment asked caller request reply h is =
     let name = caller_name s caller in
-    let k = kept_is w.rows name _ (effect_for s w moment caller request) reply is in
+    let k = kept_is (recorded w) name _ (effect_for s w moment caller request) reply is in
     let at = numbered_is asked (demand_of request) k.n k.numbered_is in
     let form = asked_is_of_form asked.service asked.method asked.body request h.new.wants.asks in
     let reused = unused s w moment asked caller request h in (

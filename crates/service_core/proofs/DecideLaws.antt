@@ -9,7 +9,7 @@ use Rattle.request_rules.specs.Demands.{demand_of}
 use Rattle.request_rules.specs.Broken.{Case, IsBroken, order}
 use Rattle.request_rules.proofs.Decided.{broken_told, repeat_or_not}
 use Rattle.request_rules.proofs.Judged.{judged_there}
-use Rattle.service_core.specs.Service.{ServiceWorld}
+use Rattle.service_effects.specs.Service.{ServiceWorld}
 use Rattle.service_core.specs.Step.{IsFresh, IsJudgedAs, IsRepeated, case_in}
 
 pub judged_as : (s : Settings) (w : ServiceWorld) (moment : ℤ) (asked : Asked) (caller : ℕ) (request : Request)

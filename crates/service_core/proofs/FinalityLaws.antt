@@ -25,10 +25,10 @@ use Rattle.invocation_world.proofs.SettleFacts.{ended_or_same, row_stays}
 use Rattle.invocation_world.proofs.ValidFacts.{all_begin, valid_settled}
 use Rattle.request_rules.specs.Settings.{Settings, HasNames}
 use Rattle.service_core.specs.Finality.{CarriesInTime, EndsInTime, IsInTime, ToldInTime}
-use Rattle.request_effects.specs.declared.effect.Effect.{Effect}
-use Rattle.request_effects.specs.Effects.{with_effect}
-use Rattle.request_effects.specs.Fitting.{IsTimely, Suits}
-use Rattle.service_core.specs.Service.{ServiceWorld}
+use Rattle.service_effects.specs.declared.effect.Effect.{Effect}
+use Rattle.service_effects.specs.Effects.{with_effect}
+use Rattle.service_effects.specs.Fitting.{IsTimely, Suits}
+use Rattle.service_effects.specs.Service.{Recorded, ServiceWorld, recorded}
 use Rattle.service_core.specs.Service as services
 use Rattle.service_core.specs.Step.{Step}
 use Rattle.service_core.specs.History.{Entry, Leads, Tells}
@@ -214,14 +214,14 @@ effect_was w moment effect may =
 none_ended : (time : ℤ) (rows : List Invocation) → AreEndedAt time rows rows
 none_ended time rows p row e is not = absurd (not (state_is Finalized rows p row e is))
 
-moved_at : (s : Settings) (w : World) (moment : ℤ) (after : World) → HasNames s → IsTimely w moment → IsMoved s w moment after
-    → AreEndedAt moment w.invocations after.invocations
+moved_at : (s : Settings) (w : Recorded) (moment : ℤ) (after : Recorded) → HasNames s → IsTimely w.rows moment → IsMoved s w moment after
+    → AreEndedAt moment w.rows.invocations after.rows.invocations
 moved_at s w moment after names timely (inl same) =
-    subst (λ (v : World). AreEndedAt moment w.invocations v.invocations) (sym same) (none_ended moment w.invocations)
+    subst (λ (v : Recorded). AreEndedAt moment w.rows.invocations v.rows.invocations) (sym same) (none_ended moment w.rows.invocations)
 moved_at s w moment after names timely (inr done) =
-    let mid = with_effect moment done.effect w in
-    settled_at moment mid.inclusions w.invocations mid.invocations after.invocations
-    (effect_was w moment done.effect (done.suits names timely)) done.does.rows
+    let mid = with_effect moment done.effect w.rows in
+    settled_at moment mid.inclusions w.rows.invocations mid.invocations after.rows.invocations
+    (effect_was w.rows moment done.effect (done.suits names timely)) done.made.rows.rows
 
 -- what is changed is an active row, or a new one
 all_waiting : (rows : List Invocation) → WaitingStay rows rows
@@ -248,14 +248,14 @@ effect_waiting w moment effect may =
       when_begun = changed_waiting (begun moment) w.invocations;
     })
 
-moved_kept : (s : Settings) (w : World) (moment : ℤ) (after : World) → HasNames s → IsTimely w moment → IsMoved s w moment after
-    → AreKept moment w.invocations after.invocations
+moved_kept : (s : Settings) (w : Recorded) (moment : ℤ) (after : Recorded) → HasNames s → IsTimely w.rows moment → IsMoved s w moment after
+    → AreKept moment w.rows.invocations after.rows.invocations
 moved_kept s w moment after names timely (inl same) =
-    subst (λ (v : World). AreKept moment w.invocations v.invocations) (sym same) (λ p row e is. inl e)
+    subst (λ (v : Recorded). AreKept moment w.rows.invocations v.rows.invocations) (sym same) (λ p row e is. inl e)
 moved_kept s w moment after names timely (inr done) =
-    let mid = with_effect moment done.effect w in
-    settled_kept moment mid.inclusions w.invocations mid.invocations after.invocations
-    (effect_waiting w moment done.effect (done.suits names timely)) done.does.rows
+    let mid = with_effect moment done.effect w.rows in
+    settled_kept moment mid.inclusions w.rows.invocations mid.invocations after.rows.invocations
+    (effect_waiting w.rows moment done.effect (done.suits names timely)) done.made.rows.rows
 
 ends_in_time : (time : ℤ) (w after : World) → IsValid after → KeepsFinal w after → AreKept time w.invocations after.invocations
     → AreEndedAt time w.invocations after.invocations → EndsInTime after.inclusions time w.invocations after.invocations
@@ -268,15 +268,15 @@ ends_in_time time w after valid keeps kept at = record {
 }
 
 -- a move, which is a call's or nothing
-moves_in_time : (s : Settings) (w : World) (e : Entry) (after : World) → HasNames s → IsValid w → IsCallMoment e.moment → w.last ≤ℤ e.moment
-    → IsValid after → Moves s w e.moment after → IsInTime w e after
+moves_in_time : (s : Settings) (w : Recorded) (e : Entry) (after : Recorded) → HasNames s → IsValid w.rows → IsCallMoment e.moment
+    → w.rows.last ≤ℤ e.moment → IsValid after.rows → Moves s w e.moment after → IsInTime w.rows e after.rows
 moves_in_time s w e after names valid call later right h =
-    let may = advanced_timely w h.between e.moment valid call later h.advances in
+    let may = advanced_timely w.rows h.between.rows e.moment valid call later h.due.rows in
     record {
-      deadlines = h.advances.deadlines;
-      between = h.between.invocations;
-      due = advanced_in_time e.moment w h.between valid call h.advances;
-      asked = ends_in_time e.moment h.between after right (moved_final s h.between e.moment after names may h.moved)
+      deadlines = h.due.rows.deadlines;
+      between = h.between.rows.invocations;
+      due = advanced_in_time e.moment w.rows h.between.rows valid call h.due.rows;
+      asked = ends_in_time e.moment h.between.rows after.rows right (moved_final s h.between e.moment after names may h.moved)
           (moved_kept s h.between e.moment after names may h.moved) (moved_at s h.between e.moment after names may h.moved);
     }
 
@@ -289,21 +289,21 @@ told_in_time w e (Made answer) after made either = made answer refl
 told_in_time w e (Instead standin) after made either = either
 
 answered_moves : (s : Settings) (w : ServiceWorld) (e : Entry) (told : Told) (answer : Answer) (after : ServiceWorld)
-    → told ≡ Made answer → Tells s w e told after → Moves s w.rows e.moment after.rows
+    → told ≡ Made answer → Tells s w e told after → Moves s (recorded w) e.moment (recorded after)
 answered_moves s w e told answer after is tells =
     let step : Step s w e.moment e.asked after answer = subst (λ (t : Told). Tells s w e t after) is tells in
     record {
-      between = step.between.rows;
-      advances = step.advances.rows;
+      between = recorded step.between;
+      due = step.advances.due;
       moved = told_moved s step.between e.moment e.asked after answer step.judged;
     }
 
 leads_in_time : (s : Settings) (w : ServiceWorld) (e : Entry) (after : ServiceWorld) → HasNames s → services.IsValid w → Leads s w e after
     → ToldInTime w e e.told after
 leads_in_time s w e after names valid leads =
-    let right = (leads_valid s w e after names leads valid).rows in
-    let in_time : Moves s w.rows e.moment after.rows → IsInTime w.rows e after.rows =
-    moves_in_time s w.rows e after.rows names valid.rows leads.moment leads.later right in
+    let right = (leads_valid s w e after names leads valid).sound.rows in
+    let in_time : Moves s (recorded w) e.moment (recorded after) → IsInTime w.rows e after.rows =
+    moves_in_time s (recorded w) e (recorded after) names valid.sound.rows leads.moment leads.later right in
     told_in_time w e e.told after (λ answer is. in_time (answered_moves s w e e.told answer after is leads.tells))
     (elim (tells_moves s w e e.told after leads.tells) [ inl same ↦ inl same | inr moves ↦ inr (in_time moves) ])
 

@@ -3,6 +3,7 @@ pub mod DecideLaws
 pub mod ChangeLaws
 pub mod MoveLaws
 pub mod StayLaws
+pub mod TableLaws
 pub mod KeptLaws
 pub mod HistoryLaws
 pub mod FinalLaws

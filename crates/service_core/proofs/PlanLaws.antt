@@ -1,7 +1,8 @@
 -- What a call was planned to is what its request comes to.
-use Rattle.std.proofs.Common.{◌≡◌, ◌<◌, ℕ, ℤ, List, length, Option, Some, None, refl, sym, ap, ◌∙◌, subst, inl, inr}
+use Rattle.std.proofs.Common.{◌≡◌, ◌<◌, ℕ, suc, ℤ, List, [], ◌∷◌, length, Option, Some, None, refl, sym, ap, ◌∙◌, subst, inl, inr}
 use Rattle.std.specs.Prelude.{IfSome, slice_get}
 use Rattle.std.proofs.lemmas.Bool.{cases_Bool, cond-false, cond-true}
+use Rattle.std.proofs.lemmas.List.{length-map}
 use Rattle.std.proofs.lemmas.Option.{same_Some}
 use Rattle.names_realms.specs.declared.pairs.Pair.{Pair}
 use Rattle.names_realms.specs.declared.states.State.{State}
@@ -9,6 +10,10 @@ use Rattle.names_realms.specs.declared.states.State.TheVariants.{Active, Finaliz
 use Rattle.invocations.specs.declared.invocation.Invocation.{Invocation}
 use Rattle.invocations.specs.Rows.{states_of}
 use Rattle.kept_replies.specs.declared.reply.KeptReply.{KeptReply}
+use Rattle.test_results.specs.declared.exoneration.TestExoneration.{TestExoneration}
+use Rattle.test_results.specs.declared.result.TestResult.{TestResult}
+use Rattle.test_results.specs.Batches as results
+use Rattle.test_results.specs.Exonerations as exonerations
 use Rattle.call_forms.specs.declared.asked.Asked.{Asked}
 use Rattle.call_forms.specs.declared.forms.Answer.{Answer}
 use Rattle.message_forms.specs.declared.requests.Request.{Request}
@@ -20,25 +25,30 @@ use Rattle.request_rules.specs.Demands.{demand_of}
 use Rattle.request_rules.specs.Settings.{Settings, caller_name}
 use Rattle.request_rules.specs.Named.{place_named}
 use Rattle.request_rules.proofs.PlaceLaws.{place-within}
-use Rattle.request_effects.specs.declared.effect.Effect.{Effect}
-use Rattle.request_effects.specs.declared.effect.Effect.TheVariants as does
+use Rattle.service_effects.specs.declared.effect.Effect.{Effect}
+use Rattle.service_effects.specs.declared.effect.Effect.TheVariants as does
 use Rattle.request_effects.specs.declared.shows.Shows.{Shows}
-use Rattle.request_effects.specs.Effects.{Does, effect_of, end_at, end_of, update_at, update_of}
-use Rattle.request_effects.specs.Fitting.{IsTimely}
+use Rattle.service_effects.specs.Effects.{Makes}
+use Rattle.request_effects.specs.Effects.{effect_of, end_at, end_of, exonerations_at, results_at, update_at, update_of}
+use Rattle.service_effects.specs.Fitting.{IsTimely}
 use Rattle.request_effects.specs.Foreseen.{IsHere, IsOwn}
 use Rattle.request_effects.specs.Keeps.{kept_of, numbered_of, with_kept}
-use Rattle.request_effects.specs.Shows.{shows_of, shows_row}
-use Rattle.request_effects.proofs.EffectLaws.{effects_change}
-use Rattle.request_effects.proofs.FullLaws.{unfull}
+use Rattle.request_effects.specs.Shows.{shows_exonerations, shows_of, shows_results, shows_row}
+use Rattle.service_effects.proofs.EffectLaws.{effects_change}
+use Rattle.service_effects.proofs.RefusedLaws.{unrefused}
 use Rattle.request_effects.proofs.KeepLaws.{nothing_kept}
 use Rattle.service_core.specs.declared.plan.Prepared.{Prepared}
 use Rattle.service_core.specs.declared.plan.Prepared.TheVariants as prepared
 use Rattle.service_core.specs.CoreState.{CoreState, IsRoomier, PlanState, world_in}
 use Rattle.service_core.specs.Planning.{ComesTo}
 use Rattle.service_core.specs.Plans.{CanKeep, Carries, Fits, IsPlanOf, IsPrepared}
-use Rattle.service_core.specs.Service.{ServiceWorld}
+use Rattle.service_effects.specs.Service.{Recorded, ServiceWorld, recorded}
+use Rattle.service_effects.specs.States.{recorded_in}
+use Rattle.service_effects.specs.States as tables
+use Rattle.service_effects.specs.declared.tables.Tables.{Tables}
 use Rattle.service_core.specs.Step.{IsTold, Performs, effect_for, keep_for, performed}
 use Rattle.service_core.proofs.ClearedLaws.{IsCleared, kept_free}
+use Rattle.service_core.proofs.UniqueLaws.{same_parts}
 
 -- what is to be kept can be kept where there is room
 can_keep : (s : Settings) (core : CoreState) (moment : ℤ) (asked : Asked) (caller : ℕ) (request : Request) (keep : Option KeptReply)
@@ -54,10 +64,10 @@ kept_same : (s : Settings) (w : ServiceWorld) (moment : ℤ) (asked : Asked) (ca
 kept_same s w moment asked caller request is =
     let name = caller_name s caller in
     let numbered = numbered_of asked (demand_of request) in
-    sym (ap (with_kept w.kept) (ap (kept_of w.rows name numbered) is ∙ nothing_kept w.rows name numbered))
+    sym (ap (with_kept w.kept) (ap (kept_of (recorded w) name numbered) is ∙ nothing_kept (recorded w) name numbered))
 
 pub comes_prepared : (s : Settings) (core : CoreState) (moment : ℤ) (asked : Asked) (caller : ℕ) (request : Request) (p : Prepared)
-    → IsTimely core.held.world moment → IsCleared s (world_in core) moment asked caller request
+    → IsTimely core.held.world.world moment → IsCleared s (world_in core) moment asked caller request
     → ComesTo s core moment asked caller request p → IsPrepared s core moment asked p
 comes_prepared s core moment asked caller request (prepared.Refused answer) timely h comes = record {
   refusal = comes.0;
@@ -67,21 +77,22 @@ comes_prepared s core moment asked caller request (prepared.Refused answer) time
 }
 comes_prepared s core moment asked caller request (prepared.Repeated answer) timely h comes = absurd comes
 comes_prepared s core moment asked caller request (prepared.Answered answer) timely h comes =
-    let w : World = core.held.world in
+    let w : Recorded = recorded_in core.held in
     let effect : Effect = effect_for s (world_in core) moment caller request in
-    let acts : Does moment effect w w =
-    subst (λ (e : Effect). Does moment e w w) (sym comes.2.0) (valid_settles moment w timely.valid) in
+    let same : Makes moment does.Nothing w w =
+    record { rows = valid_settles moment w.rows timely.valid; results = refl; exonerations = refl } in
+    let made : Makes moment effect w w = subst (λ (e : Effect). Makes moment e w w) (sym comes.2.0) same in
     record {
       caller = caller;
       request = request;
-      accepted = record { new = h.new; judged = h.judged; room = unfull core.held effect comes.0.room };
-      acts = record { rows = acts; kept = kept_same s (world_in core) moment asked caller request comes.2.0 };
-      answer_is = comes.2.1 w acts;
+      accepted = record { new = h.new; judged = h.judged; room = unrefused core.held moment effect comes.0.suits comes.0.room };
+      acts = record { made = made; kept = kept_same s (world_in core) moment asked caller request comes.2.0 };
+      answer_is = comes.2.1 w made;
     }
 comes_prepared s core moment asked caller request (prepared.Change plan) timely h comes =
-    let w : World = core.held.world in
+    let w : Recorded = recorded_in core.held in
     let effect : Effect = effect_for s (world_in core) moment caller request in
-    let room = unfull core.held effect comes.0.room in
+    let room = unrefused core.held moment effect comes.0.suits comes.0.room in
     let shown = comes.2.1 in
     subst (λ (p : PlanState). IsPlanOf s (world_in core) moment asked p × Fits core p) (sym shown.1) (
       record {
@@ -90,10 +101,10 @@ comes_prepared s core moment asked caller request (prepared.Change plan) timely 
         accepted = record { new = h.new; judged = h.judged; room = room };
         answer = shown.0;
         answer_is = refl;
-        acts = λ after carries. (record { rows = carries.rows; kept = carries.kept }, shown.2 after.rows carries.rows);
+        acts = λ after carries. (record { made = carries.made; kept = carries.kept }, shown.2 (recorded after) carries.made);
         changes = λ after carries same.
-            (effects_change w after.rows moment effect timely comes.0.suits room carries.rows).1 comes.2.0
-            (ap (λ (v : ServiceWorld). v.rows) same);
+            (effects_change w (recorded after) moment effect timely comes.0.suits room carries.made).1 comes.2.0
+            (ap recorded same);
       },
       record {
         made = refl;
@@ -104,7 +115,7 @@ comes_prepared s core moment asked caller request (prepared.Change plan) timely 
 
 -- in a core with another room
 pub prepared_in : (s : Settings) (old new : CoreState) (moment : ℤ) (asked : Asked) (caller : ℕ) (request : Request) (p : Prepared)
-    → world_in new ≡ world_in old → IsTimely old.held.world moment → IsCleared s (world_in old) moment asked caller request
+    → world_in new ≡ world_in old → IsTimely old.held.world.world moment → IsCleared s (world_in old) moment asked caller request
     → ComesTo s new moment asked caller request p → IsPrepared s new moment asked p
 prepared_in s old new moment asked caller request p same timely h comes =
     comes_prepared s new moment asked caller request p (subst (λ (w : ServiceWorld). IsTimely w.rows moment) (sym same) timely)
@@ -113,8 +124,14 @@ prepared_in s old new moment asked caller request p same timely h comes =
 -- a core with another room has the same world
 pub same_world : (old new : CoreState) → IsRoomier old new → world_in new ≡ world_in old
 same_world old new roomier =
-    ap (λ (r : World). record { rows = r; kept = new.keeps.kept }) roomier.held.world
-    ∙ ap (λ (k : List KeptReply). record { rows = old.held.world; kept = k }) roomier.kept
+    same_parts (world_in new) (world_in old) roomier.held.world.world roomier.held.results roomier.held.exonerations roomier.kept
+
+-- tables with another room record the same
+pub same_recorded : (old new : Tables) → tables.IsRoomier old new → recorded_in new ≡ recorded_in old
+same_recorded old new roomier =
+    ap (λ (p : World). record { rows = p; results = new.results.rows; exonerations = new.exonerations.rows }) roomier.world.world
+    ∙ (ap (λ (p : List TestResult). record { rows = old.world.world; results = p; exonerations = new.exonerations.rows }) roomier.results
+    ∙ ap (λ (p : List TestExoneration). record { rows = old.world.world; results = old.results.rows; exonerations = p }) roomier.exonerations)
 
 -- a plan that was carried out is told as it was planned
 pub told_of : (s : Settings) (old mid : CoreState) (moment : ℤ) (asked : Asked) (p : Prepared) (plan : PlanState) (result : Option Answer)
@@ -166,25 +183,44 @@ end_own w p (Some Finalizing) low = low
 end_own w p (Some Finalized) low = low
 
 -- of a row that is found
-found_own : (w : World) (effect : Option ℕ → Effect) (o : Option ℕ) → ((p : ℕ) → o ≡ Some p → IsHere w (effect (Some p)) p)
+found_own : (w : Recorded) (effect : Option ℕ → Effect) (o : Option ℕ) → ((p : ℕ) → o ≡ Some p → IsHere w.rows (effect (Some p)) p)
     → IsOwn w (effect o) (shows_row o)
 found_own w effect None here = tt
 found_own w effect (Some p) here = here p refl
 
-shown_own : (w : World) (moment : ℤ) (name : List ℕ) (request : Request) → IsOwn w (effect_of w moment name request) (shows_of w request)
+-- of a batch: it shows the rows that it adds
+results_own : (w : Recorded) (o : Option ℕ) (rows : List TestResult) → IsOwn w (results_at o rows) (shows_results w o (length rows))
+results_own w None rows = tt
+results_own w (Some holder) rows = (results.given holder rows, refl, (refl, sym (length-map rows (results.with_holder holder))))
+
+pub length_given : (holder before : ℕ) (rows : List TestExoneration) → length rows ≡ length (exonerations.given holder before rows)
+length_given holder before [] = refl
+length_given holder before (row ∷ rows) = ap suc (length_given holder (suc before) rows)
+
+exonerations_own : (w : Recorded) (o : Option ℕ) (rows : List TestExoneration)
+    → IsOwn w (exonerations_at w.exonerations o rows) (shows_exonerations w o (length rows))
+exonerations_own w None rows = tt
+exonerations_own w (Some holder) rows =
+    let before : ℕ = length (exonerations.places_in w.exonerations holder) in
+    (exonerations.given holder before rows, refl, (refl, length_given holder before rows))
+
+shown_own : (w : Recorded) (moment : ℤ) (name : List ℕ) (request : Request) → IsOwn w (effect_of w moment name request) (shows_of w request)
 shown_own w moment name (asks.CreateInvocation q) = refl
 shown_own w moment name (asks.UpdateInvocation q) =
-    found_own w (update_at w.invocations q.deadline q.tags) (place_named w.invocations q.id)
-    (λ p at. update_own w q.deadline q.tags p (slice_get w.invocations p) (place-within w.invocations q.id p at))
+    found_own w (update_at w.rows.invocations q.deadline q.tags) (place_named w.rows.invocations q.id)
+    (λ p at. update_own w.rows q.deadline q.tags p (slice_get w.rows.invocations p) (place-within w.rows.invocations q.id p at))
 shown_own w moment name (asks.FinalizeInvocation q) =
-    found_own w (end_at w.invocations) (place_named w.invocations q.id)
-    (λ p at. end_own w p (slice_get (states_of w.invocations) p) (place-within w.invocations q.id p at))
+    found_own w (end_at w.rows.invocations) (place_named w.rows.invocations q.id)
+    (λ p at. end_own w.rows p (slice_get (states_of w.rows.invocations) p) (place-within w.rows.invocations q.id p at))
 shown_own w moment name (asks.UpdateIncludedInvocations q) = tt
-shown_own w moment name _ = found_own w (λ o. does.Nothing) _ (λ p at. place-within w.invocations _ p at)
+shown_own w moment name (asks.BatchCreateTestResults q) = results_own w (place_named w.rows.invocations q.invocation) q.requests
+shown_own w moment name (asks.BatchCreateTestExonerations q) = exonerations_own w (place_named w.rows.invocations q.invocation) q.requests
+shown_own w moment name (asks.GetInvocation q) =
+    found_own w (λ o. does.Nothing) (place_named w.rows.invocations q.id) (λ p at. place-within w.rows.invocations q.id p at)
 
-pub own_as : (old new : World) (moment : ℤ) (name : List ℕ) (request : Request) (effect : Effect) (shows : Shows) → new ≡ old
+pub own_as : (old new : Recorded) (moment : ℤ) (name : List ℕ) (request : Request) (effect : Effect) (shows : Shows) → new ≡ old
     → effect ≡ effect_of old moment name request → shows ≡ shows_of old request → IsOwn new effect shows
 own_as old new moment name request effect shows same effect_is shows_are =
-    subst (λ (w : World). IsOwn w effect shows) (sym same)
+    subst (λ (w : Recorded). IsOwn w effect shows) (sym same)
     (subst (λ (e : Effect). IsOwn old e shows) (sym effect_is)
     (subst (IsOwn old (effect_of old moment name request)) (sym shows_are) (shown_own old moment name request)))

@@ -24,13 +24,15 @@ use Rattle.request_rules.proofs.NumberLaws.{fresh_as}
 use Rattle.request_rules.specs.Order.{Judges}
 use Rattle.request_rules.specs.Broken.{IsBroken, order}
 use Rattle.request_rules.specs.Understood.{IsCallOf, IsUnderstood}
-use Rattle.request_effects.specs.Fitting.{IsTimely}
+use Rattle.service_effects.specs.Fitting.{IsTimely}
 use Rattle.request_effects.specs.Keeps.{kept_answer, with_kept}
 use Rattle.service_core.specs.declared.plan.Work.{Work}
 use Rattle.service_core.specs.declared.plan.Work.TheVariants.{Tick}
 use Rattle.service_core.specs.CoreState.{CoreState, PlanState, world_in}
 use Rattle.service_core.specs.Plans.{Carries, Works}
-use Rattle.service_core.specs.Service.{CatchesUp, ServiceWorld}
+use Rattle.service_effects.specs.Service.{ServiceWorld, recorded}
+use Rattle.service_effects.specs.States.{recorded_in}
+use Rattle.service_core.specs.Service.{CatchesUp}
 use Rattle.service_core.specs.Step.{IsJudgedAs, IsNew, Refuses, Repeats, moment_of, scene_of}
 use Rattle.service_core.specs.Judged.{IsAnswered}
 use Rattle.service_core.specs.History.{Entry, Leads, Tells, entry_at}
@@ -41,13 +43,13 @@ pub ticked : (old new : CoreState) (plan : PlanState) (after : ServiceWorld) (mo
     → plan.keep ≡ None → Carries (world_in new) plan after → CatchesUp (world_in old) moment after
 ticked old new plan after moment same is none carries =
     subst (λ (core : CoreState). CatchesUp (world_in core) moment after) same (record {
-      rows = subst (λ (x : Work). Works new.held.world x after.rows) is carries.rows;
+      due = subst (λ (x : Work). Works (recorded_in new.held) x (recorded after)) is carries.made;
       kept = carries.kept ∙ ap (with_kept new.keeps.kept) none;
     })
 
-pub caught_up : (old : CoreState) (after : ServiceWorld) (moment : ℤ) → IsValid old.held.world → IsCallMoment moment
-    → old.held.world.last ≤ℤ moment → CatchesUp (world_in old) moment after → IsTimely after.rows moment
-caught_up old after moment valid call later due = advanced_timely old.held.world after.rows moment valid call later due.rows
+pub caught_up : (old : CoreState) (after : ServiceWorld) (moment : ℤ) → IsValid old.held.world.world → IsCallMoment moment
+    → old.held.world.world.last ≤ℤ moment → CatchesUp (world_in old) moment after → IsTimely after.rows moment
+caught_up old after moment valid call later due = advanced_timely old.held.world.world after.rows moment valid call later due.due.rows
 
 -- whatever was found of a call among these rows, which are those of a world
 pub found_there : (s : Settings) (w : ServiceWorld) (moment : ℤ) (rows : List Invocation) (asked : Asked) (call : Call) (ks : List Rule)

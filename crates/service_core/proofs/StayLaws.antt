@@ -1,8 +1,8 @@
 -- Rows that stay the same invocations.
-use Rattle.std.proofs.Common.{◌≡◌, ℕ, ℤ, List, [], ◌∷◌, ◌++◌, Option, Some, None, inl, inr, refl, sym, ap, ◌∙◌, subst, length}
+use Rattle.std.proofs.Common.{◌≡◌, ◌<◌, ℕ, zero, suc, ℤ, List, [], ◌∷◌, ◌++◌, Option, Some, None, inl, inr, refl, sym, ap, ◌∙◌, subst, length, arith}
 use Rattle.std.specs.List.{slice_get}
 use Rattle.std.proofs.lemmas.Bool.{cases_Bool, cases_eq, cond-false, cond-true}
-use Rattle.std.proofs.lemmas.Option.{same_Some}
+use Rattle.std.proofs.lemmas.Option.{same_Some, slice_get_within}
 use Rattle.names_realms.specs.declared.pairs.Pair.{Pair}
 use Rattle.inclusion_graph.specs.declared.edge.Edge.{Edge}
 use Rattle.inclusion_graph.specs.Edges.{edges_from}
@@ -19,21 +19,34 @@ use Rattle.invocation_world.proofs.ValidFacts.{all_begin}
 use Rattle.request_rules.specs.Settings.{Settings}
 use Rattle.request_rules.specs.Named.{place_named}
 use Rattle.request_rules.proofs.PlaceLaws.{place_holds, placed}
-use Rattle.request_effects.proofs.PlaceFacts.{id_at, row_placed}
-use Rattle.request_effects.specs.declared.effect.Effect.{Effect}
-use Rattle.request_effects.specs.declared.effect.Effect.TheVariants as does
-use Rattle.request_effects.specs.Effects.{Does, with_effect}
-use Rattle.service_core.specs.Service.{ServiceWorld}
+use Rattle.service_effects.proofs.IdFacts.{id_at}
+use Rattle.request_effects.proofs.PlaceFacts.{row_placed}
+use Rattle.service_effects.specs.declared.effect.Effect.{Effect}
+use Rattle.service_effects.specs.declared.effect.Effect.TheVariants as does
+use Rattle.service_effects.specs.Effects.{Does, with_effect}
+use Rattle.service_effects.specs.Service.{Recorded, ServiceWorld, recorded}
 use Rattle.service_core.specs.History.{Entry, Leads}
 use Rattle.service_core.specs.Laws.{IsSameInvocation, RowsStay, ShownIsNamed}
 use Rattle.service_core.proofs.ChangeLaws.{edges_keep}
 use Rattle.service_core.proofs.MoveLaws.{IsMoved, Moves, tells_moves}
+
+pub there_at : {A : Type 0} (xs : List A) (i : ℕ) → i < length xs → (x : A) × (slice_get xs i ≡ Some x)
+there_at [] i lt = absurd (omega (arith, lt))
+there_at (x ∷ xs) zero lt = (x, refl)
+there_at (x ∷ xs) (suc i) lt = there_at xs i (omega (arith, lt))
 
 -- each row stands at its place later, the same invocation
 abbrev pub AllStay : List Invocation → List Invocation → Type 0
 AllStay old new =
     (p : ℕ) (row : Invocation) → slice_get old p ≡ Some row
     → (later : Invocation) × (slice_get new p ≡ Some later) × IsSameInvocation row later
+
+-- so what was a place is one
+pub still_within : (old new : List Invocation) (p : ℕ) → AllStay old new → p < length old → p < length new
+still_within old new p stay low =
+    let row = there_at old p low in
+    let later = stay p row.0 row.1 in
+    slice_get_within new p later.0 later.1
 
 itself : (row : Invocation) → IsSameInvocation row row
 itself row = record { id = refl; realm = refl; creator = refl; created = refl }
@@ -148,6 +161,8 @@ effect_stay w moment (does.Add row) = added_stay w.invocations row
 effect_stay w moment (does.Update place deadline tags) = update_stay moment place deadline tags w (slice_get w.invocations place)
 effect_stay w moment (does.End place) = changed_stay (begun moment) (begun_kept moment) w.invocations place
 effect_stay w moment (does.Include plan) = edges_keep AllStay moment w (edges_from plan.from plan.targets) (all_stay w.invocations)
+effect_stay w moment (does.Results batch) = all_stay w.invocations
+effect_stay w moment (does.Exonerations batch) = all_stay w.invocations
 
 pub acted_stay : (w : World) (moment : ℤ) (effect : Effect) (after : World) → Does moment effect w after
     → AllStay w.invocations after.invocations
@@ -156,13 +171,16 @@ acted_stay w moment effect after acts =
     stay_both w.invocations mid.invocations after.invocations (effect_stay w moment effect)
     (settled_stay moment mid.inclusions mid.invocations after.invocations acts.rows)
 
-moved_stay : (s : Settings) (w : World) (moment : ℤ) (after : World) → IsMoved s w moment after → AllStay w.invocations after.invocations
-moved_stay s w moment after (inl same) = stay_same w.invocations after.invocations (ap (λ (v : World). v.invocations) same)
-moved_stay s w moment after (inr done) = acted_stay w moment done.effect after done.does
+moved_stay : (s : Settings) (w : Recorded) (moment : ℤ) (after : Recorded) → IsMoved s w moment after
+    → AllStay w.rows.invocations after.rows.invocations
+moved_stay s w moment after (inl same) =
+    stay_same w.rows.invocations after.rows.invocations (ap (λ (v : Recorded). v.rows.invocations) same)
+moved_stay s w moment after (inr done) = acted_stay w.rows moment done.effect after.rows done.made.rows
 
-moves_stay : (s : Settings) (w : World) (moment : ℤ) (after : World) → Moves s w moment after → AllStay w.invocations after.invocations
+moves_stay : (s : Settings) (w : Recorded) (moment : ℤ) (after : Recorded) → Moves s w moment after
+    → AllStay w.rows.invocations after.rows.invocations
 moves_stay s w moment after h =
-    stay_both w.invocations h.between.invocations after.invocations (advance_stay moment w h.between h.advances)
+    stay_both w.rows.invocations h.between.rows.invocations after.rows.invocations (advance_stay moment w.rows h.between.rows h.due.rows)
     (moved_stay s h.between moment after h.moved)
 
 pub leads_stay : (s : Settings) (w : ServiceWorld) (e : Entry) (after : ServiceWorld) → Leads s w e after
@@ -170,7 +188,7 @@ pub leads_stay : (s : Settings) (w : ServiceWorld) (e : Entry) (after : ServiceW
 leads_stay s w e after leads =
     elim (tells_moves s w e e.told after leads.tells) [
       | inl same ↦ stay_same w.rows.invocations after.rows.invocations (ap (λ (v : ServiceWorld). v.rows.invocations) same)
-      | inr moves ↦ moves_stay s w.rows e.moment after.rows moves
+      | inr moves ↦ moves_stay s (recorded w) e.moment (recorded after) moves
     ]
 
 pub rows_stay : RowsStay

@@ -10,12 +10,14 @@ use Rattle.request_rules.specs.Order.{IsUnbroken}
 use Rattle.kept_replies.specs.declared.reply.KeptReply.{KeptReply}
 use Rattle.request_rules.specs.Broken.{Wants}
 use Rattle.request_rules.proofs.Decided.{said}
-use Rattle.request_effects.specs.Effects.{with_effect}
-use Rattle.request_effects.specs.Full.{TableFull}
+use Rattle.service_effects.specs.declared.effect.Effect.{Effect}
+use Rattle.service_effects.specs.Effects.{exonerations_after, results_after, with_effect}
+use Rattle.service_effects.specs.Refused.{EffectRefused}
+use Rattle.service_effects.specs.Service.{ServiceWorld, recorded}
 use Rattle.request_effects.specs.Keeps.{kept_answer, with_kept}
 use Rattle.request_effects.specs.Shows.{answer_of, shows_of}
-use Rattle.request_effects.proofs.FullLaws.{full_or_not}
-use Rattle.service_core.specs.Service.{CatchesUp, ServiceWorld}
+use Rattle.service_effects.proofs.RefusedLaws.{refused_or_not}
+use Rattle.service_core.specs.Service.{CatchesUp}
 use Rattle.service_core.specs.Step.{IsJudgedAs, IsNew, IsRefusal, IsRepeated, effect_for, keep_for, performed, refused, repeated, scene_of}
 use Rattle.service_core.specs.Laws.{HasStep, HasSteps}
 use Rattle.service_core.proofs.DecideLaws.{judged_as, repeated_or_fresh}
@@ -55,14 +57,20 @@ repeated_there s w moment asked between caller request reply advances wants agai
 
 performed_there : (s : Settings) (w : ServiceWorld) (moment : ℤ) (asked : Asked) (between : ServiceWorld) (caller : ℕ) (request : Request)
     → CatchesUp w moment between → IsNew s between moment asked caller request
-    → IsJudgedAs s between moment asked caller request None → IsUnbroken (TableFull between.rows (effect_for s between moment caller request))
+    → IsJudgedAs s between moment asked caller request None → IsUnbroken (EffectRefused (recorded between) (effect_for s between moment caller request))
     → HasStep s w moment asked
 performed_there s w moment asked between caller request advances new judged room =
-    let settled = settling_there moment (with_effect moment (effect_for s between moment caller request) between.rows) in
-    let after : ServiceWorld = record { rows = settled.0; kept = with_kept between.kept (keep_for s between moment asked caller request) } in
+    let effect : Effect = effect_for s between moment caller request in
+    let settled = settling_there moment (with_effect moment effect between.rows) in
+    let after : ServiceWorld = record {
+      rows = settled.0;
+      results = results_after effect between.results;
+      exonerations = exonerations_after effect between.exonerations;
+      kept = with_kept between.kept (keep_for s between moment asked caller request);
+    } in
     record {
       after = after;
-      answer = answer_of (scene_of s after) (shows_of between.rows request);
+      answer = answer_of (scene_of s after) (shows_of (recorded between) request);
       step = record {
         between = between;
         advances = advances;
@@ -70,7 +78,7 @@ performed_there s w moment asked between caller request advances new judged room
           caller = caller;
           request = request;
           accepted = record { new = new; judged = judged; room = room };
-          acts = record { rows = settled.1; kept = refl };
+          acts = record { made = record { rows = settled.1; results = refl; exonerations = refl }; kept = refl };
           answer_is = refl;
         });
       };
@@ -82,7 +90,7 @@ judged_there : (s : Settings) (w : ServiceWorld) (moment : ℤ) (asked : Asked) 
 judged_there s w moment asked between caller request (Some r) advances new judged =
     refused_there s w moment asked between r advances (inr (caller, request, new, inl judged))
 judged_there s w moment asked between caller request None advances new judged =
-    elim (full_or_not between.rows (effect_for s between moment caller request)) [
+    elim (refused_or_not (recorded between) (effect_for s between moment caller request)) [
       | inl full ↦ refused_there s w moment asked between full.0 advances (inr (caller, request, new, inr (judged, full.1)))
       | inr room ↦ performed_there s w moment asked between caller request advances new judged room
     ]
@@ -100,8 +108,9 @@ wanted_there s w moment asked between caller request advances wants =
 pub step_there : HasSteps
 step_there s w moment asked =
     let due = advance_there moment w.rows in
-    let between : ServiceWorld = record { rows = due.0; kept = w.kept } in
-    let advances : CatchesUp w moment between = record { rows = due.1; kept = refl } in
+    let between : ServiceWorld = record { rows = due.0; results = w.results; exonerations = w.exonerations; kept = w.kept } in
+    let advances : CatchesUp w moment between =
+    record { due = record { rows = due.1; results = refl; exonerations = refl }; kept = refl } in
     elim (said s asked) [
       | inl h ↦ refused_there s w moment asked between h.0 advances (inl h.1)
       | inr h ↦ wanted_there s w moment asked between h.0 h.1 advances h.2

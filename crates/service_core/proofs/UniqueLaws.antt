@@ -4,6 +4,8 @@ use Rattle.call_forms.specs.declared.asked.Asked.{Asked}
 use Rattle.call_forms.specs.declared.forms.Answer.{Answer}
 use Rattle.call_forms.specs.Rules.{refusal_answer}
 use Rattle.message_forms.specs.declared.requests.Request.{Request}
+use Rattle.test_results.specs.declared.exoneration.TestExoneration.{TestExoneration}
+use Rattle.test_results.specs.declared.result.TestResult.{TestResult}
 use Rattle.invocation_world.specs.World.{World}
 use Rattle.invocation_world.proofs.AdvanceFacts.{advanced_once}
 use Rattle.request_rules.specs.Settings.{Settings}
@@ -14,12 +16,13 @@ use Rattle.request_rules.specs.Broken.{IsBroken, Wants, order}
 use Rattle.request_rules.proofs.Judged.{one_judged as one_told}
 use Rattle.request_rules.proofs.ReadLaws.{wanted_alone}
 use Rattle.request_rules.proofs.RuleFacts.{one_broken, one_caller, one_refused_alone, one_request}
-use Rattle.request_effects.specs.Effects.{with_effect}
+use Rattle.service_effects.specs.Effects.{with_effect}
 use Rattle.request_effects.specs.Keeps.{kept_answer}
 use Rattle.request_effects.specs.Shows.{answer_of, shows_of}
-use Rattle.request_effects.proofs.EffectLaws.{one_settling}
-use Rattle.request_effects.proofs.FullLaws.{one_full}
-use Rattle.service_core.specs.Service.{CatchesUp, ServiceWorld}
+use Rattle.service_effects.proofs.EffectLaws.{one_settling}
+use Rattle.service_effects.proofs.RefusedLaws.{one_refusal as one_of_effect}
+use Rattle.service_effects.specs.Service.{ServiceWorld, recorded}
+use Rattle.service_core.specs.Service.{CatchesUp}
 use Rattle.service_core.specs.Step.{Acts, IsAccepted, IsJudgedAs, IsNew, IsRefusal, IsRefusedOf, IsRepeated, IsTold, Performs, Refuses, Repeats, case_in, effect_for, performed, refused, repeated, scene_of}
 use Rattle.service_core.specs.Laws.{StepsAreUnique}
 
@@ -38,7 +41,7 @@ one_of_wanted s w moment asked caller request r p (inl this) (inr that) =
 one_of_wanted s w moment asked caller request r p (inr this) (inl that) =
     let no : Some p ≡ None = one_judged_as s w moment asked caller request (Some p) None that this.0 in absurd cc
 one_of_wanted s w moment asked caller request r p (inr this) (inr that) =
-    one_full w.rows (effect_for s w moment caller request) r p this.1 that.1
+    one_of_effect (recorded w) (effect_for s w moment caller request) r p this.1 that.1
 
 one_refusal : (s : Settings) (w : ServiceWorld) (moment : ℤ) (asked : Asked) (r p : Refusal) → IsRefusal s w moment asked r
     → IsRefusal s w moment asked p → r ≡ p
@@ -105,9 +108,13 @@ one_repeat s w moment asked v r x q this that =
       this.answer_is ∙ (ap (λ (k : KeptReply). kept_answer (scene_of s w) k.answer) same ∙ sym that.answer_is),
     )
 
-same_parts : (v x : ServiceWorld) → v.rows ≡ x.rows → v.kept ≡ x.kept → v ≡ x
-same_parts v x rows kept =
-    ap (λ (r : World). record { rows = r; kept = v.kept }) rows ∙ ap (λ (k : List KeptReply). record { rows = x.rows; kept = k }) kept
+-- worlds with the same parts
+pub same_parts : (v x : ServiceWorld) → v.rows ≡ x.rows → v.results ≡ x.results → v.exonerations ≡ x.exonerations → v.kept ≡ x.kept → v ≡ x
+same_parts v x rows results exonerations kept =
+    ap (λ (p : World). record { rows = p; results = v.results; exonerations = v.exonerations; kept = v.kept }) rows
+    ∙ (ap (λ (p : List TestResult). record { rows = x.rows; results = p; exonerations = v.exonerations; kept = v.kept }) results
+    ∙ (ap (λ (p : List TestExoneration). record { rows = x.rows; results = x.results; exonerations = p; kept = v.kept }) exonerations
+    ∙ ap (λ (p : List KeptReply). record { rows = x.rows; results = x.results; exonerations = x.exonerations; kept = p }) kept))
 
 one_performed : (s : Settings) (w : ServiceWorld) (moment : ℤ) (asked : Asked) (v : ServiceWorld) (r : Answer) (x : ServiceWorld) (q : Answer)
     → Performs s w moment asked v r → Performs s w moment asked x q → (v ≡ x) × (r ≡ q)
@@ -117,11 +124,12 @@ one_performed s w moment asked v r x q this that =
     let acts : Acts s w moment asked that.caller that.request v =
     subst (λ (c : ℕ). Acts s w moment asked c that.request v) caller
     (subst (λ (p : Request). Acts s w moment asked this.caller p v) request this.acts) in
-    let rows : v.rows ≡ x.rows = one_settling moment (with_effect moment (effect_for s w moment that.caller that.request) w.rows) v.rows x.rows acts.rows that.acts.rows in
-    let same : v ≡ x = same_parts v x rows (acts.kept ∙ sym that.acts.kept) in (
+    let rows : v.rows ≡ x.rows = one_settling moment (with_effect moment (effect_for s w moment that.caller that.request) w.rows) v.rows x.rows acts.made.rows that.acts.made.rows in
+    let same : v ≡ x = same_parts v x rows (acts.made.results ∙ sym that.acts.made.results)
+    (acts.made.exonerations ∙ sym that.acts.made.exonerations) (acts.kept ∙ sym that.acts.kept) in (
       same,
-      this.answer_is ∙ (ap (λ (p : Request). answer_of (scene_of s v) (shows_of w.rows p)) request
-          ∙ (ap (λ (u : ServiceWorld). answer_of (scene_of s u) (shows_of w.rows that.request)) same ∙ sym that.answer_is)),
+      this.answer_is ∙ (ap (λ (p : Request). answer_of (scene_of s v) (shows_of (recorded w) p)) request
+          ∙ (ap (λ (u : ServiceWorld). answer_of (scene_of s u) (shows_of (recorded w) that.request)) same ∙ sym that.answer_is)),
     )
 
 one_told_case : (s : Settings) (w : ServiceWorld) (moment : ℤ) (asked : Asked) (v : ServiceWorld) (r : Answer) (x : ServiceWorld) (q : Answer)
@@ -144,7 +152,8 @@ one_told_case s w moment asked v r x q (performed this) (performed that) = one_p
 
 one_between : (w : ServiceWorld) (moment : ℤ) (v x : ServiceWorld) → CatchesUp w moment v → CatchesUp w moment x → v ≡ x
 one_between w moment v x this that =
-    same_parts v x (advanced_once moment w.rows v.rows x.rows this.rows that.rows) (this.kept ∙ sym that.kept)
+    same_parts v x (advanced_once moment w.rows v.rows x.rows this.due.rows that.due.rows) (this.due.results ∙ sym that.due.results)
+    (this.due.exonerations ∙ sym that.due.exonerations) (this.kept ∙ sym that.kept)
 
 pub one_step : StepsAreUnique
 one_step s w moment asked v r x q this that =

@@ -3,20 +3,25 @@ use Rattle.std.specs.Prelude.{◌≡◌, ◌≤◌, ℕ, ◌+◌, Option, min}
 use Rattle.kept_replies.specs.declared.reply.KeptReply.{KeptReply}
 use Rattle.kept_replies.specs.Kept.{KeptState}
 use Rattle.call_forms.specs.declared.forms.Answer.{Answer}
-use Rattle.invocation_world.specs.States as worlds
-use Rattle.invocation_world.specs.States.{WorldState}
+use Rattle.service_effects.specs.declared.tables.Tables.{Tables}
+use Rattle.service_effects.specs.Service.{ServiceWorld}
+use Rattle.service_effects.specs.States as tables
 use Rattle.service_core.specs.declared.plan.Work.{Work}
-use Rattle.service_core.specs.Service.{ServiceWorld}
 
 -- A core: the parts of its world, each with its room, and how many changes were made in it, counted
 -- as far as the count goes.
 pub record CoreState : Type 0 where
-  pub held : WorldState
+  pub held : Tables
   pub keeps : KeptState
   pub changes : ℕ
 
 abbrev pub world_in : CoreState → ServiceWorld
-world_in core = record { rows = core.held.world; kept = core.keeps.kept }
+world_in core = record {
+  rows = core.held.world.world;
+  results = core.held.results.rows;
+  exonerations = core.held.exonerations.rows;
+  kept = core.keeps.kept;
+}
 
 -- one change more
 abbrev pub more_changes : ℕ → ℕ
@@ -24,7 +29,7 @@ more_changes changes = min (changes + 1) 18_446_744_073_709_551_615
 
 -- The world stays, no change was made, and there is room for no less.
 pub record IsRoomier (before after : CoreState) : Type 0 where
-  pub held : worlds.IsRoomier before.held after.held
+  pub held : tables.IsRoomier before.held after.held
   pub kept : after.keeps.kept ≡ before.keeps.kept
   pub room : before.keeps.room ≤ after.keeps.room
   pub changes : after.changes ≡ before.changes

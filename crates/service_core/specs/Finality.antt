@@ -9,8 +9,8 @@ use Rattle.call_forms.specs.declared.forms.Told.TheVariants.{Made, Standin as In
 use Rattle.invocation_world.specs.World.{World, ReachesActive}
 use Rattle.invocation_world.specs.Advancing.{AreQuiet, IsLeast}
 use Rattle.request_rules.specs.Settings.{Settings}
+use Rattle.service_effects.specs.Service.{ServiceWorld}
 use Rattle.service_core.specs.History.{Entry, Leads}
-use Rattle.service_core.specs.Service.{ServiceWorld}
 
 -- these rows and inclusions, which changed last at this time
 abbrev pub rows_with : List Edge → ℤ → List Invocation → World

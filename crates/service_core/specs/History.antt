@@ -6,7 +6,8 @@ use Rattle.call_forms.specs.declared.forms.Standin.TheVariants.{Unavailable, Mem
 use Rattle.call_forms.specs.declared.forms.Told.{Told}
 use Rattle.call_forms.specs.declared.forms.Told.TheVariants.{Made, Standin as Instead}
 use Rattle.invocation_world.specs.World.{IsCallMoment}
-use Rattle.service_core.specs.Service.{CatchesUp, ServiceWorld}
+use Rattle.service_effects.specs.Service.{ServiceWorld}
+use Rattle.service_core.specs.Service.{CatchesUp}
 use Rattle.service_core.specs.Step.{Step, moment_of}
 
 -- One call: whose seat it came from, its moment, what was asked and what was told, and whether the

@@ -10,7 +10,7 @@ use Rattle.call_forms.specs.declared.forms.Told.{Told}
 use Rattle.call_forms.specs.declared.forms.Told.TheVariants.{Made, Standin as Instead}
 use Rattle.request_rules.specs.declared.reading.Call.{Call}
 use Rattle.request_rules.specs.Settings.{Settings}
-use Rattle.service_core.specs.Service.{ServiceWorld}
+use Rattle.service_effects.specs.Service.{ServiceWorld}
 use Rattle.service_core.specs.Step.{IsJudgedAs, IsTold}
 
 -- The answer refuses the call, by the first rule for what is demanded that it breaks; or it breaks

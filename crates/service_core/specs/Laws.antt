@@ -2,17 +2,24 @@
 use Rattle.std.specs.Prelude.{◌≡◌, ◌⊎◌, ℕ, ℤ, List, [], ◌∷◌, ◌++◌, Contains, Some, length, slice_get}
 use Rattle.call_forms.specs.declared.asked.Asked.{Asked}
 use Rattle.call_forms.specs.declared.forms.Answer.{Answer}
+use Rattle.names_realms.specs.declared.states.State.TheVariants.{Finalized}
 use Rattle.invocations.specs.declared.invocation.Invocation.{Invocation}
+use Rattle.invocations.specs.Rows.{IsInState}
+use Rattle.test_results.specs.declared.exoneration.TestExoneration.{TestExoneration}
+use Rattle.test_results.specs.declared.result.TestResult.{TestResult}
+use Rattle.test_results.specs.Exonerations as exonerations
+use Rattle.test_results.specs.Results as results
 use Rattle.request_rules.specs.Settings.{Settings, HasNames, caller_name}
 use Rattle.request_rules.specs.Demands.{demand_of}
 use Rattle.request_rules.specs.Numbered.{digest_of}
 use Rattle.request_rules.specs.Broken.{Wants}
 use Rattle.request_rules.specs.Named.{place_named}
-use Rattle.request_effects.specs.declared.effect.Effect.{Effect}
-use Rattle.request_effects.specs.declared.effect.Effect.TheVariants as does
-use Rattle.request_effects.specs.Effects.{Does}
-use Rattle.request_effects.specs.Fitting.{IsTimely}
+use Rattle.service_effects.specs.declared.effect.Effect.{Effect}
+use Rattle.service_effects.specs.declared.effect.Effect.TheVariants as does
+use Rattle.service_effects.specs.Effects.{Does}
+use Rattle.service_effects.specs.Fitting.{IsTimely}
 use Rattle.request_effects.specs.Keeps.{kept_answer}
+use Rattle.service_effects.specs.Service.{ServiceWorld}
 use Rattle.call_forms.specs.declared.forms.Told.TheVariants.{Made}
 use Rattle.kept_replies.specs.declared.reply.KeptReply.{KeptReply}
 use Rattle.kept_replies.specs.Kept.{IsFor}
@@ -21,7 +28,7 @@ use Rattle.invocation_world.specs.World.{World}
 use Rattle.invocation_world.specs.World as worlds
 use Rattle.invocation_world.specs.Laws.{KeepsFinal}
 use Rattle.service_core.specs.Finality.{AllInTime}
-use Rattle.service_core.specs.Service.{CatchesUp, IsValid, ServiceWorld}
+use Rattle.service_core.specs.Service.{CatchesUp, IsValid}
 use Rattle.service_core.specs.Step.{Performs, Step, moment_of, scene_of}
 use Rattle.service_core.specs.History.{Entry, Leads, IsLegal, IsTimed}
 
@@ -66,6 +73,18 @@ RowsStay =
     → (later : Invocation) × (slice_get v.rows.invocations place ≡ Some later)
     × IsSameInvocation row later
 
+-- A history takes no test result away, and no exoneration: those that it adds stand behind the
+-- others, each of which stays as it is.
+abbrev pub ResultsStay : Type 0
+ResultsStay =
+    (s : Settings) (w : ServiceWorld) (h : List Entry) (v : ServiceWorld) → IsLegal s w h v
+    → (more : List TestResult) × (v.results ≡ w.results ++ more)
+
+abbrev pub ExonerationsStay : Type 0
+ExonerationsStay =
+    (s : Settings) (w : ServiceWorld) (h : List Entry) (v : ServiceWorld) → IsLegal s w h v
+    → (more : List TestExoneration) × (v.exonerations ≡ w.exonerations ++ more)
+
 -- An effect leaves each invocation at its place, found by its id, and a new one after the others:
 -- so what a request shows by a place is the invocation that it names, or makes.
 pub record StaysNamed (w : World) (effect : Effect) (after : World) : Type 0 where
@@ -80,11 +99,19 @@ ShownIsNamed =
     → Does moment effect w after
     → StaysNamed w effect after
 
--- What is final stays as it is, with all that it reaches.
+-- What is final holds the test results and exonerations that it did.
+pub record HoldsSame (w after : ServiceWorld) : Type 0 where
+  pub results : (place : ℕ) → IsInState Finalized w.rows.invocations place
+      → results.places_in after.results place ≡ results.places_in w.results place
+  pub exonerations : (place : ℕ) → IsInState Finalized w.rows.invocations place
+      → exonerations.places_in after.exonerations place
+      ≡ exonerations.places_in w.exonerations place
+
+-- What is final stays as it is, with all that it holds and reaches.
 abbrev pub FinalStays : Type 0
 FinalStays =
     (s : Settings) (w : ServiceWorld) (h : List Entry) (v : ServiceWorld)
-    → HasNames s → IsValid w → IsLegal s w h v → KeepsFinal w.rows v.rows
+    → HasNames s → IsValid w → IsLegal s w h v → KeepsFinal w.rows v.rows × HoldsSame w v
 
 -- In a history from a valid world each finalizing row becomes final with the first change after
 -- which it reaches no active one.

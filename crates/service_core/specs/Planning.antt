@@ -6,25 +6,26 @@ use Rattle.call_forms.specs.declared.forms.Answer.{Answer}
 use Rattle.call_forms.specs.declared.forms.Refusal.{Refusal}
 use Rattle.call_forms.specs.Rules.{refusal_answer}
 use Rattle.message_forms.specs.declared.requests.Request.{Request}
-use Rattle.invocation_world.specs.World.{World}
 use Rattle.request_rules.specs.Settings.{Settings}
-use Rattle.request_effects.specs.declared.effect.Change.{Change}
-use Rattle.request_effects.specs.declared.effect.Effect.TheVariants as does
+use Rattle.service_effects.specs.declared.effect.Change.{Change}
+use Rattle.service_effects.specs.declared.effect.Effect.TheVariants as does
 use Rattle.request_effects.specs.declared.shows.Shows.{Shows}
-use Rattle.request_effects.specs.Effects.{Does}
-use Rattle.request_effects.specs.Fitting.{Fits}
-use Rattle.request_effects.specs.Full.{TableFull}
+use Rattle.service_effects.specs.Effects.{Makes}
+use Rattle.service_effects.specs.Fitting.{Fits}
+use Rattle.service_effects.specs.Refused.{EffectRefused}
+use Rattle.service_effects.specs.Service.{Recorded}
 use Rattle.request_effects.specs.Shows.{answer_of, shows_of}
+use Rattle.service_effects.specs.States.{recorded_in}
 use Rattle.service_core.specs.declared.plan.Prepared.{Prepared}
 use Rattle.service_core.specs.declared.plan.Prepared.TheVariants as prepared
 use Rattle.service_core.specs.declared.plan.Work.TheVariants as work
 use Rattle.service_core.specs.CoreState.{CoreState, PlanState, world_in}
 use Rattle.service_core.specs.Step.{effect_for, keep_for}
 
--- the answer shows this of the invocations that a change leaves
-abbrev pub Answers : Settings → World → Change → Shows → Answer → Type 0
+-- the answer shows this of what a change leaves
+abbrev pub Answers : Settings → Recorded → Change → Shows → Answer → Type 0
 Answers s w change shows answer =
-    (after : World) → Does change.moment change.effect w after
+    (after : Recorded) → Makes change.moment change.effect w after
     → answer ≡ answer_of (record { settings = s; world = after }) shows
 
 -- What is done and kept of a request.
@@ -46,11 +47,12 @@ abbrev pub IsShown : Settings → CoreState → Deed → Shows → Prepared → 
 IsShown s core deed shows (prepared.Refused answer) = ⊥
 IsShown s core deed shows (prepared.Repeated answer) = ⊥
 IsShown s core deed shows (prepared.Answered answer) =
-    (deed.change.effect ≡ does.Nothing) × Answers s core.held.world deed.change shows answer
+    (deed.change.effect ≡ does.Nothing)
+    × Answers s (recorded_in core.held) deed.change shows answer
 IsShown s core deed shows (prepared.Change plan) =
     (deed.change.effect ≢ does.Nothing)
     × ((answer : Answer) × (plan ≡ plan_of deed answer core)
-    × Answers s core.held.world deed.change shows answer)
+    × Answers s (recorded_in core.held) deed.change shows answer)
 
 -- what is done and kept of a caller's request at a moment
 abbrev pub deed_for : Settings → CoreState → ℤ → Asked → ℕ → Request → Deed
@@ -69,13 +71,14 @@ IsReady s core moment asked caller request p =
     × IfSome (keep_for s (world_in core) moment asked caller request)
     (λ reply. 0 < core.keeps.room)
     × IsShown s core (deed_for s core moment asked caller request)
-    (shows_of core.held.world request) p
+    (shows_of (recorded_in core.held) request) p
 
--- The request is refused, since a table is full; or there is room, and what it does is shown.
+-- The request is refused for what it does; or there is room, and what it does is shown.
 abbrev pub ComesTo : Settings → CoreState → ℤ → Asked → ℕ → Request → Prepared → Type 0
 ComesTo s core moment asked caller request (prepared.Refused answer) =
     (r : Refusal)
-    × TableFull core.held.world (effect_for s (world_in core) moment caller request) r
+    × EffectRefused (recorded_in core.held)
+    (effect_for s (world_in core) moment caller request) r
     × (answer ≡ refusal_answer r)
 ComesTo s core moment asked caller request (prepared.Repeated answer) = ⊥
 ComesTo s core moment asked caller request (prepared.Answered answer) =

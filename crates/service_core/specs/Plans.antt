@@ -5,36 +5,36 @@ use Rattle.kept_replies.specs.Kept.{IsFree, IsWord, KeptState}
 use Rattle.call_forms.specs.declared.forms.Answer.{Answer}
 use Rattle.call_forms.specs.declared.asked.Asked.{Asked}
 use Rattle.message_forms.specs.declared.requests.Request.{Request}
-use Rattle.invocation_world.specs.World.{World, IsCallMoment}
-use Rattle.invocation_world.specs.Advancing.{Advances}
-use Rattle.invocation_world.specs.States.{WorldState}
+use Rattle.invocation_world.specs.World.{IsCallMoment}
 use Rattle.request_rules.specs.Settings.{Settings}
-use Rattle.request_effects.specs.Effects.{Does}
-use Rattle.request_effects.specs.Fitting as effects
+use Rattle.service_effects.specs.declared.tables.Tables.{Tables}
+use Rattle.service_effects.specs.Effects.{Makes}
+use Rattle.service_effects.specs.Fitting as effects
 use Rattle.request_effects.specs.Keeps.{with_kept}
+use Rattle.service_effects.specs.Service.{Recorded, ServiceWorld, recorded}
 use Rattle.request_effects.specs.Shows.{answer_of, shows_of}
 use Rattle.service_core.specs.declared.plan.Work.{Work}
 use Rattle.service_core.specs.declared.plan.Work.TheVariants.{Tick, Change}
 use Rattle.service_core.specs.declared.plan.Prepared.{Prepared}
 use Rattle.service_core.specs.declared.plan.Prepared.TheVariants as prepared
 use Rattle.service_core.specs.CoreState.{CoreState, PlanState, world_in}
-use Rattle.service_core.specs.Service.{ServiceWorld}
+use Rattle.service_core.specs.Service.{CarriesDue}
 use Rattle.service_core.specs.Step.{IsAccepted, Acts, Refuses, Repeats, Performs, scene_of}
 
--- What is planned makes this of the invocations: due deadlines are carried out at a moment; or a
+-- What is planned makes this of what is recorded: due deadlines are carried out at a moment; or a
 -- request's change is made.
-abbrev pub Works : World → Work → World → Type 0
-Works w (Tick moment) after = Advances w moment after
-Works w (Change change) after = Does change.moment change.effect w after
+abbrev pub Works : Recorded → Work → Recorded → Type 0
+Works w (Tick moment) after = CarriesDue w moment after
+Works w (Change change) after = Makes change.moment change.effect w after
 
 -- A plan makes this of a world, part by part.
 pub record Carries (w : ServiceWorld) (plan : PlanState) (after : ServiceWorld) : Type 0 where
-  pub rows : Works w.rows plan.work after.rows
+  pub made : Works (recorded w) plan.work (recorded after)
   pub kept : after.kept ≡ with_kept w.kept plan.keep
 
--- It can be done in the world that is held, without memory.
-abbrev pub CanDo : WorldState → Work → Type 0
-CanDo held (Tick moment) = IsCallMoment moment × (held.world.last ≤ℤ moment)
+-- It can be done in the tables that are held, without memory.
+abbrev pub CanDo : Tables → Work → Type 0
+CanDo held (Tick moment) = IsCallMoment moment × (held.world.world.last ≤ℤ moment)
 CanDo held (Change change) = effects.Fits held change.moment change.effect
 
 -- What is to be kept has a number for which nothing is kept, and there is room for it.
@@ -60,7 +60,7 @@ pub record IsPlanOf (s : Settings) (w : ServiceWorld) (moment : ℤ) (asked : As
   pub answer_is : plan.answer ≡ Some answer
   pub acts : (after : ServiceWorld) → Carries w plan after
       → Acts s w moment asked caller request after
-      × (answer ≡ answer_of (scene_of s after) (shows_of w.rows request))
+      × (answer ≡ answer_of (scene_of s after) (shows_of (recorded w) request))
   pub changes : (after : ServiceWorld) → Carries w plan after → after ≢ w
 
 -- A request is refused by the answer of the rule that it breaks; or it is a repeat, and this is the

@@ -12,12 +12,14 @@ use Rattle.request_rules.specs.Settings.{Settings, caller_name}
 use Rattle.request_rules.specs.Demands.{demand_of}
 use Rattle.request_rules.specs.Order.{IsUnbroken, Judges}
 use Rattle.request_rules.specs.Broken.{Case, IsBroken, IsRefusedAlone, IsRepeat, Wants, order}
-use Rattle.request_effects.specs.declared.effect.Effect.{Effect}
-use Rattle.request_effects.specs.Effects.{Does, effect_of}
-use Rattle.request_effects.specs.Full.{TableFull}
+use Rattle.service_effects.specs.declared.effect.Effect.{Effect}
+use Rattle.service_effects.specs.Effects.{Makes}
+use Rattle.request_effects.specs.Effects.{effect_of}
 use Rattle.request_effects.specs.Keeps.{kept_answer, kept_of, numbered_of, with_kept}
+use Rattle.service_effects.specs.Refused.{EffectRefused}
+use Rattle.service_effects.specs.Service.{ServiceWorld, recorded}
 use Rattle.request_effects.specs.Shows.{Scene, answer_of, shows_of}
-use Rattle.service_core.specs.Service.{CatchesUp, ServiceWorld}
+use Rattle.service_core.specs.Service.{CatchesUp}
 
 -- The moment of a call: what the clock says, brought into 1970-01-01T00:00:00Z to
 -- 9999-01-01T00:00:00Z, and no earlier than the last change.
@@ -53,21 +55,23 @@ IsJudgedAs s w moment asked caller request found =
 
 -- what a request does by the name of its caller
 abbrev pub effect_for : Settings → ServiceWorld → ℤ → ℕ → Request → Effect
-effect_for s w moment caller request = effect_of w.rows moment (caller_name s caller) request
+effect_for s w moment caller request =
+    effect_of (recorded w) moment (caller_name s caller) request
 
 -- what is kept of it, if anything is
 abbrev pub keep_for : Settings → ServiceWorld → ℤ → Asked → ℕ → Request → Option KeptReply
 keep_for s w moment asked caller request =
-    kept_of w.rows (caller_name s caller) (numbered_of asked (demand_of request))
+    kept_of (recorded w) (caller_name s caller) (numbered_of asked (demand_of request))
     (effect_for s w moment caller request)
 
 -- What a caller wants is refused: by the first rule that it breaks of those for what is demanded,
--- and where it breaks none, by a table that is full for what it does.
+-- and where it breaks none, by the first of those for what it does: a batch that can't come in, or
+-- a table that is full.
 abbrev pub IsRefusedOf : Settings → ServiceWorld → ℤ → Asked → ℕ → Request → Refusal → Type 0
 IsRefusedOf s w moment asked caller request r =
     IsJudgedAs s w moment asked caller request (Some r)
     ⊎ (IsJudgedAs s w moment asked caller request None
-    × TableFull w.rows (effect_for s w moment caller request) r)
+    × EffectRefused (recorded w) (effect_for s w moment caller request) r)
 
 -- This caller asks for this, and it is no repeat, of which no further rule is asked.
 pub record IsNew (s : Settings) (w : ServiceWorld) (moment : ℤ) (asked : Asked) (caller : ℕ)
@@ -88,18 +92,20 @@ pub record IsAccepted (s : Settings) (w : ServiceWorld) (moment : ℤ) (asked : 
     (caller : ℕ) (request : Request) : Type 0 where
   pub new : IsNew s w moment asked caller request
   pub judged : IsJudgedAs s w moment asked caller request None
-  pub room : IsUnbroken (TableFull w.rows (effect_for s w moment caller request))
+  pub room : IsUnbroken
+      (EffectRefused (recorded w) (effect_for s w moment caller request))
 
 -- An accepted request is acted on: what it does is done, and what is kept of it stands behind what
 -- was kept before.
 pub record Acts (s : Settings) (w : ServiceWorld) (moment : ℤ) (asked : Asked) (caller : ℕ)
     (request : Request) (after : ServiceWorld) : Type 0 where
-  pub rows : Does moment (effect_for s w moment caller request) w.rows after.rows
+  pub made : Makes moment (effect_for s w moment caller request) (recorded w)
+      (recorded after)
   pub kept : after.kept ≡ with_kept w.kept (keep_for s w moment asked caller request)
 
 -- where the reply to a request is shown
 abbrev pub scene_of : Settings → ServiceWorld → Scene
-scene_of s w = record { settings = s; world = w.rows }
+scene_of s w = record { settings = s; world = recorded w }
 
 -- A refused request changes nothing.
 pub record Refuses (s : Settings) (w : ServiceWorld) (moment : ℤ) (asked : Asked)
@@ -128,7 +134,8 @@ pub record Performs (s : Settings) (w : ServiceWorld) (moment : ℤ) (asked : As
   pub request : Request
   pub accepted : IsAccepted s w moment asked caller request
   pub acts : Acts s w moment asked caller request after
-  pub answer_is : answer ≡ answer_of (scene_of s after) (shows_of w.rows request)
+  pub answer_is : answer ≡ answer_of (scene_of s after)
+      (shows_of (recorded w) request)
 
 -- The three cases of a request at a moment at which nothing is due.
 pub data IsTold (s : Settings) (w : ServiceWorld) (moment : ℤ) (asked : Asked)

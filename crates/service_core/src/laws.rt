@@ -1,5 +1,5 @@
 //! Laws of steps and histories. These functions do nothing: what each of them ensures is the law.
-ghost use Rattle.service_core.specs.Laws.{FinalInTime, FinalStays, FirstIsKept, HasSteps, KeptStays, LegalKeepsValid, NumbersActOnce, RowsStay, ShownIsNamed, StepsAreUnique, TimedGoesOn, TimedIsLegal};
+ghost use Rattle.service_core.specs.Laws.{ExonerationsStay, FinalInTime, FinalStays, FirstIsKept, HasSteps, KeptStays, LegalKeepsValid, NumbersActOnce, ResultsStay, RowsStay, ShownIsNamed, StepsAreUnique, TimedGoesOn, TimedIsLegal};
 
 /// Each request at a moment leads from each world to some world, with some answer.
 pub fn a_step_is_there()
@@ -21,13 +21,24 @@ pub fn rows_stay()
     ensures { RowsStay }
 {}
 
+/// It takes no test result away either: those that it adds stand behind the others.
+pub fn results_stay()
+    ensures { ResultsStay }
+{}
+
+/// Nor an exoneration.
+pub fn exonerations_stay()
+    ensures { ExonerationsStay }
+{}
+
 /// An effect leaves each invocation at its place, found by its id, and a new one after the others.
 /// So what is shown by a place is what the request names, or makes.
 pub fn shown_is_named()
     ensures { ShownIsNamed }
 {}
 
-/// What is final stays as it is, with all that it reaches, in each history from a valid world.
+/// What is final stays as it is, with all that it holds and reaches, in each history from a valid
+/// world.
 pub fn final_stays()
     ensures { FinalStays }
 {}

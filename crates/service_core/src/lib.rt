@@ -7,8 +7,9 @@ mod planning;
 mod serving;
 
 pub use laws::{
-    a_step_is_there, final_in_time, final_stays, first_is_kept, ids_stay_unique, kept_stays,
-    numbers_act_once, one_step, rows_stay, shown_is_named, timed_goes_on, timed_is_legal,
+    a_step_is_there, exonerations_stay, final_in_time, final_stays, first_is_kept, ids_stay_unique,
+    kept_stays, numbers_act_once, one_step, results_stay, rows_stay, shown_is_named, timed_goes_on,
+    timed_is_legal,
 };
 pub use plan::{Plan, Prepared, Work};
 pub use serving::Core;

@@ -4,7 +4,7 @@ ghost use Rattle.std.specs.Prelude.{◌≡◌};
 use call_forms::Answer;
 use kept_replies::Ready;
 use names_realms::Moment;
-use request_effects::Change;
+use service_effects::Change;
 use std::marker::Model;
 
 /// What is to be done.

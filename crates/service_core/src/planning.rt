@@ -5,10 +5,11 @@ ghost use Rattle.request_rules.specs.Demands.{demand_of};
 ghost use Rattle.request_rules.specs.Locating.{located};
 ghost use Rattle.request_rules.specs.Settings.{caller_name};
 ghost use Rattle.request_rules.specs.Understood.{IsDigested};
-ghost use Rattle.request_effects.specs.Fitting.{Fits, IsTimely};
+ghost use Rattle.service_effects.specs.Fitting.{Fits, HasRoom, IsTimely};
 ghost use Rattle.request_effects.specs.Foreseen.{IsOwn};
 ghost use Rattle.request_effects.specs.Keeps.{kept_of};
 ghost use Rattle.request_effects.specs.Planned.{IsSafe};
+ghost use Rattle.service_effects.specs.States.{recorded_in};
 ghost use Rattle.service_core.specs.CoreState.{IsRoomier};
 ghost use Rattle.service_core.specs.Planning.{ComesTo, IsShown};
 
@@ -18,15 +19,15 @@ use kept_replies::Ready;
 use names_realms::Moment;
 use permissions::Policy;
 use request_effects::{
-    Change, Context, Effect, Numbered, Planned, Shows, keep_of, numbered_of, plan_change, show,
-    shows_of,
+    Context, Numbered, Shows, keep_of, numbered_of, plan_change, show, shows_of,
 };
 use request_rules::{Call, Located};
+use service_effects::{Change, Effect, Planned};
 use std::alloc::{AllocError, Global};
 
 impl Core {
-    /// What is to be kept of a request of a caller of this name that has this effect, with all room
-    /// that it takes. `Err` where there is no memory.
+    /// What is to be kept of a request of a caller of this name that has this effect, for which
+    /// there is room, with all room that it takes. `Err` where there is no memory.
     fn ready(
         &mut self,
         alloc: Global,
@@ -34,12 +35,14 @@ impl Core {
         numbered: Option<Numbered>,
         effect: &Effect,
     ) -> Result<Option<Ready>, AllocError>
+        requires { HasRoom self.old.held effect.now }
         ensures roomier { IsRoomier self.old self.new }
         ensures keep { IfOk result (λ keep. keep
-            ≡ kept_of self.old.held.world name.now numbered effect.now) }
+            ≡ kept_of (recorded_in self.old.held) name.now numbered effect.now) }
         ensures room { IfOk result (λ keep. IfSome keep (λ _. 0 < self.new.keeps.room)) }
+        ensures held { self.new.held ≡ self.old.held }
     {
-        let Some(reply) = keep_of(alloc, &self.world, name, numbered, effect)? else {
+        let Some(reply) = keep_of(alloc, &self.tables, name, numbered, effect)? else {
             return Ok(None);
         };
         Ok(Some(self.kept.prepare(alloc, reply)?))
@@ -55,12 +58,12 @@ impl Core {
         shows: Shows,
     ) -> Result<Prepared, AllocError>
         requires fits { Fits self.old.held change.moment change.effect }
-        requires own { IsOwn self.old.held.world change.effect shows }
+        requires own { IsOwn (recorded_in self.old.held) change.effect shows }
         ensures roomier { IsRoomier self.old self.new }
         ensures shown { IfOk result (IsShown (record { policy = policy.now }) self.old
             (record { change = change; keep = keep }) shows) }
     {
-        let answer = show(alloc, &mut self.world, policy, &change, shows)?;
+        let answer = show(alloc, &mut self.tables, policy, &change, shows)?;
         if change.effect.is_nothing() {
             return Ok(Prepared::Answered(answer));
         }
@@ -80,16 +83,16 @@ impl Core {
     ) -> Result<Prepared, AllocError>
         requires there { call.caller < length policy.now.users }
         requires places { places.now
-            ≡ located self.old.held.world.invocations (demand_of call.request) }
-        requires timely { IsTimely self.old.held.world moment }
-        requires safe { IsSafe self.old.held.world moment
+            ≡ located self.old.held.world.world.invocations (demand_of call.request) }
+        requires timely { IsTimely self.old.held.world.world moment }
+        requires safe { IsSafe self.old.held.world.world moment
             (caller_name (record { policy = policy.now }) call.caller) call.request }
         ensures roomier { IsRoomier self.old self.new }
         ensures comes { (asked : Asked) → IsDigested asked (demand_of call.request) call.digest
             → IfOk result (ComesTo (record { policy = policy.now }) self.new moment asked
             call.caller call.request) }
     {
-        let shows = shows_of(&self.world, places, &call.request);
+        let shows = shows_of(&self.tables, places, &call.request);
         let numbered = numbered_of(alloc, &call)?;
         let name = policy.name_of(call.caller);
         let context = Context {
@@ -97,8 +100,8 @@ impl Core {
             name,
             located: places,
         };
-        match plan_change(alloc, &mut self.world, &context, call.request)? {
-            Planned::Full(table) => Ok(Prepared::Refused(table.answer(alloc)?)),
+        match plan_change(alloc, &mut self.tables, &context, call.request)? {
+            Planned::Refused(fault) => Ok(Prepared::Refused(fault.answer(alloc)?)),
             Planned::Ready(effect) => {
                 let keep = self.ready(alloc, name, numbered, &effect)?;
                 let change = Change { moment, effect };

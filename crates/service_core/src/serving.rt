@@ -9,9 +9,11 @@ ghost use Rattle.request_rules.specs.Locating.{located};
 ghost use Rattle.request_rules.specs.Numbered.{IsNumbered};
 ghost use Rattle.request_rules.specs.Settings.{caller_name};
 ghost use Rattle.request_rules.specs.Understood.{IsCallOf, IsUnderstood};
-ghost use Rattle.request_effects.specs.Fitting.{IsTimely};
+ghost use Rattle.service_effects.specs.Fitting.{IsTimely};
 ghost use Rattle.service_core.specs.CoreState.{IsRoomier, more_changes, world_in};
-ghost use Rattle.service_core.specs.Service.{CatchesUp, empty_service};
+ghost use Rattle.service_effects.specs.Service.{empty_service};
+ghost use Rattle.service_effects.specs.States.{recorded_in};
+ghost use Rattle.service_core.specs.Service.{CatchesUp};
 ghost use Rattle.service_core.specs.Step.{moment_of};
 ghost use Rattle.service_core.specs.Plans.{CanDo, CanKeep, Carries, Fits, IsPrepared, Works};
 ghost use Rattle.request_effects.specs.Keeps.{kept_answer, with_kept};
@@ -21,15 +23,15 @@ ghost use Rattle.service_core.specs.History.{Serves};
 
 use crate::plan::{Plan, Prepared, Work};
 use call_forms::{Answer, Standin, Told};
-use invocation_world::InvocationWorld;
 use invocations::Invocation;
 use kept_replies::{KeptReplies, Ready};
 use names_realms::Moment;
 use permissions::Policy;
-use request_effects::{carry_out, show_kept};
+use request_effects::show_kept;
 use request_rules::{
     Call, Located, NumberCheck, Rule, Situation, Understood, check_number, holding_for,
 };
+use service_effects::{Tables, carry_out};
 use std::alloc::{AllocError, Global};
 use std::marker::Model;
 
@@ -40,7 +42,7 @@ const LATEST_CALL: i64 = 253_370_764_800_000_000;
 /// alone is understood before, by as many callers at once as there are.
 #[derive(Drop)]
 pub struct Core {
-    pub(crate) world: InvocationWorld,
+    pub(crate) tables: Tables,
     pub(crate) kept: KeptReplies,
     pub(crate) changes: u64,
 }
@@ -58,7 +60,7 @@ impl Model for Core {
 
     ghost Value = { CoreState };
 
-    ghost view = { λ c. record { held = c.world; keeps = c.kept; changes = c.changes } };
+    ghost view = { λ c. record { held = c.tables; keeps = c.kept; changes = c.changes } };
 }
 
 impl Core {
@@ -66,10 +68,10 @@ impl Core {
     pub fn new(alloc: Global) -> Result<Core, AllocError>
         ensures { IfOk result (λ core. world_in core ≡ empty_service) }
     {
-        let world = InvocationWorld::new(alloc)?;
+        let tables = Tables::new(alloc)?;
         let kept = KeptReplies::new(alloc);
         Ok(Core {
-            world,
+            tables,
             kept,
             changes: 0,
         })
@@ -77,37 +79,37 @@ impl Core {
 
     /// The invocations, in order of creation.
     pub fn invocations(&self) -> &[Invocation]
-        ensures value { result.now ≡ self.now.held.world.invocations }
-        ensures valid { IsValid self.now.held.world }
+        ensures value { result.now ≡ self.now.held.world.world.invocations }
+        ensures valid { IsValid self.now.held.world.world }
     {
-        self.world.rows()
+        self.tables.world.rows()
     }
 
     /// The moment of a call: what the clock says, in microseconds since 1970, brought into
     /// 1970-01-01T00:00:00Z to 9999-01-01T00:00:00Z, and no earlier than the last change.
     pub fn moment_of(&self, now: i64) -> Moment
-        ensures value { result ≡ moment_of self.now.held.world.last now }
+        ensures value { result ≡ moment_of self.now.held.world.world.last now }
         ensures in_range { IsCallMoment result }
-        ensures later { self.now.held.world.last ≤ℤ result }
+        ensures later { self.now.held.world.world.last ≤ℤ result }
     {
-        Moment::new(later_of(within_years(now), self.world.last().micros()))
+        Moment::new(later_of(within_years(now), self.tables.world.last().micros()))
     }
 
     /// Whether a deadline is due at a moment.
     pub fn is_due(&self, moment: Moment) -> bool
-        ensures due { MatchBool result (IsDueAt self.now.held.world moment)
-            (IsQuiet self.now.held.world moment) }
-        ensures valid { IsValid self.now.held.world }
+        ensures due { MatchBool result (IsDueAt self.now.held.world.world moment)
+            (IsQuiet self.now.held.world.world moment) }
+        ensures valid { IsValid self.now.held.world.world }
     {
-        self.world.is_due(moment)
+        self.tables.world.is_due(moment)
     }
 
     /// The plan that carries out the deadlines that are due at a moment. It changes nothing yet.
     /// `Err` where there is no memory.
     pub fn prepare_tick(&mut self, alloc: Global, moment: Moment) -> Result<Plan, AllocError>
         requires in_range { IsCallMoment moment }
-        requires later { self.old.held.world.last ≤ℤ moment }
-        requires due { IsDueAt self.old.held.world moment }
+        requires later { self.old.held.world.world.last ≤ℤ moment }
+        requires due { IsDueAt self.old.held.world.world moment }
         ensures core { self.new ≡ self.old }
         ensures work { IfOk result (λ plan. plan.work ≡ Work.Tick moment) }
         ensures keep { IfOk result (λ plan. plan.keep ≡ None) }
@@ -130,8 +132,8 @@ impl Core {
     ) -> Result<Option<Answer>, AllocError>
         requires there { call.now.caller < length policy.now.users }
         requires places { found.now.places.now
-            ≡ located self.now.held.world.invocations (demand_of call.now.request) }
-        ensures valid { IfOk result (λ _. IsValid self.now.held.world) }
+            ≡ located self.now.held.world.world.invocations (demand_of call.now.request) }
+        ensures valid { IfOk result (λ _. IsValid self.now.held.world.world) }
         ensures told { (asked : Asked) → IsCallOf (record { policy = policy.now }) asked call.now
             → IsNumbered self.now.keeps.kept
             (caller_name (record { policy = policy.now }) call.now.caller) asked
@@ -142,7 +144,7 @@ impl Core {
         let holding = holding_for(alloc, policy, call)?;
         let situation = Situation {
             policy,
-            table: self.world.table(),
+            table: self.tables.world.table(),
             moment,
             holding: &holding,
             located: found.places,
@@ -166,10 +168,10 @@ impl Core {
         ensures { (reply : KeptReply) → slice_get self.now.keeps.kept place ≡ Some reply
             → IfOk result (λ answer. answer ≡ kept_answer (record {
               settings = record { policy = policy.now };
-              world = self.now.held.world;
+              world = recorded_in self.now.held;
             }) reply.answer) }
     {
-        show_kept(alloc, &self.world, policy, &self.kept.reply(place).answer)
+        show_kept(alloc, &self.tables, policy, &self.kept.reply(place).answer)
     }
 
     /// What a caller's request comes to at this moment that is no repeat, by what its number comes
@@ -183,8 +185,8 @@ impl Core {
         number: NumberCheck,
     ) -> Result<Prepared, AllocError>
         requires in_range { IsCallMoment moment }
-        requires later { self.old.held.world.last ≤ℤ moment }
-        requires quiet { IsQuiet self.old.held.world moment }
+        requires later { self.old.held.world.world.last ≤ℤ moment }
+        requires quiet { IsQuiet self.old.held.world.world moment }
         requires other { (place : ℕ) → number ≢ NumberCheck.Repeat place }
         requires call { (asked : Asked) × IsCallOf (record { policy = policy.now }) asked call
             × IsNumbered self.old.keeps.kept
@@ -198,7 +200,7 @@ impl Core {
             → IfOk result (IsPrepared (record { policy = policy.now }) self.new moment asked) }
     {
         let _ = policy.tables();
-        let places = Located::of(alloc, self.world.table(), &call.request)?;
+        let places = Located::of(alloc, self.tables.world.table(), &call.request)?;
         let found = LookedUp {
             places: &places,
             number,
@@ -218,8 +220,8 @@ impl Core {
         call: Call,
     ) -> Result<Prepared, AllocError>
         requires in_range { IsCallMoment moment }
-        requires later { self.old.held.world.last ≤ℤ moment }
-        requires quiet { IsQuiet self.old.held.world moment }
+        requires later { self.old.held.world.world.last ≤ℤ moment }
+        requires quiet { IsQuiet self.old.held.world.world moment }
         requires call { (asked : Asked) × IsCallOf (record { policy = policy.now }) asked call }
         ensures roomier { IsRoomier self.old self.new }
         ensures prepared { (asked : Asked) → IsCallOf (record { policy = policy.now }) asked call
@@ -246,8 +248,8 @@ impl Core {
         understood: Understood,
     ) -> Result<Prepared, AllocError>
         requires in_range { IsCallMoment moment }
-        requires later { self.old.held.world.last ≤ℤ moment }
-        requires quiet { IsQuiet self.old.held.world moment }
+        requires later { self.old.held.world.world.last ≤ℤ moment }
+        requires quiet { IsQuiet self.old.held.world.world moment }
         requires understood { (asked : Asked)
             × IsUnderstood (record { policy = policy.now }) asked understood }
         ensures roomier { IsRoomier self.old self.new }
@@ -264,13 +266,13 @@ impl Core {
     /// Does what was planned.
     fn work(&mut self, work: Work)
         requires { CanDo self.old.held work }
-        ensures world { Works self.old.held.world work self.new.held.world }
+        ensures made { Works (recorded_in self.old.held) work (recorded_in self.new.held) }
         ensures keeps { self.new.keeps ≡ self.old.keeps }
         ensures changes { self.new.changes ≡ self.old.changes }
     {
         match work {
-            Work::Tick(moment) => self.world.advance(moment),
-            Work::Change(change) => carry_out(&mut self.world, change),
+            Work::Tick(moment) => self.tables.world.advance(moment),
+            Work::Change(change) => carry_out(&mut self.tables, change),
         }
     }
 
@@ -305,9 +307,9 @@ impl Core {
     /// `Err` where there is no memory, and then nothing was changed.
     fn catch_up(&mut self, alloc: Global, moment: Moment) -> Result<(), AllocError>
         requires in_range { IsCallMoment moment }
-        requires later { self.old.held.world.last ≤ℤ moment }
+        requires later { self.old.held.world.world.last ≤ℤ moment }
         ensures ok { OnOk result (CatchesUp (world_in self.old) moment (world_in self.new)) }
-        ensures timely { OnOk result (IsTimely self.new.held.world moment) }
+        ensures timely { OnOk result (IsTimely self.new.held.world.world moment) }
         ensures err { OnErr result (world_in self.new ≡ world_in self.old) }
     {
         if self.is_due(moment) {
@@ -325,7 +327,7 @@ impl Core {
         moment: Moment,
         understood: Result<Understood, AllocError>,
     ) -> Result<Prepared, AllocError>
-        requires timely { IsTimely self.old.held.world moment }
+        requires timely { IsTimely self.old.held.world.world moment }
         requires understood { (asked : Asked)
             × IfOk understood (IsUnderstood (record { policy = policy.now }) asked) }
         ensures roomier { IsRoomier self.old self.new }
@@ -347,7 +349,7 @@ impl Core {
         moment: Moment,
         understood: Result<Understood, AllocError>,
     ) -> Told
-        requires timely { IsTimely self.old.held.world moment }
+        requires timely { IsTimely self.old.held.world.world moment }
         requires understood { (asked : Asked)
             × IfOk understood (IsUnderstood (record { policy = policy.now }) asked) }
         ensures { (asked : Asked)

@@ -137,3 +137,27 @@ next_row rows batch done row rest asked holder is can split =
       subst (λ h. length (places_in (rows ++ done) h) < 100_000) (sym next.own) (let c = next.count in omega (arith, c, can.few, within)),
       within,
     )
+
+table_push : (rows : List TestExoneration) (row : TestExoneration) → IsTable rows → length (places_in rows row.holder) < 100_000
+    → IsPlaced rows row → IsTable (rows ++ row ∷ [])
+table_push rows row table below placed = record {
+  few = λ holder. few_push rows row holder table.few below;
+  placed = placed_push rows row table.placed placed;
+}
+
+table_after : (rows batch done rest asked : List TestExoneration) (holder : ℕ)
+    → batch ≡ given holder (length (places_in rows holder)) asked → CanAdd rows holder (length batch) → batch ≡ done ++ rest
+    → IsTable (rows ++ done) → IsTable (rows ++ batch)
+table_after rows batch done [] asked holder is can split table =
+    subst (λ rs. IsTable (rows ++ rs)) (sym (split ∙ append-nil done)) table
+table_after rows batch done (row ∷ rest) asked holder is can split table =
+    let next = next_row rows batch done row rest asked holder is can split in
+    table_after rows batch (done ++ row ∷ []) rest asked holder is can (split ∙ sym (append_assoc done (row ∷ []) rest))
+    (subst IsTable (append_assoc rows done (row ∷ [])) (table_push (rows ++ done) row table next.1 next.0.placed))
+
+-- a table with a batch that can come in is one
+pub table_with : (rows batch : List TestExoneration) (holder : ℕ) (asked : List TestExoneration)
+    → batch ≡ given holder (length (places_in rows holder)) asked → CanAdd rows holder (length batch) → IsTable rows
+    → IsTable (rows ++ batch)
+table_with rows batch holder asked is can table =
+    table_after rows batch [] batch asked holder is can refl (subst IsTable (sym (append-nil rows)) table)

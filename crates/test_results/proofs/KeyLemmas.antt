@@ -30,7 +30,7 @@ key_same a b e f g =
     let i : List ℕ → Key = λ x. record { holder = b.holder; test = b.test; id = x } in
     ap h e ∙ ap t f ∙ ap i g
 
-same_key : (a b : Key) → key_order a b ≡ Equal → a ≡ b
+pub same_key : (a b : Key) → key_order a b ≡ Equal → a ≡ b
 same_key a b e =
     let parts = then_equal (ordering_then (nat_cmp a.holder b.holder) (slice_cmp nat_cmp a.test b.test)) (slice_cmp nat_cmp a.id b.id) e in
     let firsts = then_equal (nat_cmp a.holder b.holder) (slice_cmp nat_cmp a.test b.test) parts.0 in

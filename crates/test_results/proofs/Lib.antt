@@ -1,5 +1,6 @@
 pub mod BatchLemmas
 pub mod ExonerationLemmas
+pub mod FaultLemmas
 pub mod KeyLemmas
 pub mod LawLemmas
 pub mod ListLemmas

@@ -1,4 +1,4 @@
-use Rattle.invocation_world.proofs.FinalFacts.{row_final, begin_final, update_final, inclusions_final}
+use Rattle.invocation_world.proofs.FinalFacts.{row_final, begin_final, update_final, inclusions_final, moment_final}
 use Rattle.invocation_world.proofs.laws.changes_keep_final.Goals as goal
 
 pub returns : goal.returns
@@ -7,4 +7,5 @@ returns c = λ moment w place valid. (
   λ active. begin_final moment w place active,
   λ deadline tags active. update_final moment w place deadline tags active,
   λ targets active. inclusions_final moment w place targets valid active,
+  moment_final moment w,
 )

@@ -1,4 +1,4 @@
-use Rattle.invocation_world.proofs.KeepFacts.{MayChange, keeps_added, keeps_included, keeps_retired, keeps_updated}
+use Rattle.invocation_world.proofs.KeepFacts.{MayChange, keeps_added, keeps_included, keeps_moment, keeps_retired, keeps_updated}
 use Rattle.invocation_world.proofs.laws.changes_keep_valid.Goals as goal
 
 pub returns : goal.returns
@@ -8,4 +8,5 @@ returns c = λ moment w place valid call later quiet.
       λ after active s. keeps_retired moment w place after may active s,
       λ deadline tags active given pairs. keeps_updated moment w place deadline tags may active given pairs,
       λ targets active are few. keeps_included moment w place targets may active are few,
+      keeps_moment moment w may,
     )

@@ -9,7 +9,7 @@ use Rattle.request_effects.proofs.ahead.Ahead.answer.Goals as goal
 
 pub returns : goal.returns
 returns c after acts =
-    let w = c.args.self.now.world.now.world in
+    let w = c.args.self.now.tables.now.world.world in
     IfOk-weaker c.done.result (λ (a : Answer). a ≡ done c.args.token (reply.Invocation c.shown_with-shown.result))
     (λ (a : Answer). a ≡ done c.args.token (reply_at after c.args.place (slice_get after.invocations c.args.place)))
     (λ a is.

@@ -1,0 +1,13 @@
+use Rattle.std.proofs.Common.{false, List, subst}
+use Rattle.names_realms.specs.declared.pairs.Pair.{Pair}
+use Rattle.json_fields.specs.Kinds.{never_empty}
+use Rattle.json_fields.specs.Tags.{a_tag, IsTag, tag_data}
+use Rattle.json_fields.specs.Writing.{AllWritten}
+use Rattle.invocation_forms.proofs.CreateLaws.{new_written}
+use Rattle.invocation_forms.proofs.create.NewInvocation.write.Goals as goal
+
+pub returns-clause-again : goal.returns-clause-again
+returns-clause-again c =
+    new_written c.args.self.now.realm c.args.self.now.deadline c.args.self.now.tags
+    c.in_ok-write_required.ensures.again c.in_ok-write_optional.ensures.again
+    (subst (λ (tags : List Pair). AllWritten a_tag IsTag never_empty (λ _. false) tag_data tags) c.as_slice.ensures c.in_ok-write_list.ensures.again)

@@ -1,0 +1,10 @@
+pub mod Names
+pub mod Masks
+pub mod Named
+pub mod Create
+pub mod Updates
+pub mod Included
+pub mod Users
+pub mod Shown
+pub mod Replies
+pub mod Laws

@@ -1,0 +1,20 @@
+//! The forms of requests for invocations: what a request to make, change, end or show one says,
+//! what is written of it, and what replies show of an invocation. Each kind of request has a file
+//! of its own.
+#![tactic(auto)]
+
+mod create;
+mod included;
+pub mod laws;
+mod masks;
+mod named;
+mod names;
+mod replies;
+mod shown;
+mod updates;
+
+pub use create::{CreateInvocation, NewInvocation};
+pub use included::UpdateIncludedInvocations;
+pub use named::NamedInvocation;
+pub use replies::{ShownInvocation, invocation_value, state_name};
+pub use updates::UpdateInvocation;

@@ -1,0 +1,150 @@
+//! The lists of replies and requests, as JSON.
+ghost use Rattle.std.specs.Prelude.{◌≡◌, ◌++◌, ◌∷◌, [], IfOk, OnOk, false, map};
+ghost use Rattle.serde_json.specs.Data.{array};
+ghost use Rattle.serde_json.specs.View.{view, members_view, items_of};
+ghost use Rattle.json_fields.specs.Kinds.{empty_text};
+ghost use Rattle.json_fields.specs.Writing.{IsWritten, AllWritten, put_list};
+ghost use Rattle.invocation_forms.specs.Named.{an_invocation_name, IsNameOf, name_data};
+ghost use Rattle.invocation_forms.specs.Shown.{as_text, pair_data};
+
+use json_fields::{Name, put, tag_value};
+use lists::Listed;
+use names_realms::{InvocationId, Pair};
+use serde_json::{Map, Value};
+use std::alloc::{AllocError, Global};
+use std::str::from_utf8;
+
+/// The text of bytes, as a reply shows it: none where they aren't UTF-8.
+pub(crate) fn text_of(bytes: &[u8]) -> &str
+    ensures { result.now ≡ as_text bytes.now }
+{
+    match from_utf8(bytes) {
+        Ok(text) => text,
+        Err(_) => "",
+    }
+}
+
+/// The value that names an invocation.
+pub(crate) fn name_value(alloc: Global, id: &InvocationId) -> Result<Value, AllocError>
+    ensures value { IfOk result (λ v. view v ≡ name_data id.now) }
+    ensures again { OnOk result (IsWritten an_invocation_name IsNameOf empty_text
+        (λ _. false) id.now (name_data id.now)) }
+{
+    let id = id.as_str();
+    let text = format!(in alloc; "invocations/{id}")?;
+    Ok(Value::String(text))
+}
+
+/// Appends the value that names an invocation.
+fn add_name(alloc: Global, list: &mut Vec<Value>, id: &InvocationId) -> Result<(), AllocError>
+    ensures values { OnOk result (map view list.new.items
+        ≡ map view list.old.items ++ name_data id.now ∷ []) }
+    ensures again { OnOk result (IsWritten an_invocation_name IsNameOf empty_text
+        (λ _. false) id.now (name_data id.now)) }
+{
+    let value = name_value(alloc, id)?;
+    list.push(value)?;
+    Ok(())
+}
+
+/// The list that names invocations.
+fn names_value(alloc: Global, ids: &[InvocationId]) -> Result<Value, AllocError>
+    ensures value { IfOk result (λ v. view v ≡ array (items_of (map name_data ids.now))) }
+    ensures again { OnOk result (AllWritten an_invocation_name IsNameOf empty_text
+        (λ _. false) name_data ids.now) }
+{
+    let mut list = Vec::with_capacity(alloc, ids.len())?;
+    for id in ids {
+        add_name(alloc, &mut list, id)?;
+    }
+    Ok(Value::Array(list))
+}
+
+/// Puts the names of invocations, where there are any.
+pub(crate) fn put_names(
+    alloc: Global,
+    members: &mut Map<String, Value>,
+    name: Name,
+    ids: &[InvocationId],
+) -> Result<(), AllocError>
+    ensures members { OnOk result (members_view members.new.entries
+        ≡ put_list name name_data ids.now (members_view members.old.entries)) }
+    ensures again { OnOk result (AllWritten an_invocation_name IsNameOf empty_text
+        (λ _. false) name_data ids.now) }
+{
+    if ids.is_empty() {
+        return Ok(());
+    }
+    let value = names_value(alloc, ids)?;
+    put(alloc, members, &name, value)?;
+    Ok(())
+}
+
+/// The list that names invocations of the table.
+fn included_value(alloc: Global, ids: &[&InvocationId]) -> Result<Value, AllocError>
+    ensures { IfOk result (λ v. view v ≡ array (items_of (map name_data (map
+        (λ id. id.now) ids.now)))) }
+{
+    let mut list = Vec::with_capacity(alloc, ids.len())?;
+    for id in ids {
+        add_name(alloc, &mut list, *id)?;
+    }
+    Ok(Value::Array(list))
+}
+
+/// Puts the names of invocations of the table, where there are any.
+pub(crate) fn put_included(
+    alloc: Global,
+    members: &mut Map<String, Value>,
+    name: Name,
+    ids: &[&InvocationId],
+) -> Result<(), AllocError>
+    ensures { OnOk result (members_view members.new.entries
+        ≡ put_list name name_data (map (λ id. id.now) ids.now) (members_view members.old.entries)) }
+{
+    if ids.is_empty() {
+        return Ok(());
+    }
+    let value = included_value(alloc, ids)?;
+    put(alloc, members, &name, value)
+}
+
+/// Appends the value of a pair.
+fn add_pair(alloc: Global, list: &mut Vec<Value>, pair: &Pair) -> Result<(), AllocError>
+    ensures { OnOk result (map view list.new.items
+        ≡ map view list.old.items ++ pair_data pair.now ∷ []) }
+{
+    let key = text_of(pair.key.as_slice());
+    let text = text_of(pair.value.as_slice());
+    let value = tag_value(alloc, key, text)?;
+    list.push(value)?;
+    Ok(())
+}
+
+/// The list of pairs.
+fn pairs_value(alloc: Global, pairs: &[Pair]) -> Result<Value, AllocError>
+    ensures { IfOk result (λ v. view v ≡ array (items_of (map pair_data pairs.now))) }
+{
+    let mut list = Vec::with_capacity(alloc, pairs.len())?;
+    for pair in pairs {
+        add_pair(alloc, &mut list, pair)?;
+    }
+    Ok(Value::Array(list))
+}
+
+/// Puts pairs, where there are any.
+pub(crate) fn put_pairs(
+    alloc: Global,
+    members: &mut Map<String, Value>,
+    name: Name,
+    pairs: &[Pair],
+) -> Result<(), AllocError>
+    ensures { OnOk result (members_view members.new.entries
+        ≡ put_list name pair_data pairs.now (members_view members.old.entries)) }
+{
+    if pairs.is_empty() {
+        return Ok(());
+    }
+    let value = pairs_value(alloc, pairs)?;
+    put(alloc, members, &name, value)
+}

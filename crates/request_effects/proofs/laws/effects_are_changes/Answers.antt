@@ -1,5 +1,0 @@
-use Rattle.request_effects.proofs.EffectLaws.{effects_change}
-use Rattle.request_effects.proofs.laws.effects_are_changes.Goals as goal
-
-pub returns : goal.returns
-returns c = effects_change

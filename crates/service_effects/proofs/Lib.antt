@@ -1,0 +1,6 @@
+pub mod IdFacts
+pub mod EffectLaws
+pub mod RefusedLaws
+pub mod DoneFacts
+pub mod BatchFacts
+pub mod SoundLaws

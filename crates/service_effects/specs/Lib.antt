@@ -1,0 +1,7 @@
+pub mod Service
+pub mod States
+pub mod Effects
+pub mod Fitting
+pub mod Refused
+pub mod Planned
+pub mod Laws
