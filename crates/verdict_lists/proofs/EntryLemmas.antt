@@ -148,7 +148,7 @@ holder_is : (world : World) (holder : ℕ) (entry : Entry) → HeldBy world hold
 holder_is world holder (Result place) h = holder_get (λ (row : TestResult). row.holder) world.results place h.0 h.1 ∙ h.2
 holder_is world holder (Exoneration place) h = holder_get (λ (row : TestExoneration). row.holder) world.exonerations place h.0 h.1 ∙ h.2
 
-rising_agree : {X : Type 0} (R S : X → X → Ordering) (xs : List X) → ((a b : X) → In a xs → In b xs → R a b ≡ Less → S a b ≡ Less)
+pub rising_agree : {X : Type 0} (R S : X → X → Ordering) (xs : List X) → ((a b : X) → In a xs → In b xs → R a b ≡ Less → S a b ≡ Less)
     → IsRising R xs → IsRising S xs
 rising_agree R S [] f h = tt
 rising_agree R S (x ∷ xs) f h = (

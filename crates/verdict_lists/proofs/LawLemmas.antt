@@ -11,10 +11,11 @@ use Rattle.verdict_lists.specs.Orders.{result_key_at, exoneration_key_at}
 use Rattle.verdict_lists.specs.Statuses.{status_of}
 use Rattle.verdict_lists.specs.Verdicts.{AreNumbered, AreVerdicts, IsAlike, IsVerdict, first_key, is_like, is_some, verdict_key}
 use Rattle.verdict_lists.specs.Groups.{plain}
-use Rattle.verdict_lists.specs.Laws.{OneList}
+use Rattle.verdict_lists.specs.Laws.{OneList, OneListing}
 use Rattle.verdict_lists.proofs.ListLemmas.{In, in_from, contains_from, every_at, in_map, from_map, rising_unique}
 use Rattle.verdict_lists.proofs.OrderLemmas.{result_order_total, exoneration_order_total}
 use Rattle.verdict_lists.proofs.VerdictLemmas.{alike_back, alike_on, verdict_order_total}
+use Rattle.verdict_lists.proofs.ListingLemmas.{listed_order_total}
 use Rattle.verdict_lists.proofs.NumberLemmas.{plain_rises}
 
 same_results : (world : World) (roots : List ℕ) (v w : Verdict) → IsVerdict world roots v → IsVerdict world roots w
@@ -51,7 +52,7 @@ same_parts v w s l r e =
     let with_exonerations : List ℕ → Verdict = λ x. record { status = w.status; label = w.label; results = w.results; exonerations = x; ordinal = 0 } in
     ap with_status s ∙ ap with_label l ∙ ap with_results r ∙ ap with_exonerations e
 
-same_plain : (world : World) (roots : List ℕ) (v w : Verdict) → IsVerdict world roots v → IsVerdict world roots w
+pub same_plain : (world : World) (roots : List ℕ) (v w : Verdict) → IsVerdict world roots v → IsVerdict world roots w
     → IsAlike (verdict_key world v) (verdict_key world w) → plain v ≡ plain w
 same_plain world roots v w h k alike =
     let r = same_results world roots v w h k alike in
@@ -95,7 +96,7 @@ alike_more world before other x y e h z =
 same_head : (x y : Verdict) (xs ys : List Verdict) → (x ∷ xs) ≡ (y ∷ ys) → (x ≡ y) × (xs ≡ ys)
 same_head x y xs ys e = (cc, cc)
 
-same_verdict : (x y : Verdict) → plain x ≡ plain y → x.ordinal ≡ y.ordinal → x ≡ y
+pub same_verdict : (x y : Verdict) → plain x ≡ plain y → x.ordinal ≡ y.ordinal → x ≡ y
 same_verdict x y e n =
     let numbered : ℕ → Verdict → Verdict = λ m v. record v { ordinal = m } in
     ap (λ m. numbered m x) n ∙ ap (numbered y.ordinal) e
@@ -117,3 +118,9 @@ one_list_is world roots one other a b =
     (rising_unique (verdict_order_total world) (map plain one) (map plain other) (plain_rises world one a.rise) (plain_rises world other b.rise)
     (in_other world roots one other a b) (in_other world roots other one b a))
     a.numbered b.numbered
+
+pub one_listing_is : OneListing
+one_listing_is world roots one other a b =
+    rising_unique (listed_order_total world) one other a.rise b.rise
+    (λ p i. in_from other p ((b.all p).1 ((a.all p).0 (contains_from one p i))))
+    (λ p i. in_from one p ((a.all p).1 ((b.all p).0 (contains_from other p i))))

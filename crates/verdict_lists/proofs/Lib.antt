@@ -1,9 +1,12 @@
 pub mod EntryLemmas
 pub mod GroupLemmas
+pub mod KeptLemmas
 pub mod LawLemmas
 pub mod ListLemmas
 pub mod ListingLemmas
 pub mod NumberLemmas
 pub mod OrderLemmas
+pub mod SortLemmas
 pub mod TallyLemmas
+pub mod ThereLemmas
 pub mod VerdictLemmas

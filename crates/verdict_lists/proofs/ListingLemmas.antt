@@ -22,7 +22,7 @@ use Rattle.verdict_lists.proofs.ListLemmas.{In, in_from, contains_from, from_pic
 use Rattle.verdict_lists.proofs.OrderLemmas.{result_order_total, unequal_from}
 use Rattle.verdict_lists.proofs.VerdictLemmas.{result_entry, results_rise_}
 
-names_order_total : IsTotalOrder names_order
+pub names_order_total : IsTotalOrder names_order
 names_order_total =
     then_total (on_total (λ (k : Key). k.invocation) nat_list_cmp_total)
     (then_total (on_total (λ (k : Key). k.test) nat_list_cmp_total) (on_total (λ (k : Key). k.id) nat_list_cmp_total))

@@ -14,7 +14,7 @@ use Rattle.std.proofs.lemmas.List.Sorted.{Contains-permutation, IsPermutation-sy
 use Rattle.std.proofs.lemmas.List.Sums.{count_by-le-length, length-filter, sum_by-append}
 use Rattle.verdict_lists.specs.declared.entries.Entry.{Entry}
 use Rattle.verdict_lists.specs.declared.verdict.Verdict.{Verdict}
-use Rattle.verdict_lists.specs.World.{World}
+use Rattle.verdict_lists.specs.World.{World, IsReachedResult}
 use Rattle.verdict_lists.specs.Orders.{IsRising, pairs_order}
 use Rattle.verdict_lists.specs.Statuses.{status_number}
 use Rattle.verdict_lists.specs.Verdicts.{AreNumbered, AreVerdicts, IsVerdict, front_order, is_like, verdict_key, verdict_order}
@@ -29,7 +29,7 @@ front_order_total world =
     then_total (on_total (λ (v : Verdict). status_number v.status) nat_cmp_total)
     (then_total (on_total (λ (v : Verdict). (verdict_key world v).test) nat_list_cmp_total) (on_total (λ (v : Verdict). v.label) nat_list_cmp_total))
 
-count_agree : {X : Type 0} (p q : X → Bool) (xs : List X) → ((x : X) → p x ≡ q x) → count_by p xs ≡ count_by q xs
+pub count_agree : {X : Type 0} (p q : X → Bool) (xs : List X) → ((x : X) → p x ≡ q x) → count_by p xs ≡ count_by q xs
 count_agree p q xs h = sym (length-filter p xs) ∙ ap length (filter_agree p q h xs) ∙ length-filter q xs
 
 count_none : {X : Type 0} (p : X → Bool) (xs : List X) → ((x : X) → In x xs → p x ≡ false) → count_by p xs ≡ 0
@@ -148,24 +148,33 @@ plain_is_verdict world roots verdict h = record {
 any_from : {X : Type 0} (P : X → Type 0) (xs : List X) (x : X) → In x xs → P x → Any P xs
 any_from P xs x i p = let c = contains_from xs x i in (c.0, x, c.1, c.2, p)
 
+-- verdicts in order that get their ordinals
+pub are_numbered : (world : World) (roots : List ℕ) (sorted list : List Verdict) → ((v : Verdict) → In v sorted → IsVerdict world roots v)
+    → ((place : ℕ) → IsReachedResult world roots place → (v : Verdict) × In v sorted × Contains v.results place)
+    → IsRising (verdict_order world) sorted → map plain list ≡ map plain sorted → AreNumbered world [] list → AreVerdicts world roots list
+are_numbered world roots sorted list each all rise same numbered = record {
+  each = All-from_recursion (IsVerdict world roots) list (every_from (IsVerdict world roots) list (λ v i.
+      let m = from_map plain sorted (plain v) (subst (In (plain v)) same (in_map plain list v i)) in
+      plain_is_verdict world roots v (subst (IsVerdict world roots) m.2 (is_verdict_plain world roots m.0 (each m.0 m.1)))));
+  all = λ place h.
+      let r = all place h in
+      let m = from_map plain list (plain r.0) (subst (In (plain r.0)) (sym same) (in_map plain sorted r.0 r.1)) in
+      any_from (λ (v : Verdict). Contains v.results place) list m.0 m.1
+      (subst (λ (v : Verdict). Contains v.results place) (sym m.2) r.2);
+  rise = rising_plain world sorted list same rise;
+  numbered = numbered;
+}
+
 pub are_verdicts : (world : World) (roots : List ℕ) (entries : List Entry) (verdicts sorted list : List Verdict) → AreReached world roots entries
     → AreGrouped world entries verdicts → IsPermutation verdicts sorted → IsSorted (verdict_order world) sorted
     → map plain list ≡ map plain sorted → AreNumbered world [] list → AreVerdicts world roots list
-are_verdicts world roots entries verdicts sorted list reached cut p up same numbered = record {
-  each = All-from_recursion (IsVerdict world roots) list (every_from (IsVerdict world roots) list (λ v i.
-      let m = from_map plain sorted (plain v) (subst (In (plain v)) same (in_map plain list v i)) in
-      let held = in_from verdicts m.0 (Contains-permutation sorted verdicts m.0 (IsPermutation-sym verdicts sorted p) (contains_from sorted m.0 m.1)) in
-      plain_is_verdict world roots v (subst (IsVerdict world roots) m.2
-      (is_verdict_plain world roots m.0 (each_verdict world roots entries verdicts reached cut m.0 held)))));
-  all = λ place h.
-      let r = each_result world roots entries verdicts reached cut place h in
-      let there = in_from sorted r.0 (Contains-permutation verdicts sorted r.0 p (contains_from verdicts r.0 r.1)) in
-      let m = from_map plain list (plain r.0) (subst (In (plain r.0)) (sym same) (in_map plain sorted r.0 there)) in
-      any_from (λ (v : Verdict). Contains v.results place) list m.0 m.1
-      (subst (λ (v : Verdict). Contains v.results place) (sym m.2) r.2);
-  rise = rising_plain world sorted list same (verdicts_rise world roots entries verdicts sorted reached cut p up);
-  numbered = numbered;
-}
+are_verdicts world roots entries verdicts sorted list reached cut p up =
+    are_numbered world roots sorted list
+    (λ v i. each_verdict world roots entries verdicts reached cut v (in_from verdicts v (Contains-permutation sorted verdicts v (IsPermutation-sym verdicts sorted p) (contains_from sorted v i))))
+    (λ place h.
+    let r = each_result world roots entries verdicts reached cut place h in
+    (r.0, in_from sorted r.0 (Contains-permutation verdicts sorted r.0 p (contains_from verdicts r.0 r.1)), r.2))
+    (verdicts_rise world roots entries verdicts sorted reached cut p up)
 
 -- The verdict before a place is the last one in front of it.
 pub last_split : (xs : List Verdict) (at : ℕ) (u : Verdict) → at ≢ 0 → at ≤ length xs → u ≡ get_or xs (at - 1) u → take at xs ≡ take (at - 1) xs ++ u ∷ []

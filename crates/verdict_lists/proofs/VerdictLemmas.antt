@@ -37,11 +37,11 @@ made_by_case world entries verdict true e (inl s) = (e, s)
 made_by_case world entries verdict true e (inr never) = absurd never
 made_by_case world entries verdict false e never = absurd never
 
-made_cases : (world : World) (entries : List Entry) (verdict : Verdict) → In verdict (made_of world entries)
+pub made_cases : (world : World) (entries : List Entry) (verdict : Verdict) → In verdict (made_of world entries)
     → (is_some (results_in entries) ≡ true) × (made world entries ≡ verdict)
 made_cases world entries verdict i = made_by_case world entries verdict (is_some (results_in entries)) refl i
 
-in_made : (world : World) (entries : List Entry) → is_some (results_in entries) ≡ true → In (made world entries) (made_of world entries)
+pub in_made : (world : World) (entries : List Entry) → is_some (results_in entries) ≡ true → In (made world entries) (made_of world entries)
 in_made world entries e = subst (λ b. In (made world entries) (if b then made world entries ∷ [] else [])) (sym e) (inl refl)
 
 made_rises : (world : World) (R : Verdict → Verdict → Ordering) (entries : List Entry) → IsRising R (made_of world entries)
@@ -59,13 +59,13 @@ exoneration_entry (Result q) place e = let never : None ≡ Some place = e in cc
 exoneration_entry (Exoneration q) place e = let s : q ≡ place = cc in ap Exoneration s
 
 -- the entries like a head
-abbrev group : World → List Entry → Entry → List Entry
+abbrev pub group : World → List Entry → Entry → List Entry
 group world entries head = filter (is_same world head) entries
 
 alike_same : (world : World) (head entry : Entry) → is_same world head entry ≡ true → IsAlike (entry_key world head) (entry_key world entry)
 alike_same world head entry e = alike_from (entry_key world head) (entry_key world entry) (equal_from (group_of_entries world head entry) e)
 
-same_alike : (world : World) (head entry : Entry) → IsAlike (entry_key world head) (entry_key world entry) → is_same world head entry ≡ true
+pub same_alike : (world : World) (head entry : Entry) → IsAlike (entry_key world head) (entry_key world entry) → is_same world head entry ≡ true
 same_alike world head entry h = ap is_eq (equal_alike (entry_key world head) (entry_key world entry) h)
 
 from_results : (world : World) (roots : List ℕ) (entries : List Entry) → AreReached world roots entries → (head : Entry) (place : ℕ)
@@ -75,7 +75,7 @@ from_results world roots entries reached head place i =
     let f = from_filter (is_same world head) entries (Result place) (subst (λ e. In e (group world entries head)) (result_entry p.0 place p.2) p.1) in
     ((reached.all (Result place)).0 (contains_from entries (Result place) f.0), alike_same world head (Result place) f.1)
 
-in_results : (world : World) (roots : List ℕ) (entries : List Entry) → AreReached world roots entries → (head : Entry) (place : ℕ)
+pub in_results : (world : World) (roots : List ℕ) (entries : List Entry) → AreReached world roots entries → (head : Entry) (place : ℕ)
     → IsReachedResult world roots place → IsAlike (entry_key world head) (result_key_at world place) → In place (results_in (group world entries head))
 in_results world roots entries reached head place r h =
     in_picked result_in (group world entries head) (Result place) place
@@ -103,7 +103,7 @@ some_length : (places : List ℕ) → is_some places ≡ true → 0 < length pla
 some_length [] e = absurd (true≢false (sym e))
 some_length (place ∷ places) e = omega arith
 
-mapped_or : {X Y : Type 0} (f : X → Y) (xs : List X) (k : ℕ) (x : X) (d : Y) → slice_get xs k ≡ Some x → get_or (map f xs) k d ≡ f x
+pub mapped_or : {X Y : Type 0} (f : X → Y) (xs : List X) (k : ℕ) (x : X) (d : Y) → slice_get xs k ≡ Some x → get_or (map f xs) k d ≡ f x
 mapped_or f [] k x d e = let never : None ≡ Some x = e in cc
 mapped_or f (y ∷ ys) zero x d e = let s : y ≡ x = cc in ap f s
 mapped_or f (y ∷ ys) (suc k) x d e = mapped_or f ys k x d e
@@ -129,7 +129,7 @@ made_key : (world : World) (roots : List ℕ) (entries : List Entry) → AreReac
 made_key world roots entries reached head some =
     first_alike world (entry_key world head) (results_in (group world entries head)) some (λ place i. (from_results world roots entries reached head place i).1)
 
-made_is : (world : World) (roots : List ℕ) (entries : List Entry) → AreReached world roots entries → (head : Entry)
+pub made_is : (world : World) (roots : List ℕ) (entries : List Entry) → AreReached world roots entries → (head : Entry)
     → is_some (results_in (group world entries head)) ≡ true → IsVerdict world roots (made world (group world entries head))
 made_is world roots entries reached head some =
     let g = group world entries head in
@@ -170,7 +170,7 @@ contains_done : (world : World) (entries : List Entry) (verdicts : List Verdict)
     → In entry entries → In entry cut.done
 contains_done world entries verdicts cut entry i = subst (In entry) (cut.split ∙ append-nil cut.done) i
 
-some_in : (places : List ℕ) (place : ℕ) → In place places → is_some places ≡ true
+pub some_in : (places : List ℕ) (place : ℕ) → In place places → is_some places ≡ true
 some_in [] place i = absurd i
 some_in (p ∷ places) place i = refl
 

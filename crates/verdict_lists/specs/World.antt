@@ -4,8 +4,10 @@ use Rattle.std.specs.List.{filter_map}
 use Rattle.inclusion_graph.specs.declared.edge.Edge.{Edge}
 use Rattle.inclusion_graph.specs.Walks.{IsReached}
 use Rattle.invocations.specs.declared.invocation.Invocation.{Invocation}
+use Rattle.invocations.specs.Rows.{IsTable as AreInvocations}
 use Rattle.test_results.specs.declared.result.TestResult.{TestResult}
 use Rattle.test_results.specs.declared.exoneration.TestExoneration.{TestExoneration}
+use Rattle.test_results.specs.Results.{IsTable as AreResults}
 use Rattle.verdict_lists.specs.declared.view.View.{View}
 
 -- Invocations, which of them includes which, and the results and exonerations that they hold. A row
@@ -27,6 +29,14 @@ world_of view = record {
 -- The graph has a node for each invocation.
 abbrev pub IsWhole : View → Type 0
 IsWhole view = view.graph.now.nodes ≡ length view.table.now.rows
+
+-- Invocations include those that are there, no two of them have one id, and no two results of one
+-- have the same names.
+pub record IsKept (world : World) : Type 0 where
+  pub from : All (λ (edge : Edge). edge.from < length world.invocations) world.edges
+  pub to : All (λ (edge : Edge). edge.to < length world.invocations) world.edges
+  pub invocations : AreInvocations world.invocations
+  pub results : AreResults world.results
 
 -- Each root is the place of an invocation.
 abbrev pub AreRoots : World → List ℕ → Type 0

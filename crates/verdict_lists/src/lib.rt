@@ -16,4 +16,4 @@ mod view;
 pub use gathering::gather;
 pub use listing::list_results;
 pub use verdict::{Verdict, VerdictStatus};
-pub use view::View;
+pub use view::{View, rows_are_kept};

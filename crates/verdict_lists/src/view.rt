@@ -2,7 +2,7 @@
 ghost use Rattle.std.specs.Prelude.{◌≡◌};
 ghost use Rattle.verdict_lists.specs.Entries.{entry_key, seen};
 ghost use Rattle.verdict_lists.specs.Orders.{exoneration_key_at, id_at, result_key_at};
-ghost use Rattle.verdict_lists.specs.World.{world_of};
+ghost use Rattle.verdict_lists.specs.World.{IsKept, IsWhole, world_of};
 
 use crate::entries::Entry;
 use crate::keys::{Key, no_key};
@@ -20,9 +20,19 @@ pub struct View<'a> {
     pub exonerations: &'a ExonerationRows,
 }
 
+/// What is so of the rows of each view. This does nothing: what it ensures is the law.
+pub fn rows_are_kept(view: &View)
+    requires { IsWhole view.now }
+    ensures { IsKept (world_of view.now) }
+{
+    let _edges = view.graph.edges();
+    let _invocations = view.table.rows();
+    let _results = view.results.rows();
+}
+
 impl<'a> View<'a> {
     /// The id of the invocation at a place; empty where there is none.
-    fn invocation_id(&self, holder: u32) -> &'a str
+    pub fn invocation_id(&self, holder: u32) -> &'a str
         ensures { result.now ≡ id_at (world_of self.now) holder }
     {
         let table = self.table;

@@ -1,13 +1,13 @@
 -- Cuts of a text, and what is seen where it is cut.
 use Rattle.std.proofs.Common.{◌≡◌, ◌<◌, ◌≤◌, ℕ, zero, suc, Bool, true, false, List, [], ◌∷◌, length, take, Option, Some, None, if◌then◌else◌, ℤ, inl, inr, refl, sym, ap, ◌∙◌, subst, arith}
-use Rattle.std.proofs.lemmas.Bool.{cases_lt, true≢false}
+use Rattle.std.proofs.lemmas.Bool.{cases_Bool, cases_lt, true≢false}
 use Rattle.std.proofs.lemmas.List.{length-take}
 use Rattle.names_realms.specs.declared.states.Status.{Status}
 use Rattle.test_results.specs.declared.result.TestResult.{TestResult}
 use Rattle.verdict_masks.specs.declared.shown.ShownResult.{ShownResult}
-use Rattle.verdict_masks.specs.Cuts.{IsBoundary, IsCut, is_inside}
-use Rattle.verdict_masks.specs.Masks.{DifferHidden, Hidden, IsMasked, Seen, hidden_of, seen}
-use Rattle.verdict_masks.specs.Laws.{HiddenUnseen, OneCut}
+use Rattle.verdict_masks.specs.Cuts.{IsCut, is_inside}
+use Rattle.verdict_masks.specs.Masks.{DifferHidden, IsMasked, Seen, hidden_of, seen}
+use Rattle.verdict_masks.specs.Laws.{HasCut, HiddenUnseen, OneCut}
 
 take_all : {X : Type 0} (xs : List X) → xs ≡ take (length xs) xs
 take_all [] = refl
@@ -38,6 +38,23 @@ cut_at text end_ few long boundary behind =
         | inr ge ↦ omega (arith, len, ge)
       ];
     }
+
+cut_below : (text : List ℕ) (end_ : ℕ) → end_ ≤ 140 → 140 < length text
+    → ((place : ℕ) → end_ < place → place ≤ 140 → is_inside text place ≡ true) → (cut : List ℕ) × IsCut text cut
+cut_below text zero few long behind = (take 0 text, cut_at text 0 few long refl behind)
+cut_below text (suc n) few long behind = elim (cases_Bool (is_inside text (suc n))) [
+  | inl inside ↦ cut_below text n (omega arith) long (λ place lt most. elim (cases_lt (suc n) place) [
+    | inl above ↦ behind place above most
+    | inr ge ↦ let same : suc n ≡ place = omega arith in subst (λ m. is_inside text m ≡ true) same inside
+  ])
+  | inr out ↦ (take (suc n) text, cut_at text (suc n) few long out behind)
+]
+
+pub has_cut_is : HasCut
+has_cut_is text = elim (cases_lt 140 (length text)) [
+  | inl long ↦ cut_below text 140 (omega arith) long (λ place lt most. absurd (omega arith))
+  | inr short ↦ (text, whole_cut text short)
+]
 
 pub one_cut_is : OneCut
 one_cut_is text one other a b =

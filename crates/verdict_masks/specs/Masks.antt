@@ -3,7 +3,6 @@ use Rattle.std.specs.Prelude.{◌≡◌, ℕ, ℤ, Bool, true, false, List, Opti
 use Rattle.names_realms.specs.declared.pairs.Pair.{Pair}
 use Rattle.names_realms.specs.declared.states.Status.{Status}
 use Rattle.names_realms.specs.Variants.{label_of}
-use Rattle.policy_checks.specs.declared.permission.Permission.{Permission}
 use Rattle.policy_checks.specs.declared.permission.Permission.TheVariants.{GetTestResult}
 use Rattle.policy_tables.specs.declared.tables.PolicyTables.{PolicyTables}
 use Rattle.permissions.specs.Allows.{Allows}

@@ -6,5 +6,5 @@ pub mod laws;
 mod masks;
 mod shown;
 
-pub use masks::{show, shows_variant};
+pub use masks::{may_see, show, shows_variant};
 pub use shown::ShownResult;

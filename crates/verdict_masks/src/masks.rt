@@ -1,29 +1,22 @@
 //! What a caller is shown.
-ghost use Rattle.std.specs.Prelude.{◌≡◌, ◌↔◌, ◌<◌, IsTrue, MatchBool, length};
-ghost use Rattle.permissions.specs.Allows.{Allows};
+ghost use Rattle.std.specs.Prelude.{◌≡◌, ◌↔◌, IsTrue, MatchBool};
 ghost use Rattle.verdict_lists.specs.World.{world_of};
-ghost use Rattle.verdict_masks.specs.Masks.{IsMasked, IsWhole, MaySee, MaySeeResult, ShowsVariant};
+ghost use Rattle.verdict_masks.specs.Masks.{IsMasked, IsWhole, MaySeeResult, ShowsVariant};
 
 use crate::cuts::cut;
 use crate::shown::ShownResult;
-use names_realms::Realm;
 use permissions::Granted;
 use policy_checks::Permission;
 use test_results::TestResult;
 use verdict_lists::{Verdict, View};
 
-/// A result as it is shown to a caller, by what is granted to see results: whole where that is
-/// granted in the realm of the invocation that holds it, else masked.
-pub fn show<'a>(row: &'a TestResult, realm: &Realm, granted: &Granted) -> ShownResult<'a>
-    requires { granted.now.permission ≡ Permission.GetTestResult }
-    ensures tells { MatchBool result.masked
-        (¬ MaySee granted.now.policy granted.now.caller realm.now)
-        (MaySee granted.now.policy granted.now.caller realm.now) }
-    ensures shows { MatchBool result.masked (IsMasked row.now result) (IsWhole row.now result) }
+/// A result as it is shown: whole to one who may see it so, else masked.
+pub fn show(row: &TestResult, whole: bool) -> ShownResult<'_>
+    ensures { MatchBool whole (IsWhole row.now result) (IsMasked row.now result) }
 {
     let label = row.variant.label();
     let message = row.message.as_slice();
-    if granted.in_realm(realm) {
+    if whole {
         return ShownResult {
             row,
             label,
@@ -39,8 +32,9 @@ pub fn show<'a>(row: &'a TestResult, realm: &Realm, granted: &Granted) -> ShownR
     }
 }
 
-/// Whether the result at a place may be seen whole.
-fn may_see(view: &View, place: u32, granted: &Granted) -> bool
+/// Whether the result at a place may be seen whole: where seeing results is granted in the realm of
+/// the invocation that holds it.
+pub fn may_see(view: &View, place: u32, granted: &Granted) -> bool
     requires { granted.now.permission ≡ Permission.GetTestResult }
     ensures { IsTrue result
         ↔ MaySeeResult (world_of view.now) granted.now.policy granted.now.caller place }

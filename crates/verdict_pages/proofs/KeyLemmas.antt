@@ -1,23 +1,26 @@
--- The keys of verdicts rise.
-use Rattle.std.proofs.Common.{◌≡◌, ◌<◌, ◌≤◌, ◌+◌, cond, List, [], ◌∷◌, ◌++◌, Ordering, refl, ap, ◌∙◌, subst, inl, inr, arith}
+-- The keys of verdicts rise, and those of results.
+use Rattle.std.proofs.Common.{◌≡◌, ◌<◌, ◌≤◌, ◌+◌, ℕ, cond, List, [], ◌∷◌, ◌++◌, Ordering, refl, ap, ◌∙◌, subst, inl, inr, arith}
 use Rattle.std.specs.Cmp.{IsTotalOrder}
 use Rattle.std.specs.Cmp.Lexicographic.{slice_cmp, nat_list_cmp_total}
 use Rattle.std.specs.List.{count_by}
 use Rattle.std.specs.Ordering.{nat_cmp, ordering_then, is_eq}
 use Rattle.std.specs.declared.cmp.Ordering.TheVariants.{Less, Equal, Greater}
-use Rattle.std.proofs.lemmas.Cmp.{then_total, on_total, nat_cmp_total}
+use Rattle.std.proofs.lemmas.Cmp.{then_total, on_total, nat_cmp_total, tied_itself}
 use Rattle.std.proofs.lemmas.List.Sums.{sum_by-append}
 use Rattle.verdict_lists.specs.declared.verdict.Verdict.{Verdict}
-use Rattle.verdict_lists.specs.World.{World}
-use Rattle.verdict_lists.specs.Orders.{IsRising, pairs_order}
+use Rattle.verdict_lists.specs.World.{World, AreRoots, IsKept, IsReachedResult}
+use Rattle.verdict_lists.specs.Orders.{IsRising, pairs_order, result_key_at}
+use Rattle.verdict_lists.specs.Listing.{listed_order, names_order}
 use Rattle.verdict_lists.specs.Statuses.{status_number}
 use Rattle.verdict_lists.specs.Verdicts.{AreNumbered, front_order, is_like, verdict_order, verdict_key as key_of_results}
-use Rattle.verdict_lists.proofs.ListLemmas.{In, every_from, every_at}
+use Rattle.verdict_lists.proofs.KeptLemmas.{one_named}
+use Rattle.verdict_lists.proofs.ListLemmas.{In, contains_from, every_from, every_at, not_equal}
+use Rattle.verdict_lists.proofs.ListingLemmas.{listed_order_total}
 use Rattle.verdict_lists.proofs.OrderLemmas.{then_front, then_less}
 use Rattle.verdict_lists.proofs.EntryLemmas.{less_from_lt}
 use Rattle.verdict_lists.proofs.NumberLemmas.{like_last}
-use Rattle.verdict_pages.specs.Keys.{VerdictPlace, by_verdict, verdict_place}
-use Rattle.verdict_pages.specs.Laws.{VerdictKeysRise}
+use Rattle.verdict_pages.specs.Keys.{ResultPlace, VerdictPlace, by_result, by_verdict, result_place, verdict_place}
+use Rattle.verdict_pages.specs.Laws.{ResultsRise, VerdictKeysRise}
 
 pub by_verdict_total : IsTotalOrder by_verdict
 by_verdict_total =
@@ -70,3 +73,33 @@ keys_rise world before (x ∷ xs) rise numbered = (
 
 pub verdict_keys_rise_is : VerdictKeysRise
 verdict_keys_rise_is world roots list h = keys_rise world [] list h.rise h.numbered
+
+pub by_result_total : IsTotalOrder by_result
+by_result_total =
+    then_total (on_total (λ (k : ResultPlace). k.invocation) nat_list_cmp_total)
+    (then_total (on_total (λ (k : ResultPlace). k.test) nat_list_cmp_total) (on_total (λ (k : ResultPlace). k.result) nat_list_cmp_total))
+
+named_apart : (world : World) (roots : List ℕ) → IsKept world → AreRoots world roots → (p q : ℕ) → IsReachedResult world roots p
+    → IsReachedResult world roots q → listed_order world p q ≡ Less → by_result (result_place world p) (result_place world q) ≡ Less
+named_apart world roots kept are p q r s e =
+    elim (then_less (names_order (result_key_at world p) (result_key_at world q)) (nat_cmp p q) e) [
+      | inl less ↦ less
+      | inr equal ↦
+          let same : p ≡ q = one_named world roots kept are p q r s equal in
+          let tied : listed_order world p q ≡ Equal = subst (λ n. listed_order world p n ≡ Equal) same (tied_itself (listed_order_total world) p) in
+          absurd (not_equal (listed_order world p q) e tied)
+    ]
+
+results_rise : (world : World) (roots : List ℕ) → IsKept world → AreRoots world roots → (list : List ℕ)
+    → ((p : ℕ) → In p list → IsReachedResult world roots p) → IsRising (listed_order world) list
+    → IsRising (λ p q. by_result (result_place world p) (result_place world q)) list
+results_rise world roots kept are [] reached rise = tt
+results_rise world roots kept are (p ∷ list) reached rise = (
+  every_from (λ q. by_result (result_place world p) (result_place world q) ≡ Less) list (λ q i.
+      named_apart world roots kept are p q (reached p (inl refl)) (reached q (inr i)) (every_at (λ n. listed_order world p n ≡ Less) list rise.0 q i)),
+  results_rise world roots kept are list (λ q i. reached q (inr i)) rise.1,
+)
+
+pub results_rise_is : ResultsRise
+results_rise_is world roots list kept are h =
+    results_rise world roots kept are list (λ p i. (h.all p).0 (contains_from list p i)) h.rise

@@ -1,9 +1,9 @@
-//! Pages of lists of verdicts: what stands behind a key, so much of it as is asked.
+//! Pages of lists of verdicts and of results: what stands behind a key, so much of it as is asked.
 #![tactic(auto)]
 
 mod keys;
 pub mod laws;
 mod paging;
 
-pub use keys::{VerdictKey, verdict_key};
-pub use paging::{Page, verdict_page};
+pub use keys::{ResultKey, VerdictKey, result_key, verdict_key};
+pub use paging::{Page, result_page, verdict_page};
