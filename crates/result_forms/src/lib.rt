@@ -7,7 +7,7 @@ mod elements;
 mod exonerations;
 pub mod laws;
 mod members;
-mod names;
+pub mod names;
 mod reasons;
 mod replies;
 mod results;
@@ -16,4 +16,9 @@ mod values;
 mod written;
 
 pub use batches::{BatchCreateTestExonerations, BatchCreateTestResults};
-pub use replies::{exoneration_value, result_value};
+pub use members::put_some;
+pub use replies::{exoneration_value, name_of_result, result_value};
+pub use shown::{
+    bytes_value, flag_value, properties_value, reason_value, spelled_value, status_value,
+    tags_value, text_value, variant_value,
+};

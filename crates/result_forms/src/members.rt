@@ -19,7 +19,7 @@ pub(crate) trait Shown {
 }
 
 /// Puts a value under a name, where there is one.
-pub(crate) fn put_some(
+pub fn put_some(
     alloc: Global,
     map: &mut Map<String, Value>,
     name: Name,

@@ -51,7 +51,11 @@ fn put_label(
 
 /// The name of a result of an invocation.
 #[tactic(auto, unfolding(names_realms::specs::ResultNames::result_name))]
-fn name_of_result(alloc: Global, id: &InvocationId, row: &TestResult) -> Result<String, AllocError>
+pub fn name_of_result(
+    alloc: Global,
+    id: &InvocationId,
+    row: &TestResult,
+) -> Result<String, AllocError>
     ensures { IfOk result (λ text. string_bytes text ≡ name_of_result id.now row.now) }
 {
     let id = id.as_str();

@@ -26,7 +26,7 @@ fn text_of(bytes: &[u8]) -> &str
 }
 
 /// A text.
-pub(crate) fn text_value(alloc: Global, text: &str) -> Result<Option<Value>, AllocError>
+pub fn text_value(alloc: Global, text: &str) -> Result<Option<Value>, AllocError>
     ensures { IfOk result (λ o. option_map view o ≡ Some (string text.now)) }
 {
     let value = Value::try_from_str(alloc, text)?;
@@ -34,7 +34,7 @@ pub(crate) fn text_value(alloc: Global, text: &str) -> Result<Option<Value>, All
 }
 
 /// The text of bytes, none where it is empty.
-pub(crate) fn bytes_value(alloc: Global, bytes: &[u8]) -> Result<Option<Value>, AllocError>
+pub fn bytes_value(alloc: Global, bytes: &[u8]) -> Result<Option<Value>, AllocError>
     ensures { IfOk result (λ o. option_map view o ≡ text_shown bytes.now) }
 {
     let text = text_of(bytes);
@@ -45,14 +45,14 @@ pub(crate) fn bytes_value(alloc: Global, bytes: &[u8]) -> Result<Option<Value>, 
 }
 
 /// A flag, none where it is off.
-pub(crate) fn flag_value(on: bool) -> Option<Value>
+pub fn flag_value(on: bool) -> Option<Value>
     ensures { option_map view result ≡ flag_shown on }
 {
     if on { Some(Value::Bool(true)) } else { None }
 }
 
 /// The name of a status.
-pub(crate) fn status_value(alloc: Global, status: Status) -> Result<Option<Value>, AllocError>
+pub fn status_value(alloc: Global, status: Status) -> Result<Option<Value>, AllocError>
     ensures { IfOk result (λ o. option_map view o ≡ Some (string (status_name status))) }
 {
     let value = StatusName { status }.write(alloc)?;
@@ -60,7 +60,7 @@ pub(crate) fn status_value(alloc: Global, status: Status) -> Result<Option<Value
 }
 
 /// A value with one text, where there is one.
-pub(crate) fn spelled_value<T: SpelledOut>(
+pub fn spelled_value<T: SpelledOut>(
     alloc: Global,
     x: &Option<T>,
 ) -> Result<Option<Value>, AllocError>
@@ -89,7 +89,7 @@ impl Shown for Pair {
 }
 
 /// The list of tags, none where there are none.
-pub(crate) fn tags_value(alloc: Global, tags: &[Pair]) -> Result<Option<Value>, AllocError>
+pub fn tags_value(alloc: Global, tags: &[Pair]) -> Result<Option<Value>, AllocError>
     ensures { IfOk result (λ o. option_map view o ≡ tags_shown tags.now) }
 {
     if tags.is_empty() {
@@ -122,7 +122,7 @@ fn pairs_value(alloc: Global, pairs: &[Pair]) -> Result<Value, AllocError>
 }
 
 /// The object of a variant, none where it has no pairs.
-pub(crate) fn variant_value(alloc: Global, pairs: &[Pair]) -> Result<Option<Value>, AllocError>
+pub fn variant_value(alloc: Global, pairs: &[Pair]) -> Result<Option<Value>, AllocError>
     ensures { IfOk result (λ o. option_map view o ≡ variant_shown pairs.now) }
 {
     if pairs.is_empty() {
@@ -135,7 +135,7 @@ pub(crate) fn variant_value(alloc: Global, pairs: &[Pair]) -> Result<Option<Valu
 }
 
 /// The reason of a failure by its message, none where that is empty.
-pub(crate) fn reason_value(alloc: Global, message: &[u8]) -> Result<Option<Value>, AllocError>
+pub fn reason_value(alloc: Global, message: &[u8]) -> Result<Option<Value>, AllocError>
     ensures { IfOk result (λ o. option_map view o ≡ reason_shown message.now) }
 {
     match bytes_value(alloc, message)? {
@@ -166,7 +166,7 @@ fn right_object(alloc: Global, value: Value) -> Result<Option<Value>, AllocError
 }
 
 /// The object that a text of properties is, none where it is of none.
-pub(crate) fn properties_value(alloc: Global, text: &[u8]) -> Result<Option<Value>, AllocError>
+pub fn properties_value(alloc: Global, text: &[u8]) -> Result<Option<Value>, AllocError>
     ensures { IfOk result (λ o. option_map view o ≡ properties_shown text.now) }
 {
     match Value::from_str(alloc, text_of(text)) {

@@ -1,0 +1,285 @@
+-- Page tokens: a text is one cursor's at most, and some cursor's where it has no fault; and a token
+-- that is written is read again.
+use Rattle.std.proofs.Common.{◌≡◌, ℕ, suc, ◌+◌, ◌^◌, ◌<◌, ◌==◌, true, false, List, [], ◌∷◌, ◌++◌, length, get_or, Option, Some, None, IfSome, option_map, refl, sym, ap, subst, ◌∙◌, arith}
+use Rattle.std.specs.Option.{ForSome, option_or}
+use Rattle.std.specs.Int.{w32, to_le_bytes, from_le_bytes}
+use Rattle.std.specs.Str.{IsUtf8}
+use Rattle.std.proofs.lemmas.Nat.{le_bytes_4, from_le_bytes-to_le_bytes_4}
+use Rattle.std.proofs.lemmas.List.{append-nil}
+use Rattle.std.specs.Prelude.{if◌then◌else◌}
+use Rattle.serde_json.specs.Data.{Data, null, boolean, number, string, array, object, Members}
+use Rattle.base64.specs.Engines.{standard}
+use Rattle.base64.specs.GeneralPurpose.{IsBytes, decoded_of, encode_of}
+use Rattle.base64.proofs.Streams.{decoded_of-nil}
+use Rattle.sha2.proofs.Facts256.{length-sha256}
+use Rattle.json_fields.specs.Fields.{filled_at, member, HoldsMaybe}
+use Rattle.json_fields.specs.Kinds.{empty_text}
+use Rattle.json_fields.specs.Writing.{IsWritten, put_optional}
+use Rattle.json_fields.proofs.FormLaws.{GivesForm}
+use Rattle.json_fields.proofs.MeaningLaws.{maybe_one, text_one}
+use Rattle.field_kinds.specs.Defaults.{HoldsOr}
+use Rattle.field_kinds.proofs.FilledLaws.{filled_form, filled_written}
+use Rattle.field_kinds.specs.Filled.{optional_filled}
+use Rattle.field_kinds.proofs.ReadValues.{IsReadValue}
+use Rattle.field_kinds.proofs.ThereLaws.{IsThere, there_or_filled}
+use Rattle.page_tokens.specs.declared.faults.TokenFault.{TokenFault}
+use Rattle.page_tokens.specs.declared.faults.TokenFault.TheVariants.{NotBase64, BadForm, OtherQuery, Memory}
+use Rattle.page_tokens.specs.declared.keys.KeyPart.{KeyPart}
+use Rattle.page_tokens.specs.declared.keys.KeyPart.TheVariants.{Text}
+use Rattle.name_parts.specs.declared.parts.PartForm.TheVariants.{TestId}
+use Rattle.page_tokens.specs.declared.kinds.ResultCursor.{ResultCursor}
+use Rattle.page_tokens.specs.declared.kinds.VerdictCursor.{VerdictCursor}
+use Rattle.page_tokens.specs.Cursors.{result_parts, result_contents, verdict_parts, verdict_contents}
+use Rattle.page_tokens.specs.Keys.{AreContents, key_bytes, part_bytes}
+use Rattle.page_tokens.specs.Tokens.{IsToken, bytes_fault, decoded_fault, front_place, query_fault, query_hash, token_bytes, token_fault}
+use Rattle.page_tokens.proofs.KindLemmas.{one_byte}
+use Rattle.page_tokens.proofs.TokenLemmas.{at_front, no_fault, one_told, only_tokens}
+use Rattle.query_forms.specs.Names as name
+use Rattle.query_forms.specs.Tokens.{CursorForm, result_cursors, verdict_cursors, token_refused, a_token, IsTokenOf, IsCursor, a_page_token, IsPageToken, query_in, token_text, IsCursorOfForm}
+use Rattle.query_forms.proofs.DecodedLaws.{decoded_is, utf8_bytes}
+
+-- What the laws ask of a kind of cursors: what the parts of one hold is this one's, and each that
+-- they may hold is some cursor's.
+pub record IsLawfulCursor {C : Type 0} (f : CursorForm C) : Type 0 where
+  pub one : (c d : C) → f.fits c → f.fits d → f.held c ≡ f.held d → c ≡ d
+  pub there : (contents : List (List ℕ)) → AreContents f.parts contents → IsBytes (key_bytes f.parts contents) → (c : C) × (f.held c ≡ contents) × f.fits c
+
+-- ---- a token has no fault, and a text without one is a token
+
+pub token_right : {C : Type 0} (f : CursorForm C) (query text : List ℕ) (c : C) → length query ≡ 32 → IsTokenOf f query text c
+    → token_refused (token_fault query f.number f.parts text) ≡ None
+token_right f query text c size is = ap token_refused (no_fault query f.number f.parts (f.held c) text size is.is_token)
+
+at_bytes : (p r : Option ℕ) (q : Option TokenFault) → (q ≡ Some Memory → ⊥)
+    → token_refused (option_or (option_map BadForm p) (option_or q (option_map (λ n. BadForm (33 + n)) r))) ≡ None
+    → option_or (option_map BadForm p) (option_or q (option_map (λ n. BadForm (33 + n)) r)) ≡ None
+at_bytes (Some n) r q never h = absurd cc
+at_bytes None r (Some NotBase64) never h = absurd cc
+at_bytes None r (Some (BadForm at)) never h = absurd cc
+at_bytes None r (Some OtherQuery) never h = absurd cc
+at_bytes None r (Some Memory) never h = absurd (never refl)
+at_bytes None (Some n) None never h = absurd cc
+at_bytes None None None never h = refl
+
+asked_other : (query bytes : List ℕ) → query_fault query bytes ≡ Some Memory → ⊥
+asked_other query bytes h = other _ h
+  where
+    other : (t : _) → (if t then None else Some OtherQuery) ≡ Some Memory → ⊥
+    other true h = cc
+    other false h = cc
+
+bytes_unrefused : (query : List ℕ) (kind : ℕ) (parts : List KeyPart) (bytes : List ℕ) → token_refused (bytes_fault query kind parts bytes) ≡ None
+    → bytes_fault query kind parts bytes ≡ None
+unfolding bytes_fault
+bytes_unrefused query kind parts bytes h = at_bytes (front_place bytes) _ (query_fault query bytes) (asked_other query bytes) h
+
+-- what the text of a token decodes to
+record IsDecoded (query : List ℕ) (kind : ℕ) (parts : List KeyPart) (text : List ℕ) : Type 0 where
+  bytes : List ℕ
+  are : IsBytes bytes
+  spelling : text ≡ encode_of standard bytes
+  right : token_fault query kind parts (encode_of standard bytes) ≡ None
+
+decodes : (query : List ℕ) (kind : ℕ) (parts : List KeyPart) (text : List ℕ) (o : Option (List ℕ)) → IsBytes text → decoded_of standard text ≡ o
+    → token_refused (decoded_fault query kind parts o) ≡ None → IsDecoded query kind parts text
+decodes query kind parts text None are e h = absurd cc
+decodes query kind parts text (Some bytes) are e h =
+    let is = decoded_is standard text bytes (refl, refl) are e in
+    let right : token_fault query kind parts text ≡ None = ap (decoded_fault query kind parts) e ∙ bytes_unrefused query kind parts bytes h in
+    record {
+      bytes = bytes;
+      are = is.1;
+      spelling = is.0;
+      right = subst (λ (t : List ℕ). token_fault query kind parts t ≡ None) is.0 right;
+    }
+
+bytes_back : (a b : List ℕ) → IsBytes (a ++ b) → IsBytes b
+bytes_back [] b are = are
+bytes_back (x ∷ a) b are = bytes_back a b (λ i. are (suc i))
+
+key_of : (query : List ℕ) (kind : ℕ) (key : List ℕ) → IsBytes (token_bytes query kind key) → IsBytes key
+key_of query kind key are = bytes_back (kind ∷ []) key (bytes_back (1 ∷ query) (kind ∷ key) are)
+
+module _ {C : Type 0} (f : CursorForm C) (law : IsLawfulCursor f) where
+  text_there : (query text : List ℕ) → length query ≡ 32 → IsUtf8 text → token_refused (token_fault query f.number f.parts text) ≡ None
+      → (c : C) × IsTokenOf f query text c
+  text_there query text size utf8 none =
+      let is = decodes query f.number f.parts text (decoded_of standard text) (utf8_bytes text utf8) refl none in
+      let token = only_tokens query f.number f.parts is.bytes size is.are is.right in
+      let cursor = law.there token.0 token.1.are (key_of query f.number (key_bytes f.parts token.0) token.1.bytes) in
+      let here : IsToken query f.number f.parts token.0 text = subst (IsToken query f.number f.parts token.0) (sym is.spelling) token.1 in (
+        cursor.0,
+        record {
+          is_token = subst (λ (held : List (List ℕ)). IsToken query f.number f.parts held text) (sym cursor.1) here;
+          fits = cursor.2;
+        },
+      )
+
+  cursor_there : (query : List ℕ) → length query ≡ 32 → IsThere (a_token f query) (IsCursor f query)
+  cursor_there query size null is h = absurd cc
+  cursor_there query size (boolean b) is h = absurd cc
+  cursor_there query size (number n) is h = absurd cc
+  cursor_there query size (string s) is h = text_there query s size is h
+  cursor_there query size (array ds) is h = absurd cc
+  cursor_there query size (object ms) is h = absurd cc
+
+  text_one_cursor : (query s : List ℕ) (a b : C) → IsTokenOf f query s a → IsTokenOf f query s b → a ≡ b
+  text_one_cursor query s a b h k =
+      law.one a b h.fits k.fits (one_told query query f.number f.parts (f.held a) (f.held b) s refl h.is_token k.is_token).1
+
+  cursor_one : (query : List ℕ) (d : Data) (a b : C) → IsCursor f query d a → IsCursor f query d b → a ≡ b
+  cursor_one query d a b h k = text_one (IsTokenOf f query) (text_one_cursor query) d a b h k
+
+  pub page_token_one : (method : List ℕ) (d : Data) (a b : Option C) → IsPageToken f method d a → IsPageToken f method d b → a ≡ b
+  page_token_one method d a b h k = maybe_one (IsCursor f (query_in method d)) (cursor_one (query_in method d)) (filled_at name.page_token empty_text d) a b h k
+
+-- ---- a field of a request
+
+query_size : (method : List ℕ) (names : List (List ℕ)) → length (query_hash method names) ≡ 32
+unfolding query_hash
+query_size method names = length-sha256 _
+
+abbrev IsOne : {C : Type 0} → (Data → C → Type 0) → Data → Option C → Type 0
+IsOne means d None = ⊥
+IsOne means d (Some c) = means d c
+
+or_none : {C : Type 0} (means : Data → C → Type 0) (o : Option Data) (a : Option C) → HoldsOr (IsOne means) None o a → HoldsMaybe means o a
+or_none means None None h = tt
+or_none means None (Some c) h = cc h
+or_none means (Some d) None h = h
+or_none means (Some d) (Some c) h = h
+
+pub page_token_there : {C : Type 0} (f : CursorForm C) → IsLawfulCursor f → (method : List ℕ) (d : Data) → IsReadValue d → a_page_token f method d ≡ None
+    → (a : Option C) × IsPageToken f method d a
+page_token_there f law method d is h =
+    let query : List ℕ = query_in method d in
+    let size : length query ≡ 32 = query_size method _ in
+    let found = there_or_filled (a_token f query) (IsOne (IsCursor f query)) (λ e read none. let c = cursor_there f law query size e read none in (Some c.0, c.1))
+    name.page_token empty_text None d is h in
+    (found.0, or_none (IsCursor f query) (filled_at name.page_token empty_text d) found.0 found.1)
+
+cursor_formed : {C : Type 0} (f : CursorForm C) (query : List ℕ) → GivesForm (a_token f query) (IsCursor f query) (IsCursorOfForm f)
+cursor_formed f query null c none is = absurd is
+cursor_formed f query (boolean b) c none is = absurd is
+cursor_formed f query (number n) c none is = absurd is
+cursor_formed f query (string s) c none is = record { are = is.is_token.are; fits = is.fits }
+cursor_formed f query (array ds) c none is = absurd is
+cursor_formed f query (object ms) c none is = absurd is
+
+pub page_token_formed : {C : Type 0} (f : CursorForm C) (method : List ℕ) (d : Data) (a : Option C) → a_page_token f method d ≡ None → IsPageToken f method d a
+    → ForSome a (IsCursorOfForm f)
+page_token_formed f method d a none is =
+    filled_form name.page_token empty_text (a_token f (query_in method d)) (IsCursor f (query_in method d)) (IsCursorOfForm f) (cursor_formed f (query_in method d)) d a none is
+
+-- ---- what is written
+
+no_token : (query : List ℕ) (kind : ℕ) (parts : List KeyPart) → token_fault query kind parts [] ≡ None → ⊥
+no_token query kind parts h =
+    let some : token_fault query kind parts [] ≡ Some (BadForm 0) = ap (decoded_fault query kind parts) (decoded_of-nil standard) ∙ at_front query [] kind parts 0 refl in
+    let clash : Some (BadForm 0) ≡ None = sym some ∙ h in
+    cc clash
+
+some_text : (query : List ℕ) (kind : ℕ) (parts : List KeyPart) (text : List ℕ) → token_fault query kind parts text ≡ None → (length text == 0) ≡ false
+some_text query kind parts [] h = absurd (no_token query kind parts h)
+some_text query kind parts (b ∷ bs) h = grind arith
+
+pub token_written : {C : Type 0} (f : CursorForm C) (query : List ℕ) (c : C) → length query ≡ 32 → IsTokenOf f query (token_text f query c) c
+    → IsWritten (a_token f query) (IsCursor f query) empty_text (λ _. false) c (string (token_text f query c))
+token_written f query c size is =
+    let right = no_fault query f.number f.parts (f.held c) (token_text f query c) size is.is_token in
+    record {
+      is_set = refl;
+      no_fault = ap token_refused right;
+      meant = is;
+      emptiness = some_text query f.number f.parts (token_text f query c) right;
+    }
+
+-- beside members without its name it is read again as a token of what the request asks
+pub token_kept : {C : Type 0} (f : CursorForm C) (method query : List ℕ) (o : Option C) (ms : Members) → member name.page_token (object ms) ≡ None
+    → let d : Data = object (put_optional name.page_token (λ c. string (token_text f query c)) o ms) in query_in method d ≡ query
+    → IfSome o (λ c. IsWritten (a_token f query) (IsCursor f query) empty_text (λ _. false) c (string (token_text f query c)))
+    → (a_page_token f method d ≡ None) × IsPageToken f method d o
+token_kept f method query o ms none same w =
+    let d : Data = object (put_optional name.page_token (λ c. string (token_text f query c)) o ms) in
+    let read = filled_written (a_token f query) (IsCursor f query) empty_text (λ _. false) (λ c. string (token_text f query c)) name.page_token o ms none (each_some o w) in
+    subst (λ (q : List ℕ). (optional_filled name.page_token empty_text (a_token f q) d ≡ None) × HoldsMaybe (IsCursor f q) (filled_at name.page_token empty_text d) o)
+    (sym same) read
+  where
+    each_some : (o : _) → IfSome o (λ c. IsWritten (a_token f query) (IsCursor f query) empty_text (λ _. false) c (string (token_text f query c)))
+        → IfSome o (λ c. IsWritten (a_token f query) (IsCursor f query) empty_text (λ _. false) c (string (token_text f query c)) × (false ≡ false))
+    each_some None w = tt
+    each_some (Some c) w = (w, refl)
+
+-- ---- the kinds of cursors
+
+result_one : (c d : ResultCursor) → result_contents c ≡ result_contents d → c ≡ d
+result_one c d e =
+    let invocation : c.invocation ≡ d.invocation = cc in
+    let test : c.test ≡ d.test = cc in
+    let result : c.result ≡ d.result = cc in
+    λ i. record { invocation = invocation i; test = test i; result = result i }
+
+result_there : (contents : List (List ℕ)) → AreContents result_parts contents → (c : ResultCursor) × (result_contents c ≡ contents)
+result_there [] are = absurd are
+result_there (a ∷ []) are = absurd are.1
+result_there (a ∷ b ∷ []) are = absurd are.1.1
+result_there (a ∷ b ∷ e ∷ []) are = (record { invocation = a; test = b; result = e }, refl)
+result_there (a ∷ b ∷ e ∷ g ∷ rest) are = absurd are.1.1.1
+
+pub result_cursor_lawful : IsLawfulCursor result_cursors
+result_cursor_lawful = record {
+  one = λ c d h k e. result_one c d e;
+  there = λ contents are bytes. let c = result_there contents are in (c.0, c.1, tt);
+}
+
+ordinal_one : (n m : ℕ) → n < 2 ^ 32 → m < 2 ^ 32 → to_le_bytes w32 n ≡ to_le_bytes w32 m → n ≡ m
+ordinal_one n m one two e = sym (from_le_bytes-to_le_bytes_4 n one) ∙ ap (from_le_bytes w32) e ∙ from_le_bytes-to_le_bytes_4 m two
+
+verdict_one : (c d : VerdictCursor) → c.ordinal < 2 ^ 32 → d.ordinal < 2 ^ 32 → verdict_contents c ≡ verdict_contents d → c ≡ d
+verdict_one c d h k e =
+    let statuses : c.status ∷ [] ≡ d.status ∷ [] = cc in
+    let status : c.status ≡ d.status = cc in
+    let test : c.test ≡ d.test = cc in
+    let label : c.label ≡ d.label = cc in
+    let ordinals : to_le_bytes w32 c.ordinal ≡ to_le_bytes w32 d.ordinal = cc in
+    let ordinal : c.ordinal ≡ d.ordinal = ordinal_one c.ordinal d.ordinal h k ordinals in
+    λ i. record { status = status i; test = test i; label = label i; ordinal = ordinal i }
+
+-- the number of four bytes
+ordinal_there : (bs : List ℕ) → length bs ≡ 4 → IsBytes bs → (n : ℕ) × (to_le_bytes w32 n ≡ bs) × (n < 2 ^ 32)
+ordinal_there bs size are = (from_le_bytes w32 bs, le_bytes_4 bs (from_le_bytes w32 bs) size are refl, four_below bs size are)
+  where
+    four_below : (bs : List ℕ) → length bs ≡ 4 → IsBytes bs → from_le_bytes w32 bs < 2 ^ 32
+    four_below [] size are = absurd (omega arith)
+    four_below (a ∷ []) size are = absurd (omega arith)
+    four_below (a ∷ b ∷ []) size are = absurd (omega arith)
+    four_below (a ∷ b ∷ c ∷ []) size are = absurd (omega arith)
+    four_below (a ∷ b ∷ c ∷ d ∷ []) size are =
+        let one : a < 256 = are 0 in
+        let two : b < 256 = are 1 in
+        let three : c < 256 = are 2 in
+        let four : d < 256 = are 3 in
+        omega arith
+    four_below (a ∷ b ∷ c ∷ d ∷ e ∷ bs) size are = absurd (omega arith)
+
+verdict_there : (contents : List (List ℕ)) → AreContents verdict_parts contents → IsBytes (key_bytes verdict_parts contents)
+    → (c : VerdictCursor) × (verdict_contents c ≡ contents) × (c.ordinal < 2 ^ 32)
+verdict_there [] are bytes = absurd are
+verdict_there (a ∷ []) are bytes = absurd are.1
+verdict_there (a ∷ b ∷ []) are bytes = absurd are.1.1
+verdict_there (a ∷ b ∷ e ∷ []) are bytes = absurd are.1.1.1
+verdict_there (a ∷ b ∷ e ∷ g ∷ []) are bytes =
+    let status : get_or a 0 0 ∷ [] ≡ a = one_byte a are.0 in
+    let tail = bytes_back e (g ++ []) (bytes_back (part_bytes (Text TestId) b) (e ++ (g ++ [])) (bytes_back a _ bytes)) in
+    let ordinal = ordinal_there g are.1.1.1.0 (subst IsBytes (append-nil g) tail) in (
+      record { status = get_or a 0 0; test = b; label = e; ordinal = ordinal.0 },
+      rw (status, ordinal.1) refl,
+      ordinal.2,
+    )
+verdict_there (a ∷ b ∷ e ∷ g ∷ h ∷ rest) are bytes = absurd are.1.1.1.1
+
+pub verdict_cursor_lawful : IsLawfulCursor verdict_cursors
+verdict_cursor_lawful = record {
+  one = verdict_one;
+  there = verdict_there;
+}

@@ -1,0 +1,18 @@
+//! The forms of the requests that show results and verdicts: what a request to show one result, a
+//! page of results or a page of verdicts says, and what is written of it. Each kind of request has
+//! a file of its own.
+#![tactic(auto)]
+
+mod cursors;
+pub mod laws;
+mod named;
+mod names;
+mod results;
+mod single;
+mod sizes;
+mod tokens;
+mod variants;
+
+pub use results::QueryTestResults;
+pub use single::GetTestResult;
+pub use variants::QueryTestVariants;

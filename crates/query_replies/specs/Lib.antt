@@ -1,0 +1,6 @@
+pub mod Names
+pub mod Results
+pub mod Verdicts
+pub mod Pages
+pub mod Pieces
+pub mod Laws
