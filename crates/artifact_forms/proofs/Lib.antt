@@ -1,0 +1,13 @@
+pub mod Opened
+pub mod NameThere
+pub mod DecodedBytes
+pub mod HashLaws
+pub mod FieldLaws
+pub mod FileLaws
+pub mod ParentLaws
+pub mod BatchLaws
+pub mod NamedLaws
+pub mod TokenLaws
+pub mod ListLaws
+pub mod ThereLaws
+pub mod MethodLaws

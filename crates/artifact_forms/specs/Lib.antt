@@ -1,0 +1,11 @@
+pub mod Names
+pub mod Hashes
+pub mod Fields
+pub mod Files
+pub mod Parents
+pub mod Batches
+pub mod Named
+pub mod Tokens
+pub mod Listed
+pub mod Methods
+pub mod Laws

@@ -1,0 +1,136 @@
+//! The page that is asked.
+ghost use Rattle.std.specs.Prelude.{◌≡◌, ◌<◌, ◌++◌, ◌∷◌, [], Some, IfOk, OnOk, map, length, slice_get, option_map, string_bytes};
+ghost use Rattle.std.specs.List.{All};
+ghost use Rattle.artifacts.specs.Artifacts.{keys_of};
+ghost use Rattle.artifacts.specs.Orders.{id_at};
+ghost use Rattle.artifact_forms.specs.Tokens.{token_text};
+ghost use Rattle.artifact_pages.specs.Pages.{IsShownPage, next_token};
+
+use artifact_replies::ShownArtifacts;
+use artifacts::{Artifact, ArtifactPage, ArtifactRows};
+use names_realms::{ArtifactId, NameFault, Parent};
+use page_tokens::{ArtifactCursor, Query, write_token};
+use std::alloc::{AllocError, Global};
+use std::marker::Model;
+
+/// What is asked: artifacts of a parent that an invocation holds. Contracts see the values.
+#[derive(Drop)]
+pub struct AskedArtifacts<'q> {
+    /// The place of the invocation that holds them.
+    pub holder: u32,
+    pub parent: &'q Parent,
+    /// The query for which the tokens of the pages hold.
+    pub query: &'q Query,
+    /// The id of the last artifact that was shown, where one was.
+    pub after: Option<&'q ArtifactId>,
+    /// How many artifacts the page has at most.
+    pub size: u32,
+}
+
+impl<'q> Model for AskedArtifacts<'q> {
+    ghost use Rattle.std.specs.Prelude.{option_map};
+    ghost use Rattle.artifact_pages.specs.Pages.{Asked};
+
+    ghost Value = { Asked };
+
+    ghost view = { λ a. record {
+      holder = a.holder;
+      parent = a.parent.now;
+      query = a.query.now;
+      after = option_map (λ id. id.now) a.after;
+      size = a.size;
+    } };
+}
+
+/// The same id, once more.
+fn copy_of(alloc: Global, id: &ArtifactId) -> Result<ArtifactId, AllocError>
+    ensures { IfOk result (λ copy. copy ≡ id.now) }
+{
+    match ArtifactId::parse(alloc, id.as_slice()) {
+        Ok(copy) => Ok(copy),
+        Err(NameFault::Memory) => Err(AllocError),
+        Err(_) => unreachable!(),
+    }
+}
+
+/// Appends the row at a place.
+fn add_row<'t>(
+    rows: &mut Vec<&'t Artifact>,
+    table: &'t ArtifactRows,
+    place: u32,
+) -> Result<(), AllocError>
+    requires { place < length table.now.rows }
+    ensures { OnOk result (map (λ row. Some row.now) rows.new.items
+        ≡ map (λ row. Some row.now) rows.old.items ++ slice_get table.now.rows place ∷ []) }
+{
+    rows.push(table.row(place))?;
+    Ok(())
+}
+
+/// The rows at places.
+fn rows_at<'t>(
+    alloc: Global,
+    table: &'t ArtifactRows,
+    places: &[u32],
+) -> Result<Vec<&'t Artifact>, AllocError>
+    requires { All (λ place. place < length table.now.rows) places.now }
+    ensures { IfOk result (λ rows. map (λ row. Some row.now) rows.items
+        ≡ map (slice_get table.now.rows) places.now) }
+{
+    let mut rows = Vec::with_capacity(alloc, places.len())?;
+    for i in 0..places.len() {
+        add_row(&mut rows, table, places[i])?;
+    }
+    Ok(rows)
+}
+
+/// The token of the page behind the row at a place.
+fn token_behind(
+    alloc: Global,
+    table: &ArtifactRows,
+    query: &Query,
+    place: u32,
+) -> Result<String, AllocError>
+    requires { place < length table.now.rows }
+    ensures { IfOk result (λ text. string_bytes text ≡ token_text query.now
+        (record { artifact = id_at (keys_of table.now.rows) place })) }
+{
+    let row = table.row(place);
+    let artifact = copy_of(alloc, &row.name.artifact)?;
+    write_token(alloc, &ArtifactCursor { artifact }, query)
+}
+
+/// The token of the page behind the rows at places, where more are left.
+fn token_of(
+    alloc: Global,
+    table: &ArtifactRows,
+    query: &Query,
+    page: &ArtifactPage,
+) -> Result<Option<String>, AllocError>
+    requires { All (λ place. place < length table.now.rows) page.now.rows.now }
+    ensures { IfOk result (λ next. option_map string_bytes next
+        ≡ next_token table.now.rows query.now page.now.rows.now page.now.more) }
+{
+    let places = page.rows;
+    if places.is_empty() || !page.more {
+        return Ok(None);
+    }
+    let text = token_behind(alloc, table, query, places[places.len() - 1])?;
+    Ok(Some(text))
+}
+
+/// The page that is asked: the artifacts behind the last one that was shown, by id, as many as were
+/// asked for, and the token of the next page where more are left. It costs its own rows, and some
+/// look-ups by binary search. `Err` where there is no memory for it.
+pub fn show_artifacts<'t>(
+    alloc: Global,
+    table: &'t ArtifactRows,
+    asked: &AskedArtifacts,
+) -> Result<ShownArtifacts<'t>, AllocError>
+    ensures { IfOk result (λ shown. IsShownPage table.now.rows asked.now shown) }
+{
+    let page = table.list(asked.holder, asked.parent, asked.after, asked.size);
+    let rows = rows_at(alloc, table, page.rows)?;
+    let next = token_of(alloc, table, asked.query, &page)?;
+    Ok(ShownArtifacts { rows, next })
+}

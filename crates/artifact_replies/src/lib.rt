@@ -1,0 +1,12 @@
+//! What replies show of artifacts: lines of a list, and one whole with its contents in base64. Each
+//! is written straight into the text of the reply.
+#![tactic(auto)]
+
+pub mod laws;
+mod lines;
+mod listed;
+mod texts;
+mod wholes;
+
+pub use listed::{ShownArtifacts, append_artifacts};
+pub use wholes::append_artifact;
