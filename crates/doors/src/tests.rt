@@ -1,0 +1,184 @@
+//! What doors give and take back.
+use crate::{Door, MemoryDoor, TcpDoor};
+use outside::{Link, MemoryLink};
+use std::alloc::{AllocError, Global};
+use std::cell::Cell;
+use std::io;
+use std::io::{ErrorKind, Read, Write};
+use std::net::{OpenListener, OpenStream, SocketAddr, TcpListener, TcpStream};
+use std::process::Abort;
+use std::test::Fail;
+
+fn link_of(alloc: Global, bytes: &[u8]) -> Result<MemoryLink, AllocError> {
+    let mut pieces = Vec::new(alloc);
+    pieces.push(bytes.to_vec(alloc)?)?;
+    MemoryLink::new(alloc, pieces, Vec::new(alloc))
+}
+
+/// What a call on a door is to give.
+#[derive(Clone, Copy, PartialEq, Eq, Debug)]
+enum Expected {
+    Byte(u8),
+    End,
+    Fault,
+}
+
+/// The byte that a link gives in one read.
+fn byte_of<L: Link>(link: &mut L) -> Option<u8> {
+    let mut room = [0u8; 1];
+    match link.read(&mut room) {
+        Ok(1) => Some(room[0]),
+        _ => None,
+    }
+}
+
+/// A door whose link is accepted, read once and given back.
+fn check_accepted<X: Door>(rt: &impl Abort, door: &mut X, expected: Expected) {
+    let found = match door.accept() {
+        Ok(Some(mut link)) => {
+            let byte = byte_of(&mut link);
+            door.give_back(link);
+            byte.map_or(Expected::Fault, Expected::Byte)
+        }
+        Ok(None) => Expected::End,
+        Err(_) => Expected::Fault,
+    };
+    assert_eq!(rt; found, expected);
+}
+
+#[test]
+fn links_in_memory_come_in_order(rt: HostRuntime) -> Result<(), Fail> {
+    let mut links = Vec::new(rt.alloc());
+    for byte in [b"a", b"b"] {
+        links.push(link_of(rt.alloc(), byte)?)?;
+    }
+    let mut door = MemoryDoor::new(rt.alloc(), links, vec![in rt.alloc(); 2, 5]?)?;
+    for expected in [
+        Expected::Byte(b'a'),
+        Expected::Fault,
+        Expected::Byte(b'b'),
+        Expected::End,
+        Expected::Fault,
+        Expected::End,
+    ] {
+        check_accepted(&rt, &mut door, expected);
+    }
+    assert_eq!(rt;
+        (door.returned().len(), door.out(), door.faults()),
+        (2, 0, 2)
+    );
+    Ok(())
+}
+
+/// A stream that gives one byte over and over.
+#[derive(Drop)]
+struct OneByte(u8);
+
+impl Read for OneByte {
+    fn read(&mut self, room: &mut [u8]) -> io::Result<usize> {
+        if room.is_empty() {
+            return Ok(0);
+        }
+        room[0] = self.0;
+        Ok(1)
+    }
+}
+
+impl Write for OneByte {
+    fn write(&mut self, piece: &[u8]) -> io::Result<usize> {
+        Ok(piece.len())
+    }
+
+    fn flush(&mut self) -> io::Result<()> {
+        Ok(())
+    }
+}
+
+/// A stream whose byte is 0 can't be made ready: its peer is gone.
+impl OpenStream for OneByte {
+    fn set_nodelay(&self, nodelay: bool) -> io::Result<()> {
+        if nodelay && self.0 != 0 {
+            Ok(())
+        } else {
+            Err(io::Error::from(ErrorKind::InvalidInput))
+        }
+    }
+
+    fn set_read_timeout(&self, _most: Option<std::time::Duration>) -> io::Result<()> {
+        Ok(())
+    }
+
+    fn set_write_timeout(&self, _most: Option<std::time::Duration>) -> io::Result<()> {
+        Ok(())
+    }
+}
+
+/// A listener that gives what each call is to give, then fails for ever.
+#[derive(Drop)]
+struct Scripted {
+    calls: Cell<usize>,
+}
+
+const SCRIPT: [Result<u8, ErrorKind>; 8] = [
+    Err(ErrorKind::ConnectionAborted),
+    Ok(b'a'),
+    Err(ErrorKind::PermissionDenied),
+    Err(ErrorKind::Interrupted),
+    Ok(0),
+    Err(ErrorKind::ConnectionReset),
+    Ok(b'b'),
+    Ok(b'c'),
+];
+
+impl OpenListener for Scripted {
+    type Stream = OneByte;
+
+    fn accept(&self) -> io::Result<(OneByte, SocketAddr)> {
+        let call = self.calls.get();
+        self.calls.set(call.saturating_add(1));
+        let address = SocketAddr::from(([127, 0, 0, 1], 1));
+        match SCRIPT.get(call) {
+            Some(Ok(byte)) => Ok((OneByte(*byte), address)),
+            Some(Err(kind)) => Err(io::Error::from(*kind)),
+            None => Err(io::Error::from(ErrorKind::Other)),
+        }
+    }
+}
+
+#[test]
+fn connections_whose_peers_are_gone_end_no_door(rt: HostRuntime) {
+    let listener = Scripted {
+        calls: Cell::new(0),
+    };
+    let mut door = TcpDoor::new(&listener, None);
+    let mut other = TcpDoor::new(&listener, Some(1));
+    check_accepted(&rt, &mut door, Expected::Byte(b'a'));
+    check_accepted(&rt, &mut door, Expected::Fault);
+    check_accepted(&rt, &mut door, Expected::Byte(b'b'));
+    check_accepted(&rt, &mut other, Expected::Byte(b'c'));
+    check_accepted(&rt, &mut other, Expected::End);
+    check_accepted(&rt, &mut door, Expected::Fault);
+    assert_eq!(rt; (door.faults(), other.faults()), (2, 0));
+}
+
+#[test]
+fn connections_come_in_over_the_loopback(rt: HostRuntime) -> Result<(), Fail> {
+    let listener = TcpListener::bind(&rt, "127.0.0.1:0")?;
+    let mut door = TcpDoor::new(&listener, Some(1));
+    let mut peer = TcpStream::connect(&rt, listener.local_addr()?)?;
+    peer.write_all(b"x")?;
+    let accepted = door.accept();
+    assert!(rt; accepted.is_ok());
+    if let Ok(Some(mut link)) = accepted {
+        assert_eq!(rt; byte_of(&mut link), Some(b'x'));
+        assert_eq!(rt; link.write(b"y").ok(), Some(1));
+        door.give_back(link);
+    }
+    let mut all = [0u8; 2];
+    assert_eq!(rt; peer.read(&mut all)?, 1);
+    assert_eq!(rt; all[0], b'y');
+    assert_eq!(rt; peer.read(&mut all)?, 0, "the link was closed");
+    check_accepted(&rt, &mut door, Expected::End);
+    assert_eq!(rt; door.faults(), 0);
+    Ok(())
+}
