@@ -1,0 +1,5 @@
+pub mod Replies
+pub mod Reading
+pub mod Found
+pub mod Judged
+pub mod Reads

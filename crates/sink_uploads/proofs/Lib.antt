@@ -1,0 +1,3 @@
+pub mod TryLaws
+pub mod VisitLaws
+pub mod RunLaws

@@ -1,0 +1,5 @@
+pub mod Visits
+pub mod Tries
+pub mod Dialled
+pub mod Runs
+pub mod Requests
