@@ -12,13 +12,17 @@ import sys
 import clients
 import command_line
 import harness
+import journals
 import lives
 import stored_replies
 import streams
+import verdicts
 
 AREAS = {
     "stored_replies": stored_replies,
     "lives": lives,
+    "verdicts": verdicts,
+    "journals": journals,
     "command_line": command_line,
     "streams": streams,
     "clients": clients,

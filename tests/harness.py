@@ -5,6 +5,7 @@ how a check is told. It holds no check of its own.
 import contextlib
 import hashlib
 import hmac
+import itertools
 import json
 import pathlib
 import re
@@ -20,6 +21,8 @@ RDB = TOP / "rdb"
 SECONDS = 240  # after which a run that hasn't ended is given up
 SECRET = bytes([0x0B] * 20)  # that of examples/farm.toml
 BEARER = {"Authorization": "Bearer tok-a"}
+
+NUMBERS = itertools.count()  # of journals that no check names
 
 LENGTH = re.compile(rb"Content-Length: (\d+)\r\n")
 CODE = re.compile(rb"\r\nX-Prpc-Grpc-Code: (\d+)\r\n")
@@ -114,14 +117,16 @@ def exonerations(name, count, number=None):
 # Runs and replies
 
 
-def words(folder, config=FARM):
-    return [RDB, "answer", "--config", config, "--journal", pathlib.Path(folder) / "farm.journal"]
+def words(folder, config=FARM, journal=None):
+    """The words of a connection, over a new journal where none is named."""
+    path = journal or pathlib.Path(folder) / f"{next(NUMBERS)}.journal"
+    return [RDB, "answer", "--config", config, "--journal", path]
 
 
-def run(feed, folder, stdout=subprocess.PIPE, config=FARM):
+def run(feed, folder, stdout=subprocess.PIPE, config=FARM, journal=None):
     """Runs the program. `feed` is its whole input, or a function that writes it to a pipe."""
     program = subprocess.Popen(
-        words(folder, config), stdin=subprocess.PIPE, stderr=subprocess.PIPE, stdout=stdout
+        words(folder, config, journal), stdin=subprocess.PIPE, stderr=subprocess.PIPE, stdout=stdout
     )
     if callable(feed):
         feed(program.stdin)

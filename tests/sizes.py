@@ -29,6 +29,7 @@ LISTED = {
     "lines": {
         "http_wire": 1522,
         "json_fields": 1524,
+        "request_rules": 1712,
         "tap_reader": 1593,
     },
     "functions": {
@@ -49,10 +50,9 @@ LISTED = {
         "permissions": 3,
         "policy_trial": 5,
         "program_words": 12,
-        "record_desk": 2,
         "request_rules": 1,
         "result_journal": 28,
-        "tellers": 3,
+        "tellers": 1,
         "turnstile": 1,
         "turnstile_trial": 1,
         "whole_reads": 11,

@@ -9,7 +9,7 @@ use Rattle.outside.specs.declared.whole.WriteEnd.{WriteEnd}
 use Rattle.outside.specs.declared.whole.WriteEnd.TheVariants as write_ends
 use Rattle.outside.proofs.Taken.{gave_nothing, gave_both, took_nothing, took_both}
 use Rattle.call_forms.specs.declared.forms.Told.{Told}
-use Rattle.tellers.specs.Exchange.{Exchange}
+use Rattle.tellers.specs.Exchange.{Exchange, StandsForSome}
 use Rattle.http_wire.specs.Head.{head_limit}
 use Rattle.http_wire.specs.WireState.{WireState}
 use Rattle.http_wire.specs.Held.{Reading}
@@ -345,3 +345,8 @@ pub stands_more : {T : Type 0} (stands : T → T → List Exchange → Type 0) (
     (λ es. (first : T) (before : List Exchange) → stands first a before → stands first c (before ++ es))
 stands_more stands a b c m told tells es asked first before stood =
     subst (stands first c) (append_assoc before es (record { asked = m.asked; told = told } ∷ [])) (tells first (before ++ es) (asked first before stood))
+
+-- who stood for something stands for it with all that was asked since
+pub stands_on : {T : Type 0} (stands : T → T → List Exchange → Type 0) (a b : T) (es : List Exchange) → StandsForSome stands a
+    → ((first : T) (before : List Exchange) → stands first a before → stands first b (before ++ es)) → StandsForSome stands b
+stands_on stands a b es stood asked = (stood.0, stood.1 ++ es, asked stood.0 stood.1 stood.2)

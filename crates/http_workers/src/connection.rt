@@ -3,7 +3,7 @@ ghost use Rattle.std.specs.Prelude.{◌≡◌, List, [], ◌∷◌, ◌++◌, tr
 ghost use Rattle.outside.specs.Ends.{OnlyWrites};
 ghost use Rattle.outside.specs.Whole.{WritesWhole};
 ghost use Rattle.call_forms.specs.ReplyBytes.{told_bytes};
-ghost use Rattle.tellers.specs.Exchange.{Exchange};
+ghost use Rattle.tellers.specs.Exchange.{Exchange, StandsForSome};
 ghost use Rattle.http_workers.specs.Connection.{Answers, Connection};
 ghost use Rattle.http_workers.specs.Closing.{Closes, LeavesWire};
 ghost use Rattle.http_workers.specs.Ended.{ServesLink};
@@ -34,6 +34,7 @@ fn answer_message<T: Teller, L: Link>(
     message: &Message,
     close: bool,
 ) -> Result<(), WriteEnd>
+    requires { StandsForSome T.stands teller.old }
     ensures answers { Answers
         (λ told. (first : T) (before : List Exchange) → T.stands first teller.old before
         → T.stands first teller.new
@@ -88,6 +89,7 @@ fn serve_messages<T: Teller, L: Link>(
 ) -> Ended
     requires held { wire.old.held ≡ [] }
     requires is_open { wire.old.is_open ≡ true }
+    requires stands { StandsForSome T.stands teller.old }
     ensures connection { Connection
         (λ exchanges. (first : T) (before : List Exchange) → T.stands first teller.old before
         → T.stands first teller.new (before ++ exchanges))
@@ -131,6 +133,7 @@ fn ended(calls: usize, cause: Cause) -> Ended
 /// A fault of the stream gets a farewell, unless the stream ended inside a message. For want of memory
 /// a stand-in closes the connection; where there is none to begin with, nothing is read or written.
 pub fn serve_connection<T: Teller, L: Link>(alloc: Global, teller: &mut T, link: &mut L) -> Ended
+    requires { StandsForSome T.stands teller.old }
     ensures serves { ServesLink
         (λ exchanges. (first : T) (before : List Exchange) → T.stands first teller.old before
         → T.stands first teller.new (before ++ exchanges))

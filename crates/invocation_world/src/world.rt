@@ -16,7 +16,7 @@ ghost use Rattle.invocation_world.specs.World.{IsCallMoment, IsPair, IsRow, IsVa
 use crate::turns::{carry_out, retire_row};
 use crate::updates::{is_update, set_deadline, set_tags};
 use finaliser::Finaliser;
-use inclusion_graph::{EdgeFault, EdgePlan};
+use inclusion_graph::{EdgeFault, EdgePlan, Graph};
 use invocations::{AddFault, Invocation, Table};
 use lists::Listed;
 use names_realms::{InvocationId, Moment, Pair, State};
@@ -75,6 +75,14 @@ impl InvocationWorld {
         ensures valid { IsValid self.now.world }
     {
         &self.table
+    }
+
+    /// Which row includes which, by their places.
+    pub fn graph(&self) -> &Graph
+        ensures edges { result.now.edges ≡ self.now.world.inclusions }
+        ensures nodes { result.now.nodes ≡ length self.now.world.invocations }
+    {
+        self.finaliser.graph()
     }
 
     /// The row at a place, counted from 0.

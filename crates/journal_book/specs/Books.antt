@@ -59,6 +59,16 @@ abbrev pub CountsRecord : {T : Type 0} → ℕ → ℕ → ℕ → Result T Reco
 CountsRecord end length before (Ok answer) now = now ≡ before
 CountsRecord end length before (Err fault) now = HasRecordCause end length before fault now
 
+-- What is to settle after a fault: nothing; or, where the disk failed, what was to settle before,
+-- or this command, whose append failed.
+abbrev pub LeavesToSettle : {D : Type 0} → Journal D → List ℕ → RecordFault → Journal D → Type 0
+LeavesToSettle before command DiskFailed after =
+    is_settled after ≡ false
+    → ((is_settled before ≡ false) × (prepared after ≡ prepared before))
+    ⊎ (prepared after ≡ command)
+LeavesToSettle before command (Full end length) after = is_settled after ≡ true
+LeavesToSettle before command Memory after = is_settled after ≡ true
+
 -- What an opening finds wrong: the bytes of part 0 show it, as the disk was or as it is left; or a
 -- command is out of place.
 abbrev pub IsOpenFault : {W : Type 0} → Play W → W → Option Told → Option Told → OpenFault → Type 0

@@ -1,10 +1,10 @@
 //! A book: a machine and its journal.
-ghost use Rattle.std.specs.Prelude.{◌≡◌, ℕ, ◌+◌, ◌++◌, ◌∷◌, List, [], true, length, IfOk, OnOk, OnErr};
+ghost use Rattle.std.specs.Prelude.{◌≡◌, ℕ, ◌+◌, ◌++◌, ◌∷◌, List, [], true, length, IfOk, IfErr, OnOk, OnErr};
 ghost use Rattle.disks.specs.Moments.{AtEachMoment};
 ghost use Rattle.result_journal.specs.Journals.{Leaves, disk_of, end_of, is_settled, prepared};
 ghost use Rattle.result_journal.specs.Steps.{OtherStays};
 ghost use Rattle.journal_book.specs.Worlds.{HasSettled};
-ghost use Rattle.journal_book.specs.Books.{CountsRecord, HasEither, Stands, StandsForSome};
+ghost use Rattle.journal_book.specs.Books.{CountsRecord, HasEither, LeavesToSettle, Stands, StandsForSome};
 
 use crate::machine::Machine;
 use crate::steps::{append, settle};
@@ -101,6 +101,10 @@ impl<M: Machine, D: Disk> Book<M, D> {
             → Stands D.told M.plays first (M.world self.new.machine)
             self.new.journal commands) }
         ensures same { OnErr result (self.new.machine ≡ self.old.machine) }
+
+        // What is to settle after an error is what was before, or this command.
+        ensures left { IfErr result (λ fault. LeavesToSettle self.old.journal (M.said plan) fault
+            self.new.journal) }
 
         ensures still { StandsForSome D.told M.plays (M.world self.new.machine)
             self.new.journal }

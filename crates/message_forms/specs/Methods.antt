@@ -12,7 +12,7 @@ use Rattle.invocation_forms.specs.Updates.{update_form}
 use Rattle.invocation_forms.specs.Included.{include_form}
 use Rattle.invocation_forms.specs.Named.{named_form}
 use Rattle.message_forms.specs.declared.requests.Method.{Method}
-use Rattle.message_forms.specs.declared.requests.Method.TheVariants.{CreateInvocation, UpdateInvocation, FinalizeInvocation, UpdateIncludedInvocations, BatchCreateTestResults, BatchCreateTestExonerations, GetInvocation}
+use Rattle.message_forms.specs.declared.requests.Method.TheVariants.{CreateInvocation, UpdateInvocation, FinalizeInvocation, UpdateIncludedInvocations, BatchCreateTestResults, BatchCreateTestExonerations, GetInvocation, GetTestResult, QueryTestResults, QueryTestVariants}
 use Rattle.message_forms.specs.declared.requests.Request.{Request}
 use Rattle.message_forms.specs.declared.requests.Request.TheVariants as asks
 use Rattle.invocation_forms.specs.declared.create.CreateInvocation.{CreateInvocation as Create}
@@ -20,6 +20,12 @@ use Rattle.invocation_forms.specs.declared.updates.UpdateInvocation.{UpdateInvoc
 use Rattle.invocation_forms.specs.declared.named.NamedInvocation.{NamedInvocation as Named}
 use Rattle.invocation_forms.specs.declared.included.UpdateIncludedInvocations.{UpdateIncludedInvocations as Include}
 use Rattle.result_forms.specs.Methods.{results_form, exonerations_form}
+use Rattle.query_forms.specs.Single.{single_form}
+use Rattle.query_forms.specs.Results.{results_form as rows_form}
+use Rattle.query_forms.specs.Variants.{variants_form}
+use Rattle.query_forms.specs.declared.single.GetTestResult.{GetTestResult as Single}
+use Rattle.query_forms.specs.declared.results.QueryTestResults.{QueryTestResults as Rows}
+use Rattle.query_forms.specs.declared.variants.QueryTestVariants.{QueryTestVariants as Variants}
 use Rattle.result_forms.specs.declared.batches.BatchCreateTestResults.{BatchCreateTestResults as Results}
 use Rattle.result_forms.specs.declared.batches.BatchCreateTestExonerations.{BatchCreateTestExonerations as Exonerations}
 
@@ -59,6 +65,10 @@ row_of BatchCreateTestExonerations =
     recorder (codes "BatchCreateTestExonerations") exonerations_form
     asks.BatchCreateTestExonerations
 row_of GetInvocation = reader (codes "GetInvocation") named_form asks.GetInvocation
+row_of GetTestResult = reader (codes "GetTestResult") single_form asks.GetTestResult
+row_of QueryTestResults = reader (codes "QueryTestResults") rows_form asks.QueryTestResults
+row_of QueryTestVariants =
+    reader (codes "QueryTestVariants") variants_form asks.QueryTestVariants
 
 -- every method
 abbrev pub every_method : List Method
@@ -70,6 +80,9 @@ every_method =
     ∷ BatchCreateTestResults
     ∷ BatchCreateTestExonerations
     ∷ GetInvocation
+    ∷ GetTestResult
+    ∷ QueryTestResults
+    ∷ QueryTestVariants
     ∷ []
 
 -- the method that a request is one of, and what the request says by the method's form
@@ -81,6 +94,9 @@ method_asked (asks.UpdateIncludedInvocations q) = UpdateIncludedInvocations
 method_asked (asks.BatchCreateTestResults q) = BatchCreateTestResults
 method_asked (asks.BatchCreateTestExonerations q) = BatchCreateTestExonerations
 method_asked (asks.GetInvocation q) = GetInvocation
+method_asked (asks.GetTestResult q) = GetTestResult
+method_asked (asks.QueryTestResults q) = QueryTestResults
+method_asked (asks.QueryTestVariants q) = QueryTestVariants
 
 abbrev pub said_in : (q : Request) → (row_of (method_asked q)).Said
 said_in (asks.CreateInvocation q) = q
@@ -90,19 +106,29 @@ said_in (asks.UpdateIncludedInvocations q) = q
 said_in (asks.BatchCreateTestResults q) = q
 said_in (asks.BatchCreateTestExonerations q) = q
 said_in (asks.GetInvocation q) = q
+said_in (asks.GetTestResult q) = q
+said_in (asks.QueryTestResults q) = q
+said_in (asks.QueryTestVariants q) = q
 
 -- what holds of each method in turn holds of every one, and likewise of requests
 abbrev pub by_method : (P : Method → Type 0) → P CreateInvocation → P UpdateInvocation
     → P FinalizeInvocation → P UpdateIncludedInvocations → P BatchCreateTestResults
-    → P BatchCreateTestExonerations → P GetInvocation → (m : Method) → P m
-by_method P create update end include results exonerations get CreateInvocation = create
-by_method P create update end include results exonerations get UpdateInvocation = update
-by_method P create update end include results exonerations get FinalizeInvocation = end
-by_method P create update end include results exonerations get UpdateIncludedInvocations = include
-by_method P create update end include results exonerations get BatchCreateTestResults = results
-by_method P create update end include results exonerations get BatchCreateTestExonerations =
-    exonerations
-by_method P create update end include results exonerations get GetInvocation = get
+    → P BatchCreateTestExonerations → P GetInvocation → P GetTestResult → P QueryTestResults
+    → P QueryTestVariants → (m : Method) → P m
+by_method P create update end include results exempt get one rows list CreateInvocation = create
+by_method P create update end include results exempt get one rows list UpdateInvocation = update
+by_method P create update end include results exempt get one rows list FinalizeInvocation = end
+by_method P create update end include results exempt get one rows list UpdateIncludedInvocations =
+    include
+by_method P create update end include results exempt get one rows list BatchCreateTestResults =
+    results
+by_method P create update end include results exempt get one rows list BatchCreateTestExonerations =
+    exempt
+by_method P create update end include results exempt get one rows list GetInvocation = get
+by_method P create update end include results exempt get one rows list GetTestResult = one
+by_method P create update end include results exempt get one rows list QueryTestResults = rows
+by_method P create update end include results exempt get one rows list QueryTestVariants =
+    list
 
 abbrev pub by_request : (P : Request → Type 0) → ((q : Create) → P (asks.CreateInvocation q))
     → ((q : Update) → P (asks.UpdateInvocation q))
@@ -110,18 +136,37 @@ abbrev pub by_request : (P : Request → Type 0) → ((q : Create) → P (asks.C
     → ((q : Include) → P (asks.UpdateIncludedInvocations q))
     → ((q : Results) → P (asks.BatchCreateTestResults q))
     → ((q : Exonerations) → P (asks.BatchCreateTestExonerations q))
-    → ((q : Named) → P (asks.GetInvocation q)) → (q : Request) → P q
-by_request P make update end include results exonerations get (asks.CreateInvocation q) = make q
-by_request P make update end include results exonerations get (asks.UpdateInvocation q) = update q
-by_request P make update end include results exonerations get (asks.FinalizeInvocation q) = end q
-by_request P make update end include results exonerations get (asks.UpdateIncludedInvocations q) =
+    → ((q : Named) → P (asks.GetInvocation q)) → ((q : Single) → P (asks.GetTestResult q))
+    → ((q : Rows) → P (asks.QueryTestResults q)) → ((q : Variants) → P (asks.QueryTestVariants q))
+    → (q : Request) → P q
+by_request P make update end include results exempt get one rows list
+    (asks.CreateInvocation q) =
+    make q
+by_request P make update end include results exempt get one rows list
+    (asks.UpdateInvocation q) =
+    update q
+by_request P make update end include results exempt get one rows list
+    (asks.FinalizeInvocation q) =
+    end q
+by_request P make update end include results exempt get one rows list
+    (asks.UpdateIncludedInvocations q) =
     include q
-by_request P make update end include results exonerations get (asks.BatchCreateTestResults q) =
+by_request P make update end include results exempt get one rows list
+    (asks.BatchCreateTestResults q) =
     results q
-by_request P make update end include results exonerations get
+by_request P make update end include results exempt get one rows list
     (asks.BatchCreateTestExonerations q) =
-    exonerations q
-by_request P make update end include results exonerations get (asks.GetInvocation q) = get q
+    exempt q
+by_request P make update end include results exempt get one rows list (asks.GetInvocation q) =
+    get q
+by_request P make update end include results exempt get one rows list (asks.GetTestResult q) =
+    one q
+by_request P make update end include results exempt get one rows list
+    (asks.QueryTestResults q) =
+    rows q
+by_request P make update end include results exempt get one rows list
+    (asks.QueryTestVariants q) =
+    list q
 
 abbrev pub service_of : Method → List ℕ
 service_of m = (row_of m).service
@@ -149,6 +194,9 @@ AsksFor d (asks.UpdateIncludedInvocations q) = included_form.means d q
 AsksFor d (asks.BatchCreateTestResults q) = results_form.means d q
 AsksFor d (asks.BatchCreateTestExonerations q) = exonerations_form.means d q
 AsksFor d (asks.GetInvocation q) = named_form.means d q
+AsksFor d (asks.GetTestResult q) = single_form.means d q
+AsksFor d (asks.QueryTestResults q) = rows_form.means d q
+AsksFor d (asks.QueryTestVariants q) = variants_form.means d q
 
 -- what a value without a fault asks for: a request of this method, as its fields say
 abbrev pub Means : Method → Data → Request → Type 0
@@ -163,6 +211,9 @@ request_data (asks.UpdateIncludedInvocations q) = included_form.json q
 request_data (asks.BatchCreateTestResults q) = results_form.json q
 request_data (asks.BatchCreateTestExonerations q) = exonerations_form.json q
 request_data (asks.GetInvocation q) = named_form.json q
+request_data (asks.GetTestResult q) = single_form.json q
+request_data (asks.QueryTestResults q) = rows_form.json q
+request_data (asks.QueryTestVariants q) = variants_form.json q
 
 -- a request that some body can ask for
 abbrev pub CanBeAsked : Request → Type 0
@@ -173,6 +224,9 @@ CanBeAsked (asks.UpdateIncludedInvocations q) = included_form.CanBeAsked q
 CanBeAsked (asks.BatchCreateTestResults q) = results_form.CanBeAsked q
 CanBeAsked (asks.BatchCreateTestExonerations q) = exonerations_form.CanBeAsked q
 CanBeAsked (asks.GetInvocation q) = named_form.CanBeAsked q
+CanBeAsked (asks.GetTestResult q) = single_form.CanBeAsked q
+CanBeAsked (asks.QueryTestResults q) = rows_form.CanBeAsked q
+CanBeAsked (asks.QueryTestVariants q) = variants_form.CanBeAsked q
 
 -- What is written of the request is read by its method without a fault, as this request.
 abbrev pub IsReadAgain : Data → Request → Type 0

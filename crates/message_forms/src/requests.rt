@@ -13,6 +13,7 @@ use invocation_forms::{
 };
 use json_fields::{Form, ReadFault};
 use lists::Bytes;
+use query_forms::{GetTestResult, QueryTestResults, QueryTestVariants};
 use result_forms::{BatchCreateTestExonerations, BatchCreateTestResults};
 use serde_json::Value;
 use std::alloc::{AllocError, Global};
@@ -34,6 +35,12 @@ pub enum Method {
     BatchCreateTestExonerations,
     /// `luci.resultdb.v1.ResultDB.GetInvocation`.
     GetInvocation,
+    /// `luci.resultdb.v1.ResultDB.GetTestResult`.
+    GetTestResult,
+    /// `luci.resultdb.v1.ResultDB.QueryTestResults`.
+    QueryTestResults,
+    /// `luci.resultdb.v1.ResultDB.QueryTestVariants`.
+    QueryTestVariants,
 }
 
 /// What a request asks for.
@@ -53,10 +60,16 @@ pub enum Request {
     BatchCreateTestExonerations(BatchCreateTestExonerations),
     /// What an invocation is.
     GetInvocation(NamedInvocation),
+    /// What a test result is.
+    GetTestResult(GetTestResult),
+    /// A page of the test results that invocations reach.
+    QueryTestResults(QueryTestResults),
+    /// A page of the verdicts of these.
+    QueryTestVariants(QueryTestVariants),
 }
 
 /// Every method.
-const EVERY: [Method; 7] = [
+const EVERY: [Method; 10] = [
     Method::CreateInvocation,
     Method::UpdateInvocation,
     Method::FinalizeInvocation,
@@ -64,6 +77,9 @@ const EVERY: [Method; 7] = [
     Method::BatchCreateTestResults,
     Method::BatchCreateTestExonerations,
     Method::GetInvocation,
+    Method::GetTestResult,
+    Method::QueryTestResults,
+    Method::QueryTestVariants,
 ];
 
 /// The services, as pRPC names them.
@@ -104,6 +120,9 @@ impl Method {
             Method::BatchCreateTestResults => (RECORDER, "BatchCreateTestResults"),
             Method::BatchCreateTestExonerations => (RECORDER, "BatchCreateTestExonerations"),
             Method::GetInvocation => (READER, "GetInvocation"),
+            Method::GetTestResult => (READER, "GetTestResult"),
+            Method::QueryTestResults => (READER, "QueryTestResults"),
+            Method::QueryTestVariants => (READER, "QueryTestVariants"),
         }
     }
 
@@ -153,6 +172,13 @@ impl Method {
             Method::GetInvocation => {
                 Ok(Request::GetInvocation(NamedInvocation::read(alloc, value)?))
             }
+            Method::GetTestResult => Ok(Request::GetTestResult(GetTestResult::read(alloc, value)?)),
+            Method::QueryTestResults => {
+                Ok(Request::QueryTestResults(QueryTestResults::read(alloc, value)?))
+            }
+            Method::QueryTestVariants => {
+                Ok(Request::QueryTestVariants(QueryTestVariants::read(alloc, value)?))
+            }
         }
     }
 }
@@ -170,6 +196,9 @@ impl Request {
             Request::BatchCreateTestResults(_) => Method::BatchCreateTestResults,
             Request::BatchCreateTestExonerations(_) => Method::BatchCreateTestExonerations,
             Request::GetInvocation(_) => Method::GetInvocation,
+            Request::GetTestResult(_) => Method::GetTestResult,
+            Request::QueryTestResults(_) => Method::QueryTestResults,
+            Request::QueryTestVariants(_) => Method::QueryTestVariants,
         }
     }
 
@@ -187,6 +216,9 @@ impl Request {
             Request::BatchCreateTestResults(request) => request.write(alloc),
             Request::BatchCreateTestExonerations(request) => request.write(alloc),
             Request::GetInvocation(request) => request.write(alloc),
+            Request::GetTestResult(request) => request.write(alloc),
+            Request::QueryTestResults(request) => request.write(alloc),
+            Request::QueryTestVariants(request) => request.write(alloc),
         }
     }
 }

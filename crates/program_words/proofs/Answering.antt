@@ -1,5 +1,6 @@
 -- A command's words, as clap takes them and as the grammar says them.
-use Rattle.std.proofs.Common.{◌≡◌, ◌≢◌, ◌∙◌, refl, sym, ap, subst, ⊎_elim, true, false, List, [], ◌∷◌, Some, codes}
+use Rattle.std.proofs.Common.{◌≡◌, ◌≢◌, ◌∙◌, refl, sym, ap, subst, ⊎_elim, ◌||◌, Bool, true, false, List, [], ◌∷◌, Some, codes}
+use Rattle.std.proofs.lemmas.Option.{same_Some}
 use Rattle.std.specs.Prelude.{flat_map}
 use Rattle.std.specs.List.{list_any}
 use Rattle.clap.specs.Words.{App, Text, HasMatchesOf, fault_of, first_of, first_value, found_of, matches_of, is_simple_and_free, is_simple, kind_of}
@@ -9,16 +10,15 @@ use Rattle.clap.specs.declared.error.kind.ErrorKind.TheVariants.{OutOfMemory}
 use Rattle.clap.specs.declared.parser.matches.ArgMatches.{ArgMatches}
 use Rattle.clap.proofs.WalkLemmas.{first_value-rows}
 use Rattle.program_words.specs.Options.{OptionRow, Given, spelled, AreOptions, value_of}
-use Rattle.program_words.specs.Grammar.{answer_options, IsAnswer}
-use Rattle.program_words.specs.Clap.{made_app, is_stray}
-use Rattle.program_words.specs.Grammar.{Says}
+use Rattle.program_words.specs.Grammar.{AreWordsOf, IsAnswer, IsCheck, Says, answer_options, check_options}
+use Rattle.program_words.specs.Clap.{HasValues, IsPlain, are_names, made_app, is_stray}
 use Rattle.program_words.specs.declared.command.Command.{Command}
-use Rattle.program_words.specs.declared.command.Command.TheVariants.{Answer, Help, Version}
+use Rattle.program_words.specs.declared.command.Command.TheVariants.{Answer, Check, Help, Version}
 use Rattle.program_words.proofs.Machine.{rest, after}
 use Rattle.program_words.proofs.ClapRows.{value_made}
 use Rattle.program_words.proofs.Walks.{all_there, taken_reading, read_taken}
 use Rattle.program_words.proofs.Spellings.{reads_more}
-use Rattle.program_words.proofs.Complete.{are_names, reads_all}
+use Rattle.program_words.proofs.Complete.{reads_all}
 
 -- The words behind a command's, where clap takes them: its options, and the values that its matches have.
 pub record IsTaken (name : Text) (os : List OptionRow) (word : Text) (others : List Text) : Type 0 where
@@ -72,41 +72,38 @@ pub parse_refused : (a b : App) (words : List Text) (error : Error) → a ≡ b 
 parse_refused a b words error e free h other =
     no_kind (fault_of b words) error (subst (λ (x : App). is_simple_and_free x ≡ true → HasKind (fault_of x words) error) e h free) other
 
--- ---- `answer`
+-- ---- the commands
 
-pub answer_free : is_simple_and_free (made_app (codes "answer") answer_options) ≡ true
-answer_free = refl
+pub answer_plain : IsPlain (codes "answer") answer_options
+answer_plain = record { word = refl; names = refl; simple = refl; free = refl }
 
-pub answer_simple : is_simple (made_app (codes "answer") answer_options) ≡ true
-answer_simple = refl
+pub check_plain : IsPlain (codes "check") check_options
+check_plain = record { word = refl; names = refl; simple = refl; free = refl }
 
-pub answer_names : are_names answer_options ≡ true
-answer_names = refl
+both_false : (a b : Bool) → (a || b) ≡ false → b ≡ false
+both_false true b h = absurd (let no : true ≡ false = h in cc)
+both_false false b h = h
 
-pub said_answer : (words others : List Text) (config journal : Text) → words ≡ codes "answer" ∷ others → list_any is_stray words ≡ false
-    → fault_of (made_app (codes "answer") answer_options) words ≡ []
-    → first_of (codes "config") (matches_of (made_app (codes "answer") answer_options) words) ≡ Some config
-    → first_of (codes "journal") (matches_of (made_app (codes "answer") answer_options) words) ≡ Some journal
-    → IsAnswer words config journal
-said_answer words others config journal is none taken config_is journal_is =
-    let t = taken_options (codes "answer") answer_options (codes "answer") others
-    (ap (list_any is_stray) (sym is) ∙ none)
-    (ap (fault_of (made_app (codes "answer") answer_options)) (sym is) ∙ taken) in
-    let value = λ (n : Text). sym (t.values n) ∙ ap (λ (w : List Text). first_of n (matches_of (made_app (codes "answer") answer_options) w)) (sym is) in
-    record {
-      rest = others;
-      givens = t.givens;
-      command = is;
-      options = t.options;
-      config_is = value (codes "config") ∙ config_is;
-      journal_is = value (codes "journal") ∙ journal_is;
-    }
+-- what clap found in the words of a command that it takes
+pub found_words : (name : Text) (table : List OptionRow) (words others : List Text) (found : ArgMatches) → IsPlain name table → words ≡ name ∷ others
+    → list_any is_stray words ≡ false → fault_of (made_app name table) words ≡ []
+    → ((n : Text) → first_value (found_of found) n ≡ first_of n (matches_of (made_app name table) words))
+    → (givens : List Given) × AreWordsOf name table words givens × HasValues givens found
+found_words name table words others found plain is none taken has =
+    let t = taken_options name table name others
+    (both_false (is_stray name) (list_any is_stray others) (ap (list_any is_stray) (sym is) ∙ none))
+    (ap (fault_of (made_app name table)) (sym is) ∙ taken) in (
+      t.givens,
+      record { rest = others; command = is; options = t.options },
+      λ n. has n ∙ ap (λ (w : List Text). first_of n (matches_of (made_app name table) w)) is ∙ t.values n,
+    )
 
-pub answer_taken : (words : List Text) (config journal : Text) → IsAnswer words config journal
-    → (list_any is_stray words ≡ false) × (fault_of (made_app (codes "answer") answer_options) words ≡ [])
-answer_taken words config journal a =
-    let both = options_taken (codes "answer") answer_options (codes "answer") a.rest a.givens answer_names a.options in
-    subst (λ (w : List Text). (list_any is_stray w ≡ false) × (fault_of (made_app (codes "answer") answer_options) w ≡ [])) (sym a.command) (both.0, both.1)
+pub words_taken : (name : Text) (table : List OptionRow) (words : List Text) (givens : List Given) → IsPlain name table → AreWordsOf name table words givens
+    → (list_any is_stray words ≡ false) × (fault_of (made_app name table) words ≡ [])
+words_taken name table words givens plain a =
+    let both = options_taken name table name a.rest givens plain.names a.options in
+    subst (λ (w : List Text). (list_any is_stray w ≡ false) × (fault_of (made_app name table) w ≡ [])) (sym a.command)
+    (ap (λ (b : Bool). b || list_any is_stray a.rest) plain.word ∙ both.0, both.1)
 
 -- ---- the grammar is read in one way
 
@@ -120,24 +117,51 @@ same_givens os words a b names p q =
 behind_same : (first second : Text) (a b : List Text) → first ∷ a ≡ second ∷ b → a ≡ b
 behind_same first second a b e = cc
 
+same_words : (name : Text) (table : List OptionRow) (words : List Text) (a b : List Given) → IsPlain name table → AreWordsOf name table words a
+    → AreWordsOf name table words b → a ≡ b
+same_words name table words a b plain p q =
+    let others : q.rest ≡ p.rest = behind_same name name q.rest p.rest (sym q.command ∙ p.command) in
+    same_givens table p.rest a b plain.names p.options (subst (AreOptions table b) others q.options)
+
+same_value : (n : Text) (a b : List Given) (x y : Text) → a ≡ b → value_of n a ≡ Some x → value_of n b ≡ Some y → x ≡ y
+same_value n a b x y same p q = same_Some x y (sym p ∙ (ap (value_of n) same ∙ q))
+
 same_answer : (words : List Text) (c j d k : Text) → IsAnswer words c j → IsAnswer words d k → Answer c j ≡ Answer d k
 same_answer words c j d k p q =
-    let others : q.rest ≡ p.rest = behind_same (codes "answer") (codes "answer") q.rest p.rest (sym q.command ∙ p.command) in
-    let givens : p.givens ≡ q.givens =
-    same_givens answer_options p.rest p.givens q.givens answer_names p.options (subst (AreOptions answer_options q.givens) others q.options) in
-    let config : Some c ≡ Some d = sym p.config_is ∙ ap (value_of (codes "config")) givens ∙ q.config_is in
-    let journal : Some j ≡ Some k = sym p.journal_is ∙ ap (value_of (codes "journal")) givens ∙ q.journal_is in
-    let same_config : c ≡ d = cc in
-    let same_journal : j ≡ k = cc in
-    ap (λ (x : Text). Answer x j) same_config ∙ ap (λ (x : Text). Answer d x) same_journal
+    let givens = same_words (codes "answer") answer_options words p.givens q.givens answer_plain p.words_are q.words_are in
+    ap (λ (x : Text). Answer x j) (same_value (codes "config") p.givens q.givens c d givens p.config_is q.config_is)
+    ∙ ap (λ (x : Text). Answer d x) (same_value (codes "journal") p.givens q.givens j k givens p.journal_is q.journal_is)
+
+same_check : (words : List Text) (j k : Text) → IsCheck words j → IsCheck words k → Check j ≡ Check k
+same_check words j k p q =
+    let givens = same_words (codes "check") check_options words p.givens q.givens check_plain p.words_are q.words_are in
+    ap Check (same_value (codes "journal") p.givens q.givens j k givens p.journal_is q.journal_is)
+
+-- the first word of a command
+abbrev first_word_of : Command → Text
+first_word_of (Answer c j) = codes "answer"
+first_word_of (Check j) = codes "check"
+first_word_of Help = codes "--help"
+first_word_of Version = codes "--version"
+
+begins : (words : List Text) (a : Command) → Says words a → (others : List Text) × (words ≡ first_word_of a ∷ others)
+begins words (Answer c j) p = (p.words_are.rest, p.words_are.command)
+begins words (Check j) p = (p.words_are.rest, p.words_are.command)
+begins words Help p = ([], p)
+begins words Version p = ([], p)
+
+front_same : (first second : Text) (a b : List Text) → first ∷ a ≡ second ∷ b → first ≡ second
+front_same first second a b e = cc
+
+same_first : (words : List Text) (a b : Command) → Says words a → Says words b → first_word_of a ≡ first_word_of b
+same_first words a b p q =
+    let one = begins words a p in
+    let two = begins words b q in
+    front_same (first_word_of a) (first_word_of b) one.0 two.0 (sym one.1 ∙ two.1)
 
 pub one_command : (words : List Text) (a b : Command) → Says words a → Says words b → a ≡ b
 one_command words (Answer c j) (Answer d k) p q = same_answer words c j d k p q
-one_command words (Answer c j) Help p q = let e : codes "answer" ∷ p.rest ≡ codes "--help" ∷ [] = sym p.command ∙ q in cc
-one_command words (Answer c j) Version p q = let e : codes "answer" ∷ p.rest ≡ codes "--version" ∷ [] = sym p.command ∙ q in cc
-one_command words Help (Answer d k) p q = let e : codes "answer" ∷ q.rest ≡ codes "--help" ∷ [] = sym q.command ∙ p in cc
-one_command words Version (Answer d k) p q = let e : codes "answer" ∷ q.rest ≡ codes "--version" ∷ [] = sym q.command ∙ p in cc
+one_command words (Check j) (Check k) p q = same_check words j k p q
 one_command words Help Help p q = refl
 one_command words Version Version p q = refl
-one_command words Help Version p q = let e : codes "--help" ∷ [] ≡ codes "--version" ∷ [] = sym p ∙ q in cc
-one_command words Version Help p q = let e : codes "--help" ∷ [] ≡ codes "--version" ∷ [] = sym q ∙ p in cc
+one_command words a b p q = let e : first_word_of a ≡ first_word_of b = same_first words a b p q in cc

@@ -8,20 +8,12 @@ use Rattle.clap.specs.Walk.{Text}
 use Rattle.clap.proofs.CutLemmas.{Lacks, list_any-at}
 use Rattle.clap.proofs.LexerLemmas.{name_and_value-at, name_and_value-without}
 use Rattle.program_words.specs.Options.{OptionRow, Given, spelled, begins_with_dash, has_value, is_option, is_given, are_new}
-use Rattle.program_words.specs.Clap.{is_named, is_stray}
+use Rattle.program_words.specs.Clap.{are_names, is_name, is_named, is_stray}
 use Rattle.program_words.proofs.Machine.{rest, waits, has, given, row_by, adds, and_then, named, turn, after}
 use Rattle.program_words.proofs.ClapRows.{row_named}
 use Rattle.program_words.proofs.Steps.{IsPlainWord}
 use Rattle.program_words.proofs.Walks.{without_dash}
 use Rattle.program_words.proofs.Spellings.{both_true, row_of, Cut, whole, at, cut_of}
-
--- a name isn't empty and has no `=`
-abbrev pub is_name : Text → Bool
-is_name [] = false
-is_name (b ∷ bs) = not (has_byte 61 (b ∷ bs))
-
-abbrev pub are_names : List OptionRow → Bool
-are_names os = list_all (λ o. is_name o.name) os
 
 not_at : (t xs ys : Text) → not (has_byte 61 t) ≡ true → t ≡ xs ++ 61 ∷ ys → ⊥
 not_at t xs ys h e =

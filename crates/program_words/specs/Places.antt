@@ -1,7 +1,7 @@
 -- The places that a command names.
 use Rattle.std.specs.Prelude.{[], None}
 use Rattle.program_words.specs.declared.command.Command.{Command}
-use Rattle.program_words.specs.declared.command.Command.TheVariants.{Answer, Help, Version}
+use Rattle.program_words.specs.declared.command.Command.TheVariants.{Answer, Check, Help, Version}
 use Rattle.program_words.specs.declared.command.Places.{Places}
 
 abbrev pub no_places : Places
@@ -10,5 +10,6 @@ no_places = record { config = []; journal = []; listen = []; server = []; worker
 -- The values that the command's words have.
 abbrev pub places_of : Command → Places
 places_of (Answer config journal) = record no_places { config = config; journal = journal }
+places_of (Check journal) = record no_places { journal = journal }
 places_of Help = no_places
 places_of Version = no_places

@@ -7,6 +7,8 @@ use lists::Bytes;
 pub enum Command {
     /// Serves one connection, with the paths of its configuration and its journal.
     Answer { config: Bytes, journal: Bytes },
+    /// Counts what a journal holds, with its path.
+    Check { journal: Bytes },
     /// Tells the commands and their words.
     Help,
     /// Tells the version.

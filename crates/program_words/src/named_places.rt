@@ -36,6 +36,7 @@ pub fn places(alloc: Global, words: &[String]) -> Result<Places, WordFault>
 {
     match read_words(alloc, words)? {
         Command::Answer { config, journal } => Ok(of_paths(alloc, config, journal)),
+        Command::Check { journal } => Ok(of_paths(alloc, nothing(alloc), journal)),
         Command::Help | Command::Version => Ok(of_paths(alloc, nothing(alloc), nothing(alloc))),
     }
 }

@@ -3,13 +3,16 @@ ghost use Rattle.std.specs.Prelude.{◌≡◌, ◌≢◌, ℕ, List, ◌∷◌, 
 ghost use Rattle.std.specs.Prelude.{map, string_bytes, true, false};
 ghost use Rattle.std.specs.List.{list_any};
 ghost use Rattle.clap.specs.Words.{app_of, rule_of, kind_of};
-ghost use Rattle.program_words.specs.Grammar.{Says, IsAnswer, answer_options};
+ghost use Rattle.program_words.specs.Options.{Given, OptionRow};
+ghost use Rattle.program_words.specs.Grammar.{AreWordsOf, IsAnswer, IsCheck, Says};
+ghost use Rattle.program_words.specs.Grammar.{answer_options, check_options};
+ghost use Rattle.program_words.specs.Clap.{HasValues, IsPlain};
 ghost use Rattle.program_words.specs.Clap.{made_app, made_rule, is_named, is_stray};
 
 use crate::command::{Command, WordFault};
 use clap::builder::ValueParser;
 use clap::error::ErrorKind;
-use clap::{Arg, ArgAction, Error};
+use clap::{Arg, ArgAction, ArgMatches, Error};
 use lists::Bytes;
 use std::alloc::{AllocError, Global};
 
@@ -35,6 +38,16 @@ fn answer_command<'a>(alloc: Global) -> Result<clap::Command<'a>, Error>
     let command = clap::Command::new(alloc, "answer")
         .arg(config)?
         .arg(journal)?;
+    Ok(command.disable_help_flag(true))
+}
+
+/// The command `check`.
+fn check_command<'a>(alloc: Global) -> Result<clap::Command<'a>, Error>
+    ensures app { IfOk result (λ c. app_of c ≡ made_app (codes "check") check_options) }
+    ensures err { IfErr result (λ e. kind_of e ≡ ErrorKind.OutOfMemory) }
+{
+    let journal = required_option(alloc, "journal");
+    let command = clap::Command::new(alloc, "check").arg(journal)?;
     Ok(command.disable_help_flag(true))
 }
 
@@ -70,6 +83,36 @@ fn copied(alloc: Global, text: &str) -> Result<Bytes, AllocError>
     Ok(Bytes::new(Vec::from_slice(alloc, text.as_bytes())?))
 }
 
+/// What clap finds in the words of a command, of which the first is its name.
+fn read_options<'a>(
+    command: clap::Command<'a>,
+    words: &'a [String],
+) -> Result<ArgMatches<'a>, WordFault>
+    ensures ok { (name : List ℕ) (table : List OptionRow) (rest : List (List ℕ))
+        → IsPlain name table → app_of command.entry ≡ made_app name table
+        → map string_bytes words.entry.now ≡ name ∷ rest
+        → IfOk result (λ found. (givens : List Given)
+        × AreWordsOf name table (map string_bytes words.entry.now) givens
+        × HasValues givens found) }
+    ensures refused { (name : List ℕ) (table : List OptionRow) (givens : List Given)
+        → IsPlain name table → app_of command.entry ≡ made_app name table
+        → result ≡ Err WordFault.Refused
+        → ¬ AreWordsOf name table (map string_bytes words.entry.now) givens }
+{
+    if has_stray(words) {
+        return Err(WordFault::Refused);
+    }
+    match command.try_get_matches_from(words) {
+        Ok(found) => Ok(found),
+        Err(error) => {
+            if error.kind() == ErrorKind::OutOfMemory {
+                return Err(WordFault::Memory);
+            }
+            Err(WordFault::Refused)
+        }
+    }
+}
+
 /// The values of `answer`.
 fn answer_of(alloc: Global, config: &str, journal: &str) -> Result<Command, WordFault>
     ensures value { IfOk result (λ c. c ≡ Command.Answer config.now journal.now) }
@@ -81,6 +124,17 @@ fn answer_of(alloc: Global, config: &str, journal: &str) -> Result<Command, Word
     }
 }
 
+/// The value of `check`.
+fn check_of(alloc: Global, journal: &str) -> Result<Command, WordFault>
+    ensures value { IfOk result (λ c. c ≡ Command.Check journal.now) }
+    ensures memory { result ≢ Err WordFault.Refused }
+{
+    match copied(alloc, journal) {
+        Ok(journal) => Ok(Command::Check { journal }),
+        Err(AllocError) => Err(WordFault::Memory),
+    }
+}
+
 /// The words of `answer`, of which the first is the command's.
 fn read_answer(alloc: Global, words: &[String]) -> Result<Command, WordFault>
     requires { (rest : List (List ℕ)) × (map string_bytes words.now ≡ codes "answer" ∷ rest) }
@@ -88,24 +142,30 @@ fn read_answer(alloc: Global, words: &[String]) -> Result<Command, WordFault>
     ensures refused { result ≡ Err WordFault.Refused
         → (config journal : List ℕ) → ¬ IsAnswer (map string_bytes words.now) config journal }
 {
-    if has_stray(words) {
-        return Err(WordFault::Refused);
-    }
     let Ok(command) = answer_command(alloc) else {
         return Err(WordFault::Memory);
     };
-    let matches = match command.try_get_matches_from(words) {
-        Ok(matches) => matches,
-        Err(error) => {
-            if error.kind() == ErrorKind::OutOfMemory {
-                return Err(WordFault::Memory);
-            }
-            return Err(WordFault::Refused);
-        }
-    };
-    match (matches.get_str("config"), matches.get_str("journal")) {
+    let found = read_options(command, words)?;
+    match (found.get_str("config"), found.get_str("journal")) {
         (Some(config), Some(journal)) => answer_of(alloc, config, journal),
         _ => Err(WordFault::Memory),
+    }
+}
+
+/// The words of `check`, of which the first is the command's.
+fn read_check(alloc: Global, words: &[String]) -> Result<Command, WordFault>
+    requires { (rest : List (List ℕ)) × (map string_bytes words.now ≡ codes "check" ∷ rest) }
+    ensures ok { IfOk result (Says (map string_bytes words.now)) }
+    ensures refused { result ≡ Err WordFault.Refused
+        → (journal : List ℕ) → ¬ IsCheck (map string_bytes words.now) journal }
+{
+    let Ok(command) = check_command(alloc) else {
+        return Err(WordFault::Memory);
+    };
+    let found = read_options(command, words)?;
+    match found.get_str("journal") {
+        Some(journal) => check_of(alloc, journal),
+        None => Err(WordFault::Memory),
     }
 }
 
@@ -121,6 +181,7 @@ pub fn read_words(alloc: Global, words: &[String]) -> Result<Command, WordFault>
 {
     match words {
         [command, ..] if command.as_str() == "answer" => read_answer(alloc, words),
+        [command, ..] if command.as_str() == "check" => read_check(alloc, words),
         [word] if word.as_str() == "--help" => Ok(Command::Help),
         [word] if word.as_str() == "--version" => Ok(Command::Version),
         _ => Err(WordFault::Refused),

@@ -13,10 +13,11 @@ fn words_of(alloc: Global, words: &[&str]) -> Result<Vec<String>, AllocError> {
     Ok(copied)
 }
 
-/// What is expected of words: two paths, another command, or that they are refused.
+/// What is expected of words: two paths, one, another command, or that they are refused.
 #[derive(Drop)]
 enum Expected<'a> {
     Paths(&'a str, &'a str),
+    Journal(&'a str),
     Help,
     Version,
     Refused,
@@ -55,6 +56,10 @@ fn check_row(rt: &impl Abort, alloc: Global, row: &(&str, Expected<'_>)) -> Resu
             assert_eq!(rt; j.as_slice(), journal.as_bytes(), "{line}");
             check_places(rt, &p, config, journal);
         }
+        (Expected::Journal(journal), Ok(Command::Check { journal: j }), Ok(p)) => {
+            assert_eq!(rt; j.as_slice(), journal.as_bytes(), "{line}");
+            check_places(rt, &p, "", journal);
+        }
         (Expected::Help, Ok(Command::Help), Ok(p)) => check_places(rt, &p, "", ""),
         (Expected::Version, Ok(Command::Version), Ok(p)) => check_places(rt, &p, "", ""),
         (Expected::Refused, Err(a), Err(b)) => {
@@ -85,6 +90,11 @@ fn words_are_read_as_the_grammar_says(rt: HostRuntime) -> Result<(), Fail> {
             "answer|--config|é |--journal|answer",
             Expected::Paths("é ", "answer"),
         ),
+        ("check|--journal|J", Expected::Journal("J")),
+        ("check|--journal=-", Expected::Journal("-")),
+        ("check", Expected::Refused),
+        ("check|--journal=J|--journal|J", Expected::Refused),
+        ("check|--config|C|--journal|J", Expected::Refused),
         ("--help", Expected::Help),
         ("--version", Expected::Version),
         ("", Expected::Refused),
@@ -132,7 +142,7 @@ fn words_are_read_as_the_grammar_says(rt: HostRuntime) -> Result<(), Fail> {
     let help = help_text();
     assert_eq!(rt;
         help,
-        "answer --config PATH --journal PATH\n--help\n--version\n"
+        "answer --config PATH --journal PATH\ncheck --journal PATH\n--help\n--version\n"
     );
     assert_eq!(rt; version_text(), "rdb 0.1.0\n");
     Ok(())

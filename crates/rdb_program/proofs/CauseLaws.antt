@@ -86,6 +86,15 @@ not_two causes.WriteFault e = omega (arith, e)
 not_two causes.SinkTakesNothing e = omega (arith, e)
 not_two causes.Memory e = omega (arith, e)
 
+pub not_three : (cause : Cause) → status_at cause ≢ 3
+not_three causes.End e = omega (arith, e)
+not_three causes.Closed e = omega (arith, e)
+not_three (causes.Wire fault) e = omega (arith, e)
+not_three causes.ReadFault e = omega (arith, e)
+not_three causes.WriteFault e = omega (arith, e)
+not_three causes.SinkTakesNothing e = omega (arith, e)
+not_three causes.Memory e = omega (arith, e)
+
 pub done_at : (asked : List Exchange → Type 0) (before : Ends) (calls : ℕ) (cause : Cause) (after : Ends) → Served asked before calls cause after → status_at cause ≡ 0
     → IsDone before after
 done_at asked before calls causes.End after s e = inl (s.connection.rest_is.1, λ stream told. (messages_of s.connection.turns, s.framed stream told))

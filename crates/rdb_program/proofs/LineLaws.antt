@@ -1,9 +1,12 @@
 -- The lines that say which fault of the wire was met, or which one of the configuration.
-use Rattle.std.proofs.Common.{◌≡◌, ℕ, List, refl, codes}
+use Rattle.std.proofs.Common.{◌≡◌, ℕ, List, ◌++◌, refl, codes}
 use Rattle.std.specs.Fmt.{digits}
 use Rattle.http_wire.specs.declared.message.WireFault.TheVariants as faults
 use Rattle.http_workers.specs.declared.ended.Cause.TheVariants as causes
-use Rattle.rdb_program.specs.Causes.{row_of}
+use Rattle.result_journal.specs.declared.opening.OpenFault.{OpenFault}
+use Rattle.result_journal.specs.declared.opening.OpenFault.TheVariants as openings
+use Rattle.rdb_program.specs.Causes.{opening_row, row_of}
+use Rattle.rdb_program.specs.Lines.{fault_text}
 use Rattle.rdb_program.specs.Run.{refusal_line}
 use Rattle.permissions.specs.declared.faults.PolicyFault.TheVariants as refusals
 
@@ -86,3 +89,11 @@ unknown_principal_line name = refl
 pub no_memory_line : codes "rdb: configuration refused: 0 Memory\n" ≡ refusal_line refusals.Memory
 unfolding digits
 no_memory_line = refl
+
+pub opening_text : (fault : OpenFault) → fault_text fault ++ codes "\n" ≡ (opening_row fault).line
+unfolding digits
+opening_text (openings.NotAJournal at) = refl
+opening_text (openings.Damaged at byte) = refl
+opening_text (openings.NewerVersion found) = refl
+opening_text openings.DiskFailed = refl
+opening_text openings.Memory = refl

@@ -1,5 +1,5 @@
 -- What a run's exit status says.
-use Rattle.std.proofs.Common.{◌≡◌, ◌≢◌, ℕ, ℤ, ◌<◌, ◌≤◌, ◌⊎◌, inl, inr, List, [], ◌∷◌, ◌++◌, length, Option, Some, Result, Ok, Err, refl, sym, ap, ◌∙◌, subst, arith}
+use Rattle.std.proofs.Common.{◌≡◌, ◌≢◌, ℕ, ℤ, true, ◌+◌, ◌-◌, ◌<◌, ◌≤◌, ◌⊎◌, inl, inr, List, [], ◌∷◌, ◌++◌, length, length-append, Option, Some, Result, Ok, Err, refl, sym, ap, ◌∙◌, subst, arith}
 use Rattle.outside.specs.Bytes.{Took}
 use Rattle.outside.specs.Ends.{Incoming, Outgoing, Ends}
 use Rattle.outside.specs.Whole.{WritesWhole, IsWritten}
@@ -9,11 +9,22 @@ use Rattle.fault_counts.specs.Causes.{Rose}
 use Rattle.policy_tables.specs.declared.tables.PolicyTables.{PolicyTables}
 use Rattle.policy_reading.specs.Reading.{IsPolicyOf, IsFirstFault}
 use Rattle.permissions.specs.declared.faults.PolicyFault.{PolicyFault}
+use Rattle.disks.specs.Moments.{AtEachMoment, Told}
+use Rattle.result_journal.specs.Grammar.{head, records}
+use Rattle.result_journal.specs.Journals.{disk_of, end_of, is_settled}
+use Rattle.result_journal.specs.Openings.{AlikeOnceSynced, FaultCause, LeftBeforeOrAlike, OpensAs}
+use Rattle.result_journal.specs.Steps.{OtherStays}
+use Rattle.result_journal.specs.declared.journal.Journal.{Journal}
+use Rattle.result_journal.specs.declared.opening.OpenFault.{OpenFault}
+use Rattle.result_journal.specs.declared.opening.OpenFault.TheVariants as openings
+use Rattle.journal_book.specs.Books.{HasWorldOf, Stands}
 use Rattle.service_effects.specs.Service.{ServiceWorld, empty_service}
+use Rattle.service_machine.specs.Machines.{Plays}
 use Rattle.service_core.specs.Service.{Service, service_of}
 use Rattle.tellers.specs.Exchange.{Exchange}
 use Rattle.record_desk.specs.Clocked.{IsClocked}
-use Rattle.record_desk.specs.Standing.{Moves}
+use Rattle.record_desk.specs.Standing.{HasServed}
+use Rattle.record_desk.proofs.StandingLaws.{served_leaves, served_nothing}
 use Rattle.http_wire.specs.Stream.{Framed}
 use Rattle.http_wire.specs.declared.message.End.TheVariants as stream_ends
 use Rattle.program_words.specs.Grammar.{Says}
@@ -23,14 +34,21 @@ use Rattle.program_words.proofs.Answering.{one_command}
 use Rattle.http_workers.specs.Framing as served
 use Rattle.http_workers.specs.Ended.{ServesLink}
 use Rattle.http_workers.specs.declared.ended.Ended.{Ended}
-use Rattle.rdb_program.specs.Words.{SayNothing, IsAnswerWords, AskForText}
-use Rattle.rdb_program.specs.Configured.{Accepts}
-use Rattle.rdb_program.specs.Run.{Work, Outside, outside, IsReported, status_of, line_of, refusal_line, IsHistory, Shows, StopsAtConfig, Serves, IsRun, ProgramRun}
-use Rattle.rdb_program.specs.Statuses.{IsShown, IsWorkDone, EndsFailed, HasFailed, HasStalled, ConfigSays, StatusSays}
+use Rattle.rdb_program.specs.Causes.{opening_row}
+use Rattle.service_core.specs.Counting.{counts_of}
+use Rattle.service_core.specs.declared.counting.Counts.{Counts}
+use Rattle.result_journal.proofs.JournalLaws.{settled_leaves}
+use Rattle.rdb_program.specs.Counted.{counts_text, world_text}
+use Rattle.rdb_program.specs.Lines.{fixed_line}
+use Rattle.rdb_program.specs.Opening.{IsUnopened, OpensBook}
+use Rattle.rdb_program.specs.Words.{SayNothing, IsAnswerWords, IsCheckWords, AskForText}
+use Rattle.rdb_program.specs.Configured.{Accepts, Leaves}
+use Rattle.rdb_program.specs.Run.{CountsJournal, DiskEnd, Work, Outside, outside, disk_end, IsReported, status_of, line_of, refusal_line, IsHistory, ReachesDisk, Shows, ShowsText, StopsAtConfig, StopsAtDisk, Serves, IsRun, ProgramRun}
+use Rattle.rdb_program.specs.Statuses.{IsCounted, IsJournalRefused, IsShown, IsWorkDone, EndsFailed, HasFailed, HasStalled, ConfigSays, StatusSays}
 use Rattle.http_workers.specs.declared.ended.Cause.{Cause}
 use Rattle.rdb_program.specs.declared.ending.Ending.{Ending}
-use Rattle.rdb_program.specs.declared.ending.Ending.TheVariants.{WordsRefused, Shown, ConfigFault, ConfigRefused, Unstarted, Served}
-use Rattle.rdb_program.proofs.CauseLaws.{status_at, not_one, not_two, faults_of, stalls_of, no_fault, no_stall, done_at, broken_at, failed_at, stalled_at, no_read_fault_at, not_fault_at, not_stall_at, ends_at, fault_there, stall_there}
+use Rattle.rdb_program.specs.declared.ending.Ending.TheVariants.{WordsRefused, Shown, ConfigFault, ConfigRefused, Unstarted, Unopened, Counted, Served}
+use Rattle.rdb_program.proofs.CauseLaws.{status_at, not_one, not_two, not_three, faults_of, stalls_of, no_fault, no_stall, done_at, broken_at, failed_at, stalled_at, no_read_fault_at, not_fault_at, not_stall_at, ends_at, fault_there, stall_there}
 use Rattle.rdb_program.proofs.ConfigLaws.{policy_apart, accepted_told, refused_told}
 
 -- ---- the words
@@ -39,6 +57,13 @@ pub answer_apart : (words : List (List ℕ)) (text : List ℕ) → AskForText wo
 answer_apart words text (inl help) answer = let e = one_command words (commands.Answer answer.0 answer.1) commands.Help answer.2 help.0 in cc
 answer_apart words text (inr version) answer =
     let e = one_command words (commands.Answer answer.0 answer.1) commands.Version answer.2 version.0 in cc
+
+pub check_apart : (words : List (List ℕ)) → IsCheckWords words → IsAnswerWords words → ⊥
+check_apart words check answer = let e = one_command words (commands.Answer answer.0 answer.1) (commands.Check check.0) answer.2 check.1 in cc
+
+pub text_apart : (words : List (List ℕ)) (text : List ℕ) → AskForText words text → IsCheckWords words → ⊥
+text_apart words text (inl help) check = let e = one_command words (commands.Check check.0) commands.Help check.1 help.0 in cc
+text_apart words text (inr version) check = let e = one_command words (commands.Check check.0) commands.Version check.1 version.0 in cc
 
 asks : (words : List (List ℕ)) (text : List ℕ) → AskForText words text → (command : Command) × Says words command
 asks words text (inl help) = (commands.Help, help.0)
@@ -52,40 +77,58 @@ nothing_apart words nothing answer = nothing (commands.Answer answer.0 answer.1)
 
 -- ---- a run that leaves the connection alone
 
-says_still : (status : ℕ) (words : List (List ℕ)) (before after : Outside) → after.work.ends ≡ before.work.ends
-    → status ≢ 0 → status ≢ 8 → status ≢ 9
-    → (status ≡ 1 → SayNothing words) → (status ≢ 1 → status ≢ 7 → (command : Command) × Says words command)
-    → (status ≡ 1 → after.work ≡ before.work) → (status ≡ 2 → IsAnswerWords words)
-    → ((text : List ℕ) → before.work.config.left ≡ Some text → ConfigSays status words text before after)
-    → (status ≡ 4 → Rose before.work.config.faults after.work.config.faults)
-    → (status ≢ 4 → after.work.config.faults ≡ before.work.config.faults) → (¬ IsAnswerWords words → after.work.config ≡ before.work.config)
-    → ((text : List ℕ) → AskForText words text → status ≡ 7) → (IsAnswerWords words → status ≢ 2 → ¬ HasFailed before.work after.work → status ≡ 7)
-    → StatusSays status words before after
-says_still status words before after same n0 n8 n9 refused accepted unread asked config rose kept unasked texts seven = record {
-  words_refused = refused;
-  words_accepted = accepted;
-  untouched = unread;
+-- What is so of it.
+record IsStill (status : ℕ) (words : List (List ℕ)) (before after : Outside) : Type 0 where
+  same : after.work.ends ≡ before.work.ends
+  not_done : status ≢ 0
+  not_broken : status ≢ 8
+  not_stalled : status ≢ 9
+  refused : status ≡ 1 → SayNothing words
+  accepted : status ≢ 1 → status ≢ 7 → (command : Command) × Says words command
+  unread : status ≡ 1 → after.work ≡ before.work
+  asked : status ≡ 2 → IsAnswerWords words
+  disk : status ≡ 2 → after.work.disk ≡ before.work.disk
+  config : (text : List ℕ) → before.work.config.left ≡ Some text → ConfigSays status words text before after
+  journal : status ≡ 3 → IsJournalRefused before after
+  failed : status ≡ 4 → HasFailed before.work after.work
+  kept : status ≢ 4 → after.work.config.faults ≡ before.work.config.faults
+  unasked : ¬ IsAnswerWords words → after.work.config ≡ before.work.config
+  disk_unasked : ¬ IsAnswerWords words → ¬ IsCheckWords words → after.work.disk ≡ before.work.disk
+  texts : (text : List ℕ) → AskForText words text → status ≡ 7
+  counts : IsCheckWords words → status ≢ 3 → ¬ HasFailed before.work after.work → status ≡ 7
+  seven : IsAnswerWords words → status ≢ 2 → status ≢ 3 → ¬ HasFailed before.work after.work → status ≡ 7
+
+says_still : (status : ℕ) (words : List (List ℕ)) (before after : Outside) → IsStill status words before after → StatusSays status words before after
+says_still status words before after s = record {
+  words_refused = s.refused;
+  words_accepted = s.accepted;
+  untouched = s.unread;
   asked_to_serve = to_serve;
-  unserved = λ is. same;
-  config = config;
-  done = λ is. absurd (n0 is);
-  failed = λ is. inl (record { rose = rose is; ends = same });
-  broken = λ is. absurd (n8 is);
-  stalled = λ is. absurd (n9 is);
-  no_config_fault = kept;
-  no_read_fault = λ n4. ap (λ (e : Ends). e.incoming.faults) same;
-  no_write_fault = λ n4 n7 n8. ap (λ (e : Ends). e.outgoing.faults) same;
-  no_stall = λ n8 n9. ap (λ (e : Ends). e.outgoing.stalls) same;
-  config_unread = unasked;
-  text_shown = λ text asks fine takes. inr (texts text asks);
-  whole_stream = λ are n2 stream ms told framed fine takes. inr (seven are n2 fine);
-  closed_stream = λ are n2 stream ms told framed fine takes. inr (seven are n2 fine);
-  broken_stream = λ are n2 fault stream ms told framed fine takes. inr (seven are n2 fine);
+  unserved = λ is. s.same;
+  disk_untouched = s.disk;
+  config = s.config;
+  journal = s.journal;
+  unopened = λ is. s.same;
+  done = λ is. absurd (s.not_done is);
+  failed = s.failed;
+  broken = λ is. absurd (s.not_broken is);
+  stalled = λ is. absurd (s.not_stalled is);
+  no_config_fault = s.kept;
+  no_read_fault = λ n4. ap (λ (e : Ends). e.incoming.faults) s.same;
+  no_write_fault = λ n4 n7 n8. ap (λ (e : Ends). e.outgoing.faults) s.same;
+  no_stall = λ n8 n9. ap (λ (e : Ends). e.outgoing.stalls) s.same;
+  config_unread = s.unasked;
+  disk_unasked = s.disk_unasked;
+  text_shown = λ text asks fine takes. inr (s.texts text asks);
+  count_shown = λ are n3 fine takes. inr (s.counts are n3 fine);
+  whole_stream = λ are n2 n3 stream ms told framed fine takes. inr (s.seven are n2 n3 fine);
+  closed_stream = λ are n2 n3 stream ms told framed fine takes. inr (s.seven are n2 n3 fine);
+  broken_stream = λ are n2 n3 fault stream ms told framed fine takes. inr (s.seven are n2 n3 fine);
 }
   where
     to_serve : (status ≡ 2) ⊎ (status ≡ 8) → IsAnswerWords words
-    to_serve (inl two) = asked two
-    to_serve (inr eight) = absurd (n8 eight)
+    to_serve (inl two) = s.asked two
+    to_serve (inr eight) = absurd (s.not_broken eight)
 
 -- ---- the configuration, by how the run ended
 
@@ -136,59 +179,212 @@ config_served status words text before after tables n2 policy = record {
 -- ---- the runs
 
 says_words_refused : (words : List (List ℕ)) (before after : Outside) → SayNothing words → after.work ≡ before.work → StatusSays 1 words before after
-says_words_refused words before after nothing same =
-    says_still 1 words before after (ap (λ (w : Work). w.ends) same) (λ e. omega (arith, e)) (λ e. omega (arith, e)) (λ e. omega (arith, e))
-    (λ is. nothing) (λ n1 n7. absurd (n1 refl)) (λ is. same) (λ is. absurd (omega (arith, is)))
-    (λ text told. config_other 1 words text before after (nothing_apart words nothing) (λ e. omega (arith, e)))
-    (λ is. absurd (omega (arith, is))) (λ n4. ap (λ (w : Work). w.config.faults) same) (λ other. ap (λ (w : Work). w.config) same)
-    (λ text asked. absurd (nothing_asked text asked)) (λ are n2 fine. absurd (nothing_apart words nothing are))
-  where
-    nothing_asked : (text : List ℕ) → AskForText words text → ⊥
-    nothing_asked text asked = nothing (asks words text asked).0 (asks words text asked).1
+says_words_refused words before after nothing same = says_still 1 words before after (record {
+  same = ap (λ (w : Work). w.ends) same;
+  not_done = λ e. omega (arith, e);
+  not_broken = λ e. omega (arith, e);
+  not_stalled = λ e. omega (arith, e);
+  refused = λ is. nothing;
+  accepted = λ n1 n7. absurd (n1 refl);
+  unread = λ is. same;
+  asked = λ is. absurd (omega (arith, is));
+  disk = λ is. absurd (omega (arith, is));
+  config = λ text told. config_other 1 words text before after (nothing_apart words nothing) (λ e. omega (arith, e));
+  journal = λ is. absurd (omega (arith, is));
+  failed = λ is. absurd (omega (arith, is));
+  kept = λ n4. ap (λ (w : Work). w.config.faults) same;
+  unasked = λ other. ap (λ (w : Work). w.config) same;
+  disk_unasked = λ other also. ap (λ (w : Work). w.disk) same;
+  texts = λ text asked. absurd (nothing (asks words text asked).0 (asks words text asked).1);
+  counts = λ are n3 fine. absurd (nothing (commands.Check are.0) are.1);
+  seven = λ are n2 n3 fine. absurd (nothing_apart words nothing are);
+})
 
+-- Memory was wanting.
 says_unstarted : (words : List (List ℕ)) (before after : Outside) → after.work.ends ≡ before.work.ends
     → after.work.config.faults ≡ before.work.config.faults → (¬ IsAnswerWords words → after.work.config ≡ before.work.config)
-    → StatusSays 7 words before after
-says_unstarted words before after same faults unasked =
-    says_still 7 words before after same (λ e. omega (arith, e)) (λ e. omega (arith, e)) (λ e. omega (arith, e))
-    (λ is. absurd (omega (arith, is))) (λ n1 n7. absurd (n7 refl)) (λ is. absurd (omega (arith, is))) (λ is. absurd (omega (arith, is)))
-    (λ text told. config_left words text before after)
-    (λ is. absurd (omega (arith, is))) (λ n4. faults) unasked (λ text asked. refl) (λ are n2 fine. refl)
+    → (¬ IsAnswerWords words → ¬ IsCheckWords words → after.work.disk ≡ before.work.disk) → StatusSays 7 words before after
+says_unstarted words before after same faults unasked disk = says_still 7 words before after (record {
+  same = same;
+  not_done = λ e. omega (arith, e);
+  not_broken = λ e. omega (arith, e);
+  not_stalled = λ e. omega (arith, e);
+  refused = λ is. absurd (omega (arith, is));
+  accepted = λ n1 n7. absurd (n7 refl);
+  unread = λ is. absurd (omega (arith, is));
+  asked = λ is. absurd (omega (arith, is));
+  disk = λ is. absurd (omega (arith, is));
+  config = λ text told. config_left words text before after;
+  journal = λ is. absurd (omega (arith, is));
+  failed = λ is. absurd (omega (arith, is));
+  kept = λ n4. faults;
+  unasked = unasked;
+  disk_unasked = disk;
+  texts = λ text asked. refl;
+  counts = λ are n3 fine. refl;
+  seven = λ are n2 n3 fine. refl;
+})
 
 says_config_fault : (words : List (List ℕ)) (before after : Outside) → IsAnswerWords words → after.work.ends ≡ before.work.ends
     → Rose before.work.config.faults after.work.config.faults → StatusSays 4 words before after
 says_config_fault words before after are same rose =
-    says_still 4 words before after same (λ e. omega (arith, e)) (λ e. omega (arith, e)) (λ e. omega (arith, e))
-    (λ is. absurd (omega (arith, is))) (λ n1 n7. answers words are) (λ is. absurd (omega (arith, is))) (λ is. are)
-    (λ text told. config_failed words text before after rose)
-    (λ is. rose) (λ n4. absurd (n4 refl)) (λ other. absurd (other are)) (λ text asked. absurd (answer_apart words text asked are))
-    (λ also n2 fine. absurd (fine (inl (record { rose = rose; ends = same }))))
+    let failed : HasFailed before.work after.work = inl (record { rose = rose; ends = same }) in
+    says_still 4 words before after (record {
+      same = same;
+      not_done = λ e. omega (arith, e);
+      not_broken = λ e. omega (arith, e);
+      not_stalled = λ e. omega (arith, e);
+      refused = λ is. absurd (omega (arith, is));
+      accepted = λ n1 n7. answers words are;
+      unread = λ is. absurd (omega (arith, is));
+      asked = λ is. are;
+      disk = λ is. absurd (omega (arith, is));
+      config = λ text told. config_failed words text before after rose;
+      journal = λ is. absurd (omega (arith, is));
+      failed = λ is. failed;
+      kept = λ n4. absurd (n4 refl);
+      unasked = λ other. absurd (other are);
+      disk_unasked = λ other also. absurd (other are);
+      texts = λ text asked. absurd (answer_apart words text asked are);
+      counts = λ also n3 fine. absurd (fine failed);
+      seven = λ also n2 n3 fine. absurd (fine failed);
+    })
 
 says_config_refused : (words : List (List ℕ)) (before after : Outside) → IsAnswerWords words → after.work.ends ≡ before.work.ends
-    → after.work.config.faults ≡ before.work.config.faults
+    → after.work.disk ≡ before.work.disk → after.work.config.faults ≡ before.work.config.faults
     → ((text : List ℕ) → before.work.config.left ≡ Some text → ConfigSays 2 words text before after) → StatusSays 2 words before after
-says_config_refused words before after are same faults config =
-    says_still 2 words before after same (λ e. omega (arith, e)) (λ e. omega (arith, e)) (λ e. omega (arith, e))
-    (λ is. absurd (omega (arith, is))) (λ n1 n7. answers words are) (λ is. absurd (omega (arith, is))) (λ is. are) config
-    (λ is. absurd (omega (arith, is))) (λ n4. faults) (λ other. absurd (other are)) (λ text asked. absurd (answer_apart words text asked are))
-    (λ also n2 fine. absurd (n2 refl))
+says_config_refused words before after are same disk faults config = says_still 2 words before after (record {
+  same = same;
+  not_done = λ e. omega (arith, e);
+  not_broken = λ e. omega (arith, e);
+  not_stalled = λ e. omega (arith, e);
+  refused = λ is. absurd (omega (arith, is));
+  accepted = λ n1 n7. answers words are;
+  unread = λ is. absurd (omega (arith, is));
+  asked = λ is. are;
+  disk = λ is. disk;
+  config = config;
+  journal = λ is. absurd (omega (arith, is));
+  failed = λ is. absurd (omega (arith, is));
+  kept = λ n4. faults;
+  unasked = λ other. absurd (other are);
+  disk_unasked = λ other also. disk;
+  texts = λ text asked. absurd (answer_apart words text asked are);
+  counts = λ also n3 fine. absurd (check_apart words also are);
+  seven = λ also n2 n3 fine. absurd (n2 refl);
+})
 
--- What is common to the runs that show a text.
-says_shown : (status : ℕ) (words : List (List ℕ)) (before after : Outside) (result : Result (Unit {0}) WriteEnd)
-    (tb ta : List ℤ → Type 0) → Shows result words before.work tb after.work ta
-    → status ≢ 1 → status ≢ 2 → status ≢ 7 → status ≢ 8
+-- ---- the journal wasn't opened
+
+opening_range : (fault : OpenFault) → (3 ≤ (opening_row fault).status) × ((opening_row fault).status ≤ 7)
+opening_range (openings.NotAJournal at) = (omega arith, omega arith)
+opening_range (openings.Damaged at byte) = (omega arith, omega arith)
+opening_range (openings.NewerVersion found) = (omega arith, omega arith)
+opening_range openings.DiskFailed = (omega arith, omega arith)
+opening_range openings.Memory = (omega arith, omega arith)
+
+opening_rose : (fault : OpenFault) (before now : ℕ) → FaultCause before fault now → (opening_row fault).status ≡ 4 → Rose before now
+opening_rose openings.DiskFailed before now cause is = cause.1
+opening_rose (openings.NotAJournal at) before now cause is = absurd (omega (arith, is))
+opening_rose (openings.Damaged at byte) before now cause is = absurd (omega (arith, is))
+opening_rose (openings.NewerVersion found) before now cause is = absurd (omega (arith, is))
+opening_rose openings.Memory before now cause is = absurd (omega (arith, is))
+
+opening_else : (fault : OpenFault) → (opening_row fault).status ≢ 3 → (opening_row fault).status ≢ 4 → (opening_row fault).status ≡ 7
+opening_else (openings.NotAJournal at) n3 n4 = absurd (n3 refl)
+opening_else (openings.Damaged at byte) n3 n4 = absurd (n3 refl)
+opening_else (openings.NewerVersion found) n3 n4 = absurd (n3 refl)
+opening_else openings.DiskFailed n3 n4 = absurd (n4 refl)
+opening_else openings.Memory n3 n4 = refl
+
+-- what such a run says of the words and the configuration, by what asked for the journal
+reached_command : (words : List (List ℕ)) (before after : Incoming) → ReachesDisk words before after → (command : Command) × Says words command
+reached_command words before after (inl answer) = answers words answer.0
+reached_command words before after (inr check) = (commands.Check check.0.0, check.0.1)
+
+reached_faults : (words : List (List ℕ)) (before after : Incoming) → ReachesDisk words before after → after.faults ≡ before.faults
+reached_faults words before after (inl answer) = answer.1.1.faults
+reached_faults words before after (inr check) = ap (λ (i : Incoming). i.faults) check.1
+
+reached_unasked : (words : List (List ℕ)) (before after : Incoming) → ReachesDisk words before after → ¬ IsAnswerWords words → after ≡ before
+reached_unasked words before after (inl answer) other = absurd (other answer.0)
+reached_unasked words before after (inr check) other = check.1
+
+reached_asked : (words : List (List ℕ)) (before after : Incoming) → ReachesDisk words before after → ¬ IsAnswerWords words → ¬ IsCheckWords words → ⊥
+reached_asked words before after (inl answer) other also = other answer.0
+reached_asked words before after (inr check) other also = also check.0
+
+reached_text : (words : List (List ℕ)) (before after : Incoming) → ReachesDisk words before after → (text : List ℕ) → AskForText words text → ⊥
+reached_text words before after (inl answer) text asked = answer_apart words text asked answer.0
+reached_text words before after (inr check) text asked = text_apart words text asked check.0
+
+reached_config : (status : ℕ) (words : List (List ℕ)) (before after : Outside) → ReachesDisk words before.work.config after.work.config → status ≢ 2
+    → (text : List ℕ) → before.work.config.left ≡ Some text → ConfigSays status words text before after
+reached_config status words before after (inl answer) n2 text told =
+    config_served status words text before after answer.1.0 n2
+    (accepted_told before.work.config answer.1.0 after.work.config text answer.1.1 told)
+reached_config status words before after (inr check) n2 text told =
+    config_other status words text before after (λ are. check_apart words check.0 are) n2
+
+says_unopened : (words : List (List ℕ)) (before after : Outside) (tb ta : List ℤ → Type 0) (fault : OpenFault)
+    → StopsAtDisk fault words before.work tb after.work ta → IsReported (opening_row fault).line before.errors after.errors
+    → StatusSays (opening_row fault).status words before after
+says_unopened words before after tb ta fault s line =
+    let status = (opening_row fault).status in
+    let range = opening_range fault in
+    let n2 : status ≢ 2 = λ e. omega (arith, e, range.0) in
+    let rose = λ (is : status ≡ 4). opening_rose fault before.work.disk.faults after.work.disk.faults s.disk.cause is in
+    let failed : status ≡ 4 → HasFailed before.work after.work = λ is. inr (inl (record { rose = rose is; ends = s.ends })) in
+    says_still status words before after (record {
+      same = s.ends;
+      not_done = λ e. omega (arith, e, range.0);
+      not_broken = λ e. omega (arith, e, range.1);
+      not_stalled = λ e. omega (arith, e, range.1);
+      refused = λ is. absurd (omega (arith, is, range.0));
+      accepted = λ n1 n7. reached_command words before.work.config after.work.config s.reaches;
+      unread = λ is. absurd (omega (arith, is, range.0));
+      asked = λ is. absurd (n2 is);
+      disk = λ is. absurd (n2 is);
+      config = reached_config status words before after s.reaches n2;
+      journal = λ is. record { fault = fault; shown = s.disk.shown; refused = is; line = line };
+      failed = failed;
+      kept = λ n4. reached_faults words before.work.config after.work.config s.reaches;
+      unasked = reached_unasked words before.work.config after.work.config s.reaches;
+      disk_unasked = λ other also. absurd (reached_asked words before.work.config after.work.config s.reaches other also);
+      texts = λ text asked. absurd (reached_text words before.work.config after.work.config s.reaches text asked);
+      counts = λ are n3 fine. opening_else fault n3 (λ is. fine (failed is));
+      seven = λ are m2 n3 fine. opening_else fault n3 (λ is. fine (failed is));
+    })
+
+-- ---- a text was written
+
+-- What is so of a run that wrote a text, by how the write of it ended.
+record IsWriting (words : List (List ℕ)) (text : List ℕ) (before after : Outside) (result : Result (Unit {0}) WriteEnd) : Type 0 where
+  said : (command : Command) × Says words command
+  no_answer : IsAnswerWords words → ⊥
+  config : after.work.config ≡ before.work.config
+  ends : ShowsText text before.work.ends result after.work.ends
+  disk_unasked : ¬ IsCheckWords words → after.work.disk ≡ before.work.disk
+  done : IsShown text before.work after.work → IsWorkDone words before.work after.work
+
+says_written : (status : ℕ) (words : List (List ℕ)) (text : List ℕ) (before after : Outside) (result : Result (Unit {0}) WriteEnd)
+    → IsWriting words text before after result
+    → status ≢ 1 → status ≢ 2 → status ≢ 3 → status ≢ 7 → status ≢ 8
     → (status ≡ 0 → result ≡ Ok tt) → (status ≡ 4 → result ≡ Err write_ends.WriteFault) → (status ≡ 9 → result ≡ Err write_ends.SinkTakesNothing)
     → (status ≢ 4 → result ≢ Err write_ends.WriteFault) → (status ≢ 9 → result ≢ Err write_ends.SinkTakesNothing)
     → (¬ HasFailed before.work after.work → ¬ HasStalled before.work after.work → status ≡ 0) → StatusSays status words before after
-says_shown status words before after result tb ta s n1 n2 n7 n8 well failed stalled unfailed unstalled shown = record {
+says_written status words text before after result s n1 n2 n3 n7 n8 well failed stalled unfailed unstalled shown = record {
   words_refused = λ is. absurd (n1 is);
-  words_accepted = λ m1 m7. asks words s.text s.asked;
+  words_accepted = λ m1 m7. s.said;
   untouched = λ is. absurd (n1 is);
   asked_to_serve = no_serve;
   unserved = λ is. absurd (n2 is);
-  config = λ text told. config_other status words text before after no_answer n2;
-  done = λ is. inl (s.text, s.asked, record { config = s.config; unread = s.ends.unread; written = written_whole (well is) });
-  failed = λ is. inr (inr (fault_there before.work.ends.outgoing.faults after.work.ends.outgoing.faults result s.ends.writes.faults (failed is)));
+  disk_untouched = λ is. absurd (n2 is);
+  config = λ told is. config_other status words told before after s.no_answer n2;
+  journal = λ is. absurd (n3 is);
+  unopened = λ is. absurd (n3 is);
+  done = λ is. s.done (record { config = s.config; unread = s.ends.unread; written = written_whole (well is) });
+  failed = λ is. inr (inr (inr (fault_there before.work.ends.outgoing.faults after.work.ends.outgoing.faults result s.ends.writes.faults (failed is))));
   broken = λ is. absurd (n8 is);
   stalled = λ is. stall_there before.work.ends.outgoing.stalls after.work.ends.outgoing.stalls result s.ends.writes.stalls (stalled is);
   no_config_fault = λ n4. ap (λ (i : Incoming). i.faults) s.config;
@@ -196,37 +392,82 @@ says_shown status words before after result tb ta s n1 n2 n7 n8 well failed stal
   no_write_fault = λ n4 m7 m8. no_fault before.work.ends.outgoing.faults after.work.ends.outgoing.faults result s.ends.writes.faults (unfailed n4);
   no_stall = λ m8 n9. no_stall before.work.ends.outgoing.stalls after.work.ends.outgoing.stalls result s.ends.writes.stalls (unstalled n9);
   config_unread = λ other. s.config;
-  text_shown = λ text asked fine takes. inl (shown fine takes);
-  whole_stream = λ are m2 stream ms told framed fine takes. absurd (no_answer are);
-  closed_stream = λ are m2 stream ms told framed fine takes. absurd (no_answer are);
-  broken_stream = λ are m2 fault stream ms told framed fine takes. absurd (no_answer are);
+  disk_unasked = λ other also. s.disk_unasked also;
+  text_shown = λ told asked fine takes. inl (shown fine takes);
+  count_shown = λ are m3 fine takes. inl (shown fine takes);
+  whole_stream = λ are m2 m3 stream ms told framed fine takes. absurd (s.no_answer are);
+  closed_stream = λ are m2 m3 stream ms told framed fine takes. absurd (s.no_answer are);
+  broken_stream = λ are m2 m3 fault stream ms told framed fine takes. absurd (s.no_answer are);
 }
   where
-    no_answer : IsAnswerWords words → ⊥
-    no_answer are = answer_apart words s.text s.asked are
-
     no_serve : (status ≡ 2) ⊎ (status ≡ 8) → IsAnswerWords words
     no_serve (inl two) = absurd (n2 two)
     no_serve (inr eight) = absurd (n8 eight)
 
-    written_whole : result ≡ Ok tt → Took before.work.ends.outgoing.written s.text after.work.ends.outgoing.written
+    written_whole : result ≡ Ok tt → Took before.work.ends.outgoing.written text after.work.ends.outgoing.written
     written_whole is =
-        subst (λ (r : Result (Unit {0}) WriteEnd). IsWritten before.work.ends.outgoing.written s.text r after.work.ends.outgoing.written) is
+        subst (λ (r : Result (Unit {0}) WriteEnd). IsWritten before.work.ends.outgoing.written text r after.work.ends.outgoing.written) is
         s.ends.writes.written
+
+written_well : (words : List (List ℕ)) (text : List ℕ) (before after : Outside) (done : Unit {0}) → IsWriting words text before after (Ok done)
+    → StatusSays 0 words before after
+written_well words text before after done s =
+    says_written 0 words text before after (Ok done) s (λ e. omega (arith, e)) (λ e. omega (arith, e)) (λ e. omega (arith, e)) (λ e. omega (arith, e))
+    (λ e. omega (arith, e)) (λ is. refl) (λ is. absurd (omega (arith, is))) (λ is. absurd (omega (arith, is))) (λ n4 e. cc) (λ n9 e. cc)
+    (λ fine takes. refl)
+
+written_failed : (words : List (List ℕ)) (text : List ℕ) (before after : Outside) → IsWriting words text before after (Err write_ends.WriteFault)
+    → StatusSays 4 words before after
+written_failed words text before after s =
+    says_written 4 words text before after (Err write_ends.WriteFault) s (λ e. omega (arith, e)) (λ e. omega (arith, e)) (λ e. omega (arith, e))
+    (λ e. omega (arith, e)) (λ e. omega (arith, e)) (λ is. absurd (omega (arith, is))) (λ is. refl) (λ is. absurd (omega (arith, is)))
+    (λ n4 e. n4 refl) (λ n9 e. cc) (λ fine takes. absurd (fine (inr (inr (inr s.ends.writes.faults.1)))))
+
+written_stalled : (words : List (List ℕ)) (text : List ℕ) (before after : Outside) → IsWriting words text before after (Err write_ends.SinkTakesNothing)
+    → StatusSays 9 words before after
+written_stalled words text before after s =
+    says_written 9 words text before after (Err write_ends.SinkTakesNothing) s (λ e. omega (arith, e)) (λ e. omega (arith, e)) (λ e. omega (arith, e))
+    (λ e. omega (arith, e)) (λ e. omega (arith, e)) (λ is. absurd (omega (arith, is))) (λ is. absurd (omega (arith, is))) (λ is. refl)
+    (λ n4 e. cc) (λ n9 e. n9 refl) (λ fine takes. absurd (takes s.ends.writes.stalls.1))
+
+text_writing : (words : List (List ℕ)) (before after : Outside) (result : Result (Unit {0}) WriteEnd) (tb ta : List ℤ → Type 0)
+    (s : Shows result words before.work tb after.work ta) → IsWriting words s.text before after result
+text_writing words before after result tb ta s = record {
+  said = asks words s.text s.asked;
+  no_answer = λ are. answer_apart words s.text s.asked are;
+  config = s.config;
+  ends = s.ends;
+  disk_unasked = λ other. s.disk;
+  done = λ shown. inl (s.text, s.asked, shown);
+}
 
 says_text : (words : List (List ℕ)) (before after : Outside) (result : Result (Unit {0}) WriteEnd) (tb ta : List ℤ → Type 0)
     → Shows result words before.work tb after.work ta → StatusSays (status_of (Shown result)) words before after
-says_text words before after (Ok done) tb ta s =
-    says_shown 0 words before after (Ok done) tb ta s (λ e. omega (arith, e)) (λ e. omega (arith, e)) (λ e. omega (arith, e)) (λ e. omega (arith, e))
-    (λ is. refl) (λ is. absurd (omega (arith, is))) (λ is. absurd (omega (arith, is))) (λ n4 e. cc) (λ n9 e. cc) (λ fine takes. refl)
+says_text words before after (Ok done) tb ta s = written_well words s.text before after done (text_writing words before after (Ok done) tb ta s)
 says_text words before after (Err write_ends.WriteFault) tb ta s =
-    says_shown 4 words before after (Err write_ends.WriteFault) tb ta s (λ e. omega (arith, e)) (λ e. omega (arith, e)) (λ e. omega (arith, e))
-    (λ e. omega (arith, e)) (λ is. absurd (omega (arith, is))) (λ is. refl) (λ is. absurd (omega (arith, is))) (λ n4 e. n4 refl) (λ n9 e. cc)
-    (λ fine takes. absurd (fine (inr (inr s.ends.writes.faults.1))))
+    written_failed words s.text before after (text_writing words before after (Err write_ends.WriteFault) tb ta s)
 says_text words before after (Err write_ends.SinkTakesNothing) tb ta s =
-    says_shown 9 words before after (Err write_ends.SinkTakesNothing) tb ta s (λ e. omega (arith, e)) (λ e. omega (arith, e)) (λ e. omega (arith, e))
-    (λ e. omega (arith, e)) (λ is. absurd (omega (arith, is))) (λ is. absurd (omega (arith, is))) (λ is. refl) (λ n4 e. cc) (λ n9 e. n9 refl)
-    (λ fine takes. absurd (takes s.ends.writes.stalls.1))
+    written_stalled words s.text before after (text_writing words before after (Err write_ends.SinkTakesNothing) tb ta s)
+
+count_writing : (words : List (List ℕ)) (before after : Outside) (result : Result (Unit {0}) WriteEnd) (tb ta : List ℤ → Type 0)
+    (s : CountsJournal result words before.work tb after.work ta)
+    → IsWriting words (world_text s.world (length (records s.commands))) before after result
+count_writing words before after result tb ta s = record {
+  said = (commands.Check s.words_are.0, s.words_are.1);
+  no_answer = λ are. check_apart words s.words_are are;
+  config = s.config;
+  ends = s.ends;
+  disk_unasked = λ other. absurd (other s.words_are);
+  done = λ shown. inr (inl (s.words_are, record { world = s.world; opens = s.opens; commands = s.commands; leaves = s.leaves; shown = shown }));
+}
+
+says_count : (words : List (List ℕ)) (before after : Outside) (result : Result (Unit {0}) WriteEnd) (tb ta : List ℤ → Type 0)
+    → CountsJournal result words before.work tb after.work ta → StatusSays (status_of (Counted result)) words before after
+says_count words before after (Ok done) tb ta s = written_well words _ before after done (count_writing words before after (Ok done) tb ta s)
+says_count words before after (Err write_ends.WriteFault) tb ta s =
+    written_failed words _ before after (count_writing words before after (Err write_ends.WriteFault) tb ta s)
+says_count words before after (Err write_ends.SinkTakesNothing) tb ta s =
+    written_stalled words _ before after (count_writing words before after (Err write_ends.SinkTakesNothing) tb ta s)
 
 -- The connection was served.
 says_served : (words : List (List ℕ)) (before after : Outside) (asked : List Exchange → Type 0) (calls : ℕ) (cause : Cause) (tables : PolicyTables)
@@ -242,11 +483,14 @@ says_served words before after asked calls cause tables are config s =
       untouched = λ is. absurd (not_one cause is);
       asked_to_serve = λ is. are;
       unserved = λ is. absurd (not_two cause is);
+      disk_untouched = λ is. absurd (not_two cause is);
       config = λ text told.
           config_served (status_at cause) words text before after tables (not_two cause)
           (accepted_told before.work.config tables after.work.config text config told);
-      done = λ is. inr (are, done_at _ was calls cause is_now s is);
-      failed = λ is. inr (failed_at _ was calls cause is_now c is);
+      journal = λ is. absurd (not_three cause is);
+      unopened = λ is. absurd (not_three cause is);
+      done = λ is. inr (inr (are, done_at _ was calls cause is_now s is));
+      failed = λ is. inr (inr (failed_at _ was calls cause is_now c is));
       broken = broken_at _ was calls cause is_now s;
       stalled = stalled_at _ was calls cause is_now c;
       no_config_fault = λ n4. config.faults;
@@ -254,13 +498,15 @@ says_served words before after asked calls cause tables are config s =
       no_write_fault = λ n4 n7 n8. no_fault was.outgoing.faults is_now.outgoing.faults c.result (faults_of _ was calls cause is_now c) (not_fault_at cause c.result c.last_write n4 n7 n8);
       no_stall = λ n8 n9. no_stall was.outgoing.stalls is_now.outgoing.stalls c.result (stalls_of _ was calls cause is_now c) (not_stall_at cause c.result c.last_write n8 n9);
       config_unread = λ other. absurd (other are);
+      disk_unasked = λ other also. absurd (other are);
       text_shown = λ text asks fine takes. absurd (answer_apart words text asks are);
-      whole_stream = λ also n2 stream ms told framed fine takes.
-          ends_at _ was calls cause is_now s stream ms stream_ends.Finished 0 told framed (λ f. fine (inr f)) takes (λ e. refl) (λ e. refl) (λ fault e. absurd cc);
-      closed_stream = λ also n2 stream ms told framed fine takes.
-          ends_at _ was calls cause is_now s stream ms stream_ends.Closed 0 told framed (λ f. fine (inr f)) takes (λ e. refl) (λ e. refl) (λ fault e. absurd cc);
-      broken_stream = λ also n2 fault stream ms told framed fine takes.
-          ends_at _ was calls cause is_now s stream ms (stream_ends.Fault fault) 8 told framed (λ f. fine (inr f)) takes (λ e. absurd cc) (λ e. absurd cc) (λ f e. refl);
+      count_shown = λ also n3 fine takes. absurd (check_apart words also are);
+      whole_stream = λ also n2 n3 stream ms told framed fine takes.
+          ends_at _ was calls cause is_now s stream ms stream_ends.Finished 0 told framed (λ f. fine (inr (inr f))) takes (λ e. refl) (λ e. refl) (λ fault e. absurd cc);
+      closed_stream = λ also n2 n3 stream ms told framed fine takes.
+          ends_at _ was calls cause is_now s stream ms stream_ends.Closed 0 told framed (λ f. fine (inr (inr f))) takes (λ e. refl) (λ e. refl) (λ fault e. absurd cc);
+      broken_stream = λ also n2 n3 fault stream ms told framed fine takes.
+          ends_at _ was calls cause is_now s stream ms (stream_ends.Fault fault) 8 told framed (λ f. fine (inr (inr f))) takes (λ e. absurd cc) (λ e. absurd cc) (λ f e. refl);
     }
 
 -- The connection was served, or there was no memory to begin with it.
@@ -269,7 +515,7 @@ says_ended : (words : List (List ℕ)) (before after : Outside) (asked : List Ex
     → StatusSays (status_at ended.cause) words before after
 says_ended words before after asked ended tables are config (inl unbegun) =
     subst (λ (k : Cause). StatusSays (status_at k) words before after) (sym unbegun.cause_is)
-    (says_unstarted words before after unbegun.untouched config.faults (λ other. absurd (other are)))
+    (says_unstarted words before after unbegun.untouched config.faults (λ other. absurd (other are)) (λ other also. absurd (other are)))
 says_ended words before after asked ended tables are config (inr s) = says_served words before after asked ended.calls ended.cause tables are config s
 
 -- What the status of a run says, with the line that the errors got.
@@ -280,47 +526,162 @@ says words before after tb ta WordsRefused run line = says_words_refused words b
 says words before after tb ta (Shown result) run line = says_text words before after result tb ta run
 says words before after tb ta ConfigFault run line = says_config_fault words before after run.words_are run.ends run.config.faults
 says words before after tb ta (ConfigRefused fault) run line =
-    says_config_refused words before after run.words_are run.ends run.config.faults
+    says_config_refused words before after run.words_are run.ends run.disk run.config.faults
     (λ text told.
     let whole = refused_told before.work.config fault after.work.config text run.config told in
     config_refused words text before after whole.0 whole.1
     (subst (λ (l : List ℕ). IsReported l before.errors after.errors) whole.2 line))
 says words before after tb ta Unstarted (inl run) line =
     says_unstarted words before after (ap (λ (w : Work). w.ends) run.0) (ap (λ (w : Work). w.config.faults) run.0)
-    (λ other. ap (λ (w : Work). w.config) run.0)
+    (λ other. ap (λ (w : Work). w.config) run.0) (λ other also. ap (λ (w : Work). w.disk) run.0)
 says words before after tb ta Unstarted (inr run) line =
-    says_unstarted words before after run.ends run.config.faults (λ other. absurd (other run.words_are))
+    says_unstarted words before after run.ends run.config.faults (λ other. absurd (other run.words_are)) (λ other also. run.disk)
+says words before after tb ta (Unopened fault) run line = says_unopened words before after tb ta fault run line
+says words before after tb ta (Counted result) run line = says_count words before after result tb ta run
 says words before after tb ta (Served ended) run line = says_ended words before after _ ended run.tables run.words_are run.config run.served
 
-abbrev pub work_at : Incoming → Incoming → Outgoing → Work
-work_at config input output = record { config = config; ends = record { incoming = input; outgoing = output } }
+abbrev pub work_at : Incoming → Incoming → Outgoing → DiskEnd → Work
+work_at config input output disk = record { config = config; ends = record { incoming = input; outgoing = output }; disk = disk }
 
 -- The same of the ends that a link reads and writes through.
-pub says_through : (words : List (List ℕ)) (cb ca ib i ia j : Incoming) (ob o oa p eb ea : Outgoing) (tb ta : List ℤ → Type 0) (ending : Ending)
-    → ib ≡ i → ia ≡ j → ob ≡ o → oa ≡ p → IsRun ending words (work_at cb ib ob) tb (work_at ca ia oa) ta → IsReported (line_of ending) eb ea
-    → StatusSays (status_of ending) words (outside cb i o eb) (outside ca j p ea)
-says_through words cb ca ib i ia j ob o oa p eb ea tb ta ending one two three four run line =
-    says words (outside cb i o eb) (outside ca j p ea) tb ta ending
-    (subst (λ (x : Incoming). IsRun ending words (work_at cb x o) tb (work_at ca j p) ta) one
-    (subst (λ (x : Incoming). IsRun ending words (work_at cb ib o) tb (work_at ca x p) ta) two
-    (subst (λ (x : Outgoing). IsRun ending words (work_at cb ib x) tb (work_at ca ia p) ta) three
-    (subst (λ (x : Outgoing). IsRun ending words (work_at cb ib ob) tb (work_at ca ia x) ta) four run)))) line
+pub says_through : (words : List (List ℕ)) (cb ca ib i ia j : Incoming) (ob o oa p eb ea : Outgoing) (db da : DiskEnd) (tb ta : List ℤ → Type 0)
+    (ending : Ending) → ib ≡ i → ia ≡ j → ob ≡ o → oa ≡ p → IsRun ending words (work_at cb ib ob db) tb (work_at ca ia oa da) ta
+    → IsReported (line_of ending) eb ea → StatusSays (status_of ending) words (outside cb i o eb db) (outside ca j p ea da)
+says_through words cb ca ib i ia j ob o oa p eb ea db da tb ta ending one two three four run line =
+    says words (outside cb i o eb db) (outside ca j p ea da) tb ta ending
+    (subst (λ (x : Incoming). IsRun ending words (work_at cb x o db) tb (work_at ca j p da) ta) one
+    (subst (λ (x : Incoming). IsRun ending words (work_at cb ib o db) tb (work_at ca x p da) ta) two
+    (subst (λ (x : Outgoing). IsRun ending words (work_at cb ib x db) tb (work_at ca ia p da) ta) three
+    (subst (λ (x : Outgoing). IsRun ending words (work_at cb ib ob db) tb (work_at ca ia x da) ta) four run)))) line
 
--- ---- the history of a connection over an empty world
+-- ---- the history of a connection over an opened journal
 
-pub history_from : {T : Type 0} (tells : T → List ℤ → Type 0) (tables shown : PolicyTables) (world : ServiceWorld) (last : Service)
-    (start then now end : T) (es : List Exchange) → shown ≡ tables → world ≡ empty_service → start ≡ then → now ≡ end
-    → Moves (service_of (record { policy = shown }) world) (tells start) es last (tells now) → IsHistory tables (tells then) es (tells end)
-history_from {T} tells tables shown world last start then now end es policy empty began ended moves =
-    let From : PolicyTables → ServiceWorld → T → T → Type 0 = λ p w s e. Moves (service_of (record { policy = p }) w) (tells s) es last (tells e) in
-    record {
+-- a teller over a journal that was just opened was asked nothing
+pub begun : {D : Type 0} (told : D → Option Told) (faults : D → ℕ) (tables : PolicyTables) (tells : List ℤ → Type 0) (before after : DiskEnd)
+    (w world : ServiceWorld) (journal first : Journal D) → world ≡ w → first ≡ journal → OpensBook told Plays before w journal after
+    → HasServed told faults Plays (service_of (record { policy = tables }) world) tells first [] (service_of (record { policy = tables }) world) tells first
+begun told faults tables tells before after w world journal first one two opened =
+    let stands = subst (λ (v : ServiceWorld). Stands told Plays empty_service v first opened.commands) (sym one)
+    (subst (λ (j : Journal _). Stands told Plays empty_service w j opened.commands) (sym two) opened.stands) in
+    served_nothing told faults Plays (service_of (record { policy = tables }) world) tells first opened.commands stands
+    (λ unsettled. let t : is_settled first ≡ true = ap is_settled two ∙ opened.settled in cc)
+
+pub history_from : {T D : Type 0} (tells : T → List ℤ → Type 0) (told : D → Option Told) (faults : D → ℕ) (tables shown : PolicyTables)
+    (opened world : ServiceWorld) (start then now end : T) (before first : Journal D) (es : List Exchange) (last : Service) (journal : Journal D)
+    (disk : D) → shown ≡ tables → world ≡ opened → start ≡ then → now ≡ end → first ≡ before → disk_of journal ≡ disk
+    → HasServed told faults Plays (service_of (record { policy = shown }) world) (tells start) first es last (tells now) journal
+    → IsHistory tables opened (tells then) (disk_end told faults (disk_of before)) es (tells end) (disk_end told faults disk)
+history_from {T} {D} tells told faults tables shown opened world start then now end before first es last journal disk policy is began ended stood closed served =
+    let From : PolicyTables → ServiceWorld → T → T → Journal D → Type 0 =
+    λ p w s e f. HasServed told faults Plays (service_of (record { policy = p }) w) (tells s) f es last (tells e) journal in
+    let whole : From tables opened then end before =
+    subst (λ (p : PolicyTables). From p opened then end before) policy
+    (subst (λ (w : ServiceWorld). From shown w then end before) is
+    (subst (λ (t : T). From shown world t end before) began
+    (subst (λ (t : T). From shown world start t before) ended
+    (subst (From shown world start now) stood served)))) in
+    subst (λ (d : D). IsHistory tables opened (tells then) (disk_end told faults (disk_of before)) es (tells end) (disk_end told faults d)) closed
+    (record {
       last = last;
-      moves = subst (λ (p : PolicyTables). From p empty_service then end) policy
-          (subst (λ (w : ServiceWorld). From shown w then end) empty
-          (subst (λ (t : T). From shown world t end) began (subst (λ (t : T). From shown world start t) ended moves)));
+      moves = whole.moves;
+      leaves = served_leaves told Plays (record { policy = tables }) opened whole.moves.history last.world journal whole.book;
+    })
+
+-- ---- the journal that was opened
+
+-- its commands lead from the empty world, as those of an empty core do
+pub opens_from : {D : Type 0} (told : D → Option Told) (first w : ServiceWorld) (journal : Journal D) (before after : DiskEnd) → first ≡ empty_service
+    → ((commands : List (List ℕ)) × Stands told Plays first w journal commands) → HasWorldOf Plays first w before.told
+    → is_settled journal ≡ true → OpensAs before.told after.told → OtherStays before.told after.told
+    → AtEachMoment before.told after.told (LeftBeforeOrAlike before.told) → AlikeOnceSynced before.told after.told → after.faults ≡ before.faults
+    → OpensBook told Plays before w journal after
+opens_from told first w journal before after empty stands world settled begins other moments synced faults =
+    let stood = subst (λ (v : ServiceWorld). (commands : List (List ℕ)) × Stands told Plays v w journal commands) empty stands in
+    record {
+      opens = record {
+        world = subst (λ (v : ServiceWorld). HasWorldOf Plays v w before.told) empty world;
+        begins = begins;
+        other = other;
+        moments = moments;
+        synced = synced;
+        faults = faults;
+      };
+      commands = stood.0;
+      stands = stood.1;
+      settled = settled;
     }
+
+-- the records that stand before the gate
+pub record_bytes : {D : Type 0} (told : D → Option Told) (w : ServiceWorld) (journal : Journal D) (commands : List (List ℕ))
+    → Stands told Plays empty_service w journal commands → end_of journal ≡ 8 + length (records commands)
+record_bytes told w journal commands stands = stands.place ∙ length-append head (records commands)
 
 -- a clock that wasn't asked tells what it told
 pub unasked : (tells : List ℤ → Type 0) → IsClocked tells [] tells
 unasked tells [] others e told = (refl, told)
 unasked tells (x ∷ xs) others e told = absurd (omega (arith, e))
+
+-- a configuration that was accepted was left where memory was wanting behind it
+accepts_leaves : (before : Incoming) (tables : PolicyTables) (after : Incoming) → Accepts before tables after → Leaves before after
+accepts_leaves before tables after a = record { text = a.text; gave = a.gave; bounded = omega (arith, a.policy.size); faults = a.faults }
+
+-- a connection whose journal wasn't opened
+pub unopened_run : (ending : Ending) (words : List (List ℕ)) (before after : Incoming) (tables : PolicyTables) (ends : Ends) (db da : DiskEnd)
+    (tells : List ℤ → Type 0) → IsAnswerWords words → Accepts before tables after → IsUnopened ending db da
+    → IsRun ending words (record { config = before; ends = ends; disk = db }) tells (record { config = after; ends = ends; disk = da }) tells
+unopened_run Unstarted words before after tables ends db da tells are accepts same =
+    inr (record {
+      words_are = are;
+      config = accepts_leaves before tables after accepts;
+      ends = refl;
+      disk = same;
+      clocked = unasked tells;
+    })
+unopened_run (Unopened fault) words before after tables ends db da tells are accepts refused = record {
+  reaches = inl (are, (tables, accepts));
+  ends = refl;
+  disk = refused;
+  clocked = unasked tells;
+}
+unopened_run WordsRefused words before after tables ends db da tells are accepts never = absurd never
+unopened_run (Shown result) words before after tables ends db da tells are accepts never = absurd never
+unopened_run ConfigFault words before after tables ends db da tells are accepts never = absurd never
+unopened_run (ConfigRefused fault) words before after tables ends db da tells are accepts never = absurd never
+unopened_run (Counted result) words before after tables ends db da tells are accepts never = absurd never
+unopened_run (Served ended) words before after tables ends db da tells are accepts never = absurd never
+
+-- a journal that was counted
+pub counted_run : {D : Type 0} (told : D → Option Told) (faults : D → ℕ) (words : List (List ℕ)) (config : Incoming) (before after : Ends)
+    (disk : DiskEnd) (w : ServiceWorld) (journal : Journal D) (left : D) (tells : List ℤ → Type 0) (line : List ℕ) (counts : Counts) (end : ℕ)
+    (result : Result (Unit {0}) WriteEnd) → IsCheckWords words → (book : OpensBook told Plays disk w journal (disk_end told faults (disk_of journal)))
+    → left ≡ disk_of journal → counts ≡ counts_of w → end ≡ end_of journal → line ≡ counts_text counts (end - 8)
+    → ShowsText line before result after
+    → CountsJournal result words (record { config = config; ends = before; disk = disk }) tells
+    (record { config = config; ends = after; disk = disk_end told faults left }) tells
+counted_run {D} told faults words config before after disk w journal left tells line counts end result are book same counts_are end_is line_is shows =
+    let bytes : end - 8 ≡ length (records book.commands) = omega (arith, end_is, record_bytes told w journal book.commands book.stands) in
+    let text : line ≡ world_text w (length (records book.commands)) =
+    line_is ∙ (ap (λ (c : Counts). counts_text c (end - 8)) counts_are ∙ ap (counts_text (counts_of w)) bytes) in
+    subst (λ (d : D). CountsJournal result words (record { config = config; ends = before; disk = disk }) tells
+    (record { config = config; ends = after; disk = disk_end told faults d }) tells) (sym same)
+    (record {
+      words_are = are;
+      config = refl;
+      world = w;
+      opens = book.opens;
+      commands = book.commands;
+      leaves = settled_leaves told journal book.commands book.settled book.stands.on_disk;
+      ends = subst (λ (t : List ℕ). ShowsText t before result after) text shows;
+      clocked = unasked tells;
+    })
+
+-- a line that isn't put together is the line of its ending
+pub fixed_is : (ending : Ending) → ((fault : OpenFault) → ending ≢ Unopened fault) → fixed_line ending ≡ line_of ending
+fixed_is WordsRefused other = refl
+fixed_is (Shown result) other = refl
+fixed_is ConfigFault other = refl
+fixed_is (ConfigRefused fault) other = refl
+fixed_is Unstarted other = refl
+fixed_is (Unopened fault) other = absurd (other fault refl)
+fixed_is (Counted result) other = refl
+fixed_is (Served ended) other = refl

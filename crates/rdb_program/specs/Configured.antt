@@ -8,7 +8,8 @@ use Rattle.policy_reading.specs.Reading.{IsPolicyOf, IsFirstFault}
 use Rattle.permissions.specs.declared.faults.PolicyFault.{PolicyFault}
 use Rattle.rdb_program.specs.declared.ending.Ending.{Ending}
 use Rattle.rdb_program.specs.declared.ending.Ending.TheVariants.{WordsRefused, Shown, ConfigFault}
-use Rattle.rdb_program.specs.declared.ending.Ending.TheVariants.{ConfigRefused, Unstarted, Served}
+use Rattle.rdb_program.specs.declared.ending.Ending.TheVariants.{ConfigRefused, Unstarted, Unopened}
+use Rattle.rdb_program.specs.declared.ending.Ending.TheVariants.{Counted, Served}
 
 -- the most that is read of a configuration: one byte more than it may have
 abbrev pub most_read : ℕ
@@ -54,4 +55,6 @@ IsUnserved (ConfigRefused fault) before after = Refuses before fault after
 IsUnserved Unstarted before after = Leaves before after
 IsUnserved WordsRefused before after = ⊥
 IsUnserved (Shown result) before after = ⊥
+IsUnserved (Unopened fault) before after = ⊥
+IsUnserved (Counted result) before after = ⊥
 IsUnserved (Served ended) before after = ⊥

@@ -1,5 +1,5 @@
 -- What each exit status says of the words, the configuration, the input and the output.
-use Rattle.std.specs.Prelude.{◌≡◌, ◌≢◌, ℕ, ◌⊎◌, List, Some}
+use Rattle.std.specs.Prelude.{◌≡◌, ◌≢◌, ℕ, ◌⊎◌, List, Some, length}
 use Rattle.fault_counts.specs.Causes.{Rose}
 use Rattle.outside.specs.Bytes.{Took, IsEnd}
 use Rattle.outside.specs.Ends.{Ends}
@@ -11,10 +11,18 @@ use Rattle.http_wire.specs.declared.message.End.{End}
 use Rattle.http_wire.specs.declared.message.End.TheVariants.{Finished, Closed, Fault}
 use Rattle.http_wire.specs.declared.message.Message.{Message}
 use Rattle.http_wire.specs.declared.message.WireFault.{WireFault}
+use Rattle.journal_book.specs.Books.{IsOpenFault}
 use Rattle.program_words.specs.Grammar.{Says}
 use Rattle.program_words.specs.declared.command.Command.{Command}
-use Rattle.rdb_program.specs.Words.{SayNothing, IsAnswerWords, AskForText}
-use Rattle.rdb_program.specs.Run.{Work, Outside, IsReported, refusal_line}
+use Rattle.result_journal.specs.Grammar.{records}
+use Rattle.result_journal.specs.Journals.{Leaves, ReadsAs}
+use Rattle.result_journal.specs.declared.opening.OpenFault.{OpenFault}
+use Rattle.service_effects.specs.Service.{ServiceWorld, empty_service}
+use Rattle.service_machine.specs.Machines.{Plays}
+use Rattle.rdb_program.specs.Causes.{opening_row}
+use Rattle.rdb_program.specs.Counted.{world_text}
+use Rattle.rdb_program.specs.Words.{SayNothing, IsAnswerWords, IsCheckWords, AskForText}
+use Rattle.rdb_program.specs.Run.{Opens, Outside, Work, IsReported, refusal_line}
 
 -- The stream that was to be read, where it is told, is messages to its end.
 abbrev pub IsWhole : Ends → Type 0
@@ -45,16 +53,30 @@ pub record IsShown (text : List ℕ) (before after : Work) : Type 0 where
   pub unread : after.ends.incoming ≡ before.ends.incoming
   pub written : Took before.ends.outgoing.written text after.ends.outgoing.written
 
--- The text that the words ask for was shown, or the connection that they ask for was served to its
--- end.
+-- The output got what the journal holds, and the bytes of its records.
+pub record IsCounted (before after : Work) : Type 0 where
+  pub world : ServiceWorld
+  pub opens : Opens before.disk world after.disk
+  pub commands : List (List ℕ)
+  pub leaves : Leaves after.disk.told (ReadsAs commands)
+  pub shown : IsShown (world_text world (length (records commands))) before after
+
+-- The text that the words ask for was shown, or the count; or the connection that they ask for was
+-- served to its end.
 abbrev pub IsWorkDone : List (List ℕ) → Work → Work → Type 0
 IsWorkDone words before after =
     ((text : List ℕ) × AskForText words text × IsShown text before after)
-    ⊎ (IsAnswerWords words × IsDone before.ends after.ends)
+    ⊎ ((IsCheckWords words × IsCounted before after)
+    ⊎ (IsAnswerWords words × IsDone before.ends after.ends))
 
 -- A read of the configuration failed, and then the connection wasn't touched.
 pub record ConfigFailed (before after : Work) : Type 0 where
   pub rose : Rose before.config.faults after.config.faults
+  pub ends : after.ends ≡ before.ends
+
+-- A call on the disk failed while the journal was opened, and then the connection wasn't touched.
+pub record DiskFailed (before after : Work) : Type 0 where
+  pub rose : Rose before.disk.faults after.disk.faults
   pub ends : after.ends ≡ before.ends
 
 -- A read of the input failed, or a write to the output did.
@@ -63,10 +85,11 @@ EndsFailed before after =
     Rose before.incoming.faults after.incoming.faults
     ⊎ Rose before.outgoing.faults after.outgoing.faults
 
--- A read of the configuration or of the input failed, or a write to the output did. A configuration
--- of which a read failed isn't served.
+-- A read of the configuration or of the input failed, or a write to the output did, or a call on
+-- the disk while the journal was opened. A configuration of which a read failed isn't served.
 abbrev pub HasFailed : Work → Work → Type 0
-HasFailed before after = ConfigFailed before after ⊎ EndsFailed before.ends after.ends
+HasFailed before after =
+    ConfigFailed before after ⊎ (DiskFailed before after ⊎ EndsFailed before.ends after.ends)
 
 -- The output took nothing of what it was given.
 abbrev pub HasStalled : Work → Work → Type 0
@@ -102,6 +125,14 @@ pub record ConfigSays (status : ℕ) (words : List (List ℕ)) (text : List ℕ)
   -- A policy's text is never refused.
   pub has_none : (tables : PolicyTables) → IsPolicyOf text tables → status ≢ 2
 
+-- The journal is refused by this fault: the bytes of part 0 show it, as the disk was or as it is
+-- left, or a command is out of place. The errors got its number and name, and its place.
+pub record IsJournalRefused (before after : Outside) : Type 0 where
+  pub fault : OpenFault
+  pub shown : IsOpenFault Plays empty_service before.work.disk.told after.work.disk.told fault
+  pub refused : (opening_row fault).status ≡ 3
+  pub line : IsReported (opening_row fault).line before.errors after.errors
+
 -- What a status says.
 pub record StatusSays (status : ℕ) (words : List (List ℕ)) (before after : Outside) : Type 0 where
   -- 1 stands for words outside the grammar, and for nothing else, unless memory is wanting to read
@@ -112,8 +143,12 @@ pub record StatusSays (status : ℕ) (words : List (List ℕ)) (before after : O
   -- 2: the configuration is refused. Then the input and the output are untouched.
   pub asked_to_serve : (status ≡ 2) ⊎ (status ≡ 8) → IsAnswerWords words
   pub unserved : status ≡ 2 → after.work.ends ≡ before.work.ends
+  pub disk_untouched : status ≡ 2 → after.work.disk ≡ before.work.disk
   pub config : (text : List ℕ) → before.work.config.left ≡ Some text
       → ConfigSays status words text before after
+  -- 3: the journal is refused. Then the input and the output are untouched.
+  pub journal : status ≡ 3 → IsJournalRefused before after
+  pub unopened : status ≡ 3 → after.work.ends ≡ before.work.ends
   -- 0: the work is done. 4: a call failed. 8: the input isn't messages to its end. 9: the output
   -- took nothing.
   pub done : status ≡ 0 → IsWorkDone words before.work after.work
@@ -128,16 +163,22 @@ pub record StatusSays (status : ℕ) (words : List (List ℕ)) (before after : O
       → after.work.ends.outgoing.faults ≡ before.work.ends.outgoing.faults
   pub no_stall : status ≢ 8 → status ≢ 9
       → after.work.ends.outgoing.stalls ≡ before.work.ends.outgoing.stalls
-  -- Only words that ask for a connection have the configuration read.
+  -- Only words that ask for a connection have the configuration read, and only those and words that
+  -- ask for a count have the disk touched.
   pub config_unread : ¬ IsAnswerWords words → after.work.config ≡ before.work.config
+  pub disk_unasked : ¬ IsAnswerWords words → ¬ IsCheckWords words
+      → after.work.disk ≡ before.work.disk
   -- Over ends that don't fail a text is shown, and a stream is answered as it deserves where its
   -- configuration isn't refused, unless memory is wanting.
   pub text_shown : (text : List ℕ) → AskForText words text
       → ¬ HasFailed before.work after.work → ¬ HasStalled before.work after.work
       → (status ≡ 0) ⊎ (status ≡ 7)
-  pub whole_stream : IsAnswerWords words → status ≢ 2
+  pub count_shown : IsCheckWords words → status ≢ 3
+      → ¬ HasFailed before.work after.work → ¬ HasStalled before.work after.work
+      → (status ≡ 0) ⊎ (status ≡ 7)
+  pub whole_stream : IsAnswerWords words → status ≢ 2 → status ≢ 3
       → EndsIn Finished 0 status before.work after.work
-  pub closed_stream : IsAnswerWords words → status ≢ 2
+  pub closed_stream : IsAnswerWords words → status ≢ 2 → status ≢ 3
       → EndsIn Closed 0 status before.work after.work
-  pub broken_stream : IsAnswerWords words → status ≢ 2 → (fault : WireFault)
+  pub broken_stream : IsAnswerWords words → status ≢ 2 → status ≢ 3 → (fault : WireFault)
       → EndsIn (Fault fault) 8 status before.work after.work

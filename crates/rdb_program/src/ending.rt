@@ -1,12 +1,14 @@
 //! How a run ends: its exit status, and its line on standard error.
 ghost use Rattle.std.specs.Prelude.{◌≡◌};
-ghost use Rattle.rdb_program.specs.Causes.{row_of};
-ghost use Rattle.rdb_program.specs.Run.{status_of, line_of, refusal_line};
+ghost use Rattle.rdb_program.specs.Causes.{opening_row, row_of};
+ghost use Rattle.rdb_program.specs.Lines.{fixed_line};
+ghost use Rattle.rdb_program.specs.Run.{status_of, refusal_line};
 
 use http_wire::WireFault;
 use http_workers::{Cause, Ended};
 use outside::WriteEnd;
 use permissions::PolicyFault;
+use result_journal::OpenFault;
 
 /// How a run ended. A fault of the configuration may hold a token, so nothing prints an ending
 /// whole.
@@ -22,6 +24,10 @@ pub enum Ending {
     ConfigRefused(PolicyFault),
     /// Memory was wanting before anything was read of the input.
     Unstarted,
+    /// The journal wasn't opened, for this fault.
+    Unopened(OpenFault),
+    /// What the journal holds was counted, and told, or the write of it ended so.
+    Counted(Result<(), WriteEnd>),
     /// The connection was served, and ended so.
     Served(Ended),
 }
@@ -33,28 +39,43 @@ impl Ending {
     {
         match self {
             Ending::WordsRefused => 1,
-            Ending::Shown(Ok(())) => 0,
-            Ending::Shown(Err(end)) => status(&Cause::from(*end)),
+            Ending::Shown(Ok(())) | Ending::Counted(Ok(())) => 0,
+            Ending::Shown(Err(end)) | Ending::Counted(Err(end)) => status(&Cause::from(*end)),
             Ending::ConfigFault => 4,
             Ending::ConfigRefused(_) => 2,
             Ending::Unstarted => 7,
+            Ending::Unopened(fault) => opening_status(fault),
             Ending::Served(ended) => status(&ended.cause),
         }
     }
 
-    /// The line on standard error: none where the work is done.
+    /// The line on standard error: none where the work is done, nor where the journal wasn't
+    /// opened, of which `opening_line` tells.
     pub fn line(&self) -> &'static str
-        ensures { result.now ≡ line_of self.now }
+        ensures { result.now ≡ fixed_line self.now }
     {
         match self {
             Ending::WordsRefused => "rdb: words refused\n",
-            Ending::Shown(Ok(())) => "",
-            Ending::Shown(Err(end)) => line(&Cause::from(*end)),
+            Ending::Shown(Ok(())) | Ending::Counted(Ok(())) | Ending::Unopened(_) => "",
+            Ending::Shown(Err(end)) | Ending::Counted(Err(end)) => line(&Cause::from(*end)),
             Ending::ConfigFault => "rdb: fault of config\n",
             Ending::ConfigRefused(fault) => refusal_line(fault),
             Ending::Unstarted => "rdb: want of memory\n",
             Ending::Served(ended) => line(&ended.cause),
         }
+    }
+}
+
+/// The exit status of a fault of opening.
+fn opening_status(fault: &OpenFault) -> u8
+    ensures { result ≡ (opening_row fault.now).status }
+{
+    match fault {
+        OpenFault::NotAJournal { .. }
+        | OpenFault::Damaged { .. }
+        | OpenFault::NewerVersion { .. } => 3,
+        OpenFault::DiskFailed => 4,
+        OpenFault::Memory => 7,
     }
 }
 

@@ -1,31 +1,50 @@
 //! The top call: all that the program does, over ends that are handed in.
-ghost use Rattle.std.specs.Prelude.{◌≡◌, ◌≢◌, ℕ, List, map, string_bytes, MatchResult};
+ghost use Rattle.std.specs.Prelude.{◌≡◌, ◌≢◌, ℕ, List, map, string_bytes, IfErr, IfOk, MatchResult};
 ghost use Rattle.outside.specs.Ends.{Incoming};
-ghost use Rattle.rdb_program.specs.Words.{IsAnswerWords, AskForText};
+ghost use Rattle.result_journal.specs.Journals.{disk_of};
+ghost use Rattle.service_core.specs.CoreState.{world_in};
+ghost use Rattle.service_machine.specs.Machines.{Plays};
+ghost use Rattle.rdb_program.specs.Words.{IsAnswerWords, IsCheckWords, AskForText};
 ghost use Rattle.rdb_program.specs.Configured.{Accepts, IsUnserved};
 ghost use Rattle.rdb_program.specs.Run.{outside, line_of, IsRun, Shows, StopsAtConfig, IsReported};
-ghost use Rattle.rdb_program.specs.Run.{ProgramRun};
+ghost use Rattle.rdb_program.specs.Run.{ProgramRun, disk_end};
+ghost use Rattle.rdb_program.specs.Opening.{IsUnopened, OpensBook};
 ghost use Rattle.rdb_program.specs.Statuses.{StatusSays};
 
 use crate::ending::Ending;
+use crate::lines::{counts_line, opening_line};
+use disks::Disk;
 use http_workers::serve_connection;
+use journal_book::Book;
 use outside::{Clock, Link, PairLink, Sink, Source, put_whole, write_whole};
 use permissions::{Policy, PolicyFault};
 use policy_reading::from_toml;
 use program_words::{Command, WordFault, help_text, read_words, version_text};
-use record_desk::CoreTeller;
+use record_desk::BookTeller;
 use service_core::Core;
+use service_machine::ServiceMachine;
 use std::alloc::Global;
 use whole_reads::{ReadEnd, read_front};
 
 /// The most that is read of a configuration: one byte more than it may have.
 const MOST_READ: usize = 4_194_305;
 
-/// What a run leaves: its exit status, and the clock that it was given.
+/// How many bytes stand before the first record of a journal.
+const HEAD: u64 = 8;
+
+/// What a run leaves: its exit status, and the disk and the clock that it was given.
 #[derive(Drop)]
-pub struct Outcome<C> {
+pub struct Outcome<D, C> {
     pub status: u8,
+    pub disk: D,
     pub clock: C,
+}
+
+/// What a run is lent, and gives back.
+#[derive(Drop)]
+struct Lent<D, C> {
+    disk: D,
+    clock: C,
 }
 
 /// Reads the configuration: its policy, or how the run ends without one.
@@ -46,62 +65,166 @@ fn read_policy<I: Source>(alloc: Global, config: &mut I) -> Result<Policy, Endin
     }
 }
 
-/// Serves one connection over an empty world, under a policy.
-fn answer<L: Link, C: Clock>(alloc: Global, policy: Policy, clock: &mut C, link: &mut L) -> Ending
+/// Opens the journal: an empty core replays its commands.
+fn open_journal<D: Disk>(alloc: Global, disk: D) -> Result<Book<ServiceMachine, D>, (Ending, D)>
+    ensures ok { IfOk result (λ book. OpensBook D.told Plays (disk_end D.told D.faults disk)
+        (world_in book.machine.core) book.journal
+        (disk_end D.told D.faults (disk_of book.journal))) }
+    ensures err { IfErr result (λ e. IsUnopened e.0 (disk_end D.told D.faults disk)
+        (disk_end D.told D.faults e.1)) }
+{
+    let Ok(core) = Core::new(alloc) else {
+        return Err((Ending::Unstarted, disk));
+    };
+    match Book::open(alloc, ServiceMachine { core }, disk) {
+        Ok(book) => Ok(book),
+        Err((fault, disk)) => Err((Ending::Unopened(fault), disk)),
+    }
+}
+
+/// The disk of a book.
+fn close<D: Disk>(book: Book<ServiceMachine, D>) -> D
+    ensures { result ≡ disk_of book.journal }
+{
+    let Book {
+        machine: _,
+        journal,
+    } = book;
+    journal.close()
+}
+
+/// Serves one connection over a journal, under a policy.
+fn answer<L: Link, D: Disk, C: Clock>(
+    alloc: Global,
+    policy: Policy,
+    link: &mut L,
+    lent: Lent<D, C>,
+) -> (Ending, Lent<D, C>)
     ensures run { (words : List (List ℕ)) (before after : Incoming) → IsAnswerWords words
-        → Accepts before policy after → IsRun result words
-        (record { config = before; ends = L.ends link.old }) (C.tells (C.state clock.old))
-        (record { config = after; ends = L.ends link.new }) (C.tells (C.state clock.new)) }
+        → Accepts before policy after → IsRun result.0 words
+        (record {
+          config = before;
+          ends = L.ends link.old;
+          disk = disk_end D.told D.faults lent.disk;
+        })
+        (C.tells (C.state lent.clock))
+        (record {
+          config = after;
+          ends = L.ends link.new;
+          disk = disk_end D.told D.faults result.1.disk;
+        })
+        (C.tells (C.state result.1.clock)) }
     ensures holds { L.holds link.new ≡ L.holds link.old }
 {
-    let Ok(mut core) = Core::new(alloc) else {
-        return Ending::Unstarted;
+    let Lent { disk, clock } = lent;
+    let mut clock = clock;
+    let mut book = match open_journal(alloc, disk) {
+        Ok(book) => book,
+        Err((ending, disk)) => return (ending, Lent { disk, clock }),
     };
-    let mut teller = CoreTeller::new(&policy, &mut core, clock, alloc);
-    Ending::Served(serve_connection(alloc, &mut teller, link))
+    let mut teller = BookTeller::new(&policy, &mut book, &mut clock, alloc);
+    let ending = Ending::Served(serve_connection(alloc, &mut teller, link));
+    let disk = close(book);
+    (ending, Lent { disk, clock })
+}
+
+/// Counts what a journal holds, and tells it.
+fn check<L: Link, D: Disk, C: Clock>(
+    alloc: Global,
+    link: &mut L,
+    lent: Lent<D, C>,
+) -> (Ending, Lent<D, C>)
+    ensures run { (words : List (List ℕ)) (config : Incoming)
+        → IsCheckWords words → IsRun result.0 words
+        (record {
+          config = config;
+          ends = L.ends link.old;
+          disk = disk_end D.told D.faults lent.disk;
+        })
+        (C.tells (C.state lent.clock))
+        (record {
+          config = config;
+          ends = L.ends link.new;
+          disk = disk_end D.told D.faults result.1.disk;
+        })
+        (C.tells (C.state result.1.clock)) }
+    ensures holds { L.holds link.new ≡ L.holds link.old }
+{
+    let Lent { disk, clock } = lent;
+    let book = match open_journal(alloc, disk) {
+        Ok(book) => book,
+        Err((ending, disk)) => return (ending, Lent { disk, clock }),
+    };
+    let line = counts_line(&book.machine.core.counts(), book.journal.end() - HEAD);
+    let ending = Ending::Counted(write_whole(link, line.as_slice()));
+    let disk = close(book);
+    (ending, Lent { disk, clock })
 }
 
 /// Serves one connection under the policy of the configuration.
-fn serve<I: Source, L: Link, C: Clock>(
+fn serve<I: Source, L: Link, D: Disk, C: Clock>(
     alloc: Global,
     config: &mut I,
-    clock: &mut C,
     link: &mut L,
-) -> Ending
-    ensures run { (words : List (List ℕ)) → IsAnswerWords words → IsRun result words
-        (record { config = I.ends config.old; ends = L.ends link.old })
-        (C.tells (C.state clock.old))
-        (record { config = I.ends config.new; ends = L.ends link.new })
-        (C.tells (C.state clock.new)) }
+    lent: Lent<D, C>,
+) -> (Ending, Lent<D, C>)
+    ensures run { (words : List (List ℕ)) → IsAnswerWords words → IsRun result.0 words
+        (record {
+          config = I.ends config.old;
+          ends = L.ends link.old;
+          disk = disk_end D.told D.faults lent.disk;
+        })
+        (C.tells (C.state lent.clock))
+        (record {
+          config = I.ends config.new;
+          ends = L.ends link.new;
+          disk = disk_end D.told D.faults result.1.disk;
+        })
+        (C.tells (C.state result.1.clock)) }
     ensures holds { L.holds link.new ≡ L.holds link.old }
 {
     match read_policy(alloc, config) {
-        Ok(policy) => answer(alloc, policy, clock, link),
-        Err(ending) => ending,
+        Ok(policy) => answer(alloc, policy, link, lent),
+        Err(ending) => (ending, lent),
     }
 }
 
 /// Runs the command that the words say, and says how it ended.
-fn run_words<I: Source, L: Link, C: Clock>(
+fn run_words<I: Source, L: Link, D: Disk, C: Clock>(
     alloc: Global,
     words: &[String],
     config: &mut I,
-    clock: &mut C,
     link: &mut L,
-) -> Ending
-    ensures run { IsRun result (map string_bytes words.now)
-        (record { config = I.ends config.old; ends = L.ends link.old })
-        (C.tells (C.state clock.old))
-        (record { config = I.ends config.new; ends = L.ends link.new })
-        (C.tells (C.state clock.new)) }
+    lent: Lent<D, C>,
+) -> (Ending, Lent<D, C>)
+    ensures run { IsRun result.0 (map string_bytes words.now)
+        (record {
+          config = I.ends config.old;
+          ends = L.ends link.old;
+          disk = disk_end D.told D.faults lent.disk;
+        })
+        (C.tells (C.state lent.clock))
+        (record {
+          config = I.ends config.new;
+          ends = L.ends link.new;
+          disk = disk_end D.told D.faults result.1.disk;
+        })
+        (C.tells (C.state result.1.clock)) }
     ensures holds { L.holds link.new ≡ L.holds link.old }
 {
     match read_words(alloc, words) {
-        Ok(Command::Answer { .. }) => serve(alloc, config, clock, link),
-        Ok(Command::Help) => Ending::Shown(write_whole(link, help_text().as_bytes())),
-        Ok(Command::Version) => Ending::Shown(write_whole(link, version_text().as_bytes())),
-        Err(WordFault::Refused) => Ending::WordsRefused,
-        Err(WordFault::Memory) => Ending::Unstarted,
+        Ok(Command::Answer { .. }) => serve(alloc, config, link, lent),
+        Ok(Command::Check { .. }) => check(alloc, link, lent),
+        Ok(Command::Help) => (
+            Ending::Shown(write_whole(link, help_text().as_bytes())),
+            lent,
+        ),
+        Ok(Command::Version) => (
+            Ending::Shown(write_whole(link, version_text().as_bytes())),
+            lent,
+        ),
+        Err(WordFault::Refused) => (Ending::WordsRefused, lent),
+        Err(WordFault::Memory) => (Ending::Unstarted, lent),
     }
 }
 
@@ -109,28 +232,34 @@ fn run_words<I: Source, L: Link, C: Clock>(
 pub fn report<O: Sink>(ending: &Ending, errors: &mut O)
     ensures { IsReported (line_of ending.now) (O.ends errors.old) (O.ends errors.new) }
 {
-    let _ = put_whole(errors, ending.line().as_bytes());
+    let _ = match ending {
+        Ending::Unopened(fault) => put_whole(errors, opening_line(*fault).as_slice()),
+        _ => put_whole(errors, ending.line().as_bytes()),
+    };
 }
 
 /// Runs the command that the words say, and says on `errors` how it ended, unless the work is done.
 /// `words` are those behind the program's name.
 ///
-/// `answer` reads the configuration, and then requests from `input`, and writes their replies to
-/// `output`. `--help` and `--version` write a text to `output`.
+/// `answer` reads the configuration, opens the journal on `disk`, and then reads requests from
+/// `input`, and writes their replies to `output`. What a request changes is recorded in the journal
+/// before it is answered. `check` opens the journal, and writes to `output` how much it holds.
+/// `--help` and `--version` write a text to `output`.
 ///
 /// | Status | |
 /// |---|---|
 /// | 0 | each message was answered, to the end or the reply that closes; or the text was written |
 /// | 1 | the words are outside the grammar |
 /// | 2 | the configuration is refused |
-/// | 4 | a read of the configuration or of the input failed, or a write to the output did |
+/// | 3 | the journal is refused |
+/// | 4 | a read of configuration or input failed, a write to output, or the disk at its opening |
 /// | 7 | memory was wanting outside a reply |
 /// | 8 | the input isn't messages to its end: it has a message with a fault, or ends inside one |
 /// | 9 | the output took nothing of bytes that it was given |
 ///
-/// Nothing is read from `input` and nothing is written to `output` before the words and the
-/// configuration are accepted.
-pub fn run_program<R, I: Source, O: Sink, C: Clock>(
+/// Nothing is read from `input` and nothing is written to `output` before the words, the
+/// configuration and the journal are accepted.
+pub fn run_program<R, I: Source, O: Sink, D: Disk, C: Clock>(
     _rt: &R,
     alloc: Global,
     words: &[String],
@@ -138,27 +267,33 @@ pub fn run_program<R, I: Source, O: Sink, C: Clock>(
     input: &mut I,
     output: &mut O,
     errors: &mut O,
+    disk: D,
     clock: C,
-) -> Outcome<C>
-    // The whole run: the policy, which messages were answered, the history that they made, and the
-    // bytes that were written.
+) -> Outcome<D, C>
+    // The whole run: the policy, the world of the opened journal, which messages were answered, the
+    // history that they made, the bytes that were written, and what a crash leaves of the disk.
     ensures run { ProgramRun result.status (map string_bytes words.now)
-        (outside (I.ends config.old) (I.ends input.old) (O.ends output.old) (O.ends errors.old))
+        (outside (I.ends config.old) (I.ends input.old) (O.ends output.old) (O.ends errors.old)
+        (disk_end D.told D.faults disk))
         (C.tells (C.state clock))
-        (outside (I.ends config.new) (I.ends input.new) (O.ends output.new) (O.ends errors.new))
+        (outside (I.ends config.new) (I.ends input.new) (O.ends output.new) (O.ends errors.new)
+        (disk_end D.told D.faults result.disk))
         (C.tells (C.state result.clock)) }
 
     // What the exit status says.
     ensures status { StatusSays result.status (map string_bytes words.now)
-        (outside (I.ends config.old) (I.ends input.old) (O.ends output.old) (O.ends errors.old))
-        (outside (I.ends config.new) (I.ends input.new) (O.ends output.new) (O.ends errors.new)) }
+        (outside (I.ends config.old) (I.ends input.old) (O.ends output.old) (O.ends errors.old)
+        (disk_end D.told D.faults disk))
+        (outside (I.ends config.new) (I.ends input.new) (O.ends output.new) (O.ends errors.new)
+        (disk_end D.told D.faults result.disk)) }
 {
-    let mut clock = clock;
     let mut link = PairLink::new(input, output);
-    let ending = run_words(alloc, words, config, &mut clock, &mut link);
+    let (ending, lent) = run_words(alloc, words, config, &mut link, Lent { disk, clock });
     report(&ending, errors);
+    let Lent { disk, clock } = lent;
     Outcome {
         status: ending.status(),
+        disk,
         clock,
     }
 }

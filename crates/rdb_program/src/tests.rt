@@ -1,5 +1,6 @@
 //! Runs over ends in memory: what goes in, what comes out, and how it ends.
 use crate::run::run_program;
+use disks::MemoryDisk;
 use outside::{ListClock, MemorySink, MemorySource, Source};
 use std::alloc::{AllocError, Global};
 use std::process::Abort;
@@ -146,22 +147,26 @@ const FAREWELL: &str = "HTTP/1.1 400 Bad Request\r\nContent-Type: text/plain; ch
     X-Prpc-Grpc-Code: 3\r\nConnection: close\r\nContent-Length: 16\r\n\r\n\
     wire 4 NoLength\n";
 
-const HELP: &str = "answer --config PATH --journal PATH\n--help\n--version\n";
+const HELP: &str = "answer --config PATH --journal PATH\ncheck --journal PATH\n--help\n--version\n";
 
-/// A run: its words, parted by blanks, the configuration, and the input; by their numbers the reads
-/// of the configuration, the reads of the input, and the writes to the output that fail, of which
-/// one whose number stands twice takes nothing; the output, the status, and the line on the errors.
+/// A run: its words, parted by blanks, the configuration, the input, and the journal; by their
+/// numbers the reads of the configuration, the reads of the input, the writes to the output that
+/// fail, of which one whose number stands twice takes nothing, and the calls on the disk that fail;
+/// the output, the status, the line on the errors, and how many bytes the journal has afterwards.
 #[derive(Clone, Copy)]
 struct Run<'a> {
     words: &'a str,
     config: &'a str,
     input: &'a [&'a str],
+    journal: &'a [u8],
     config_fails: &'a [u64],
     input_fails: &'a [u64],
     output_fails: &'a [u64],
+    disk_fails: &'a [u64],
     output: &'a [&'a str],
     status: u8,
     line: &'a str,
+    size: usize,
 }
 
 /// Runs that leave the input alone: words, configuration, its failing reads, failing writes,
@@ -192,7 +197,8 @@ const UNSERVED: [Unserved; 5] = [
     ),
 ];
 
-/// Runs that answer: input, failing reads, failing writes, output, status and line.
+/// Runs that answer: input, failing reads, failing writes, output, status and line, and how many
+/// bytes the journal has afterwards.
 type Served = (
     &'static [&'static str],
     &'static [u64],
@@ -200,12 +206,13 @@ type Served = (
     &'static [&'static str],
     u8,
     &'static str,
+    usize,
 );
 
 const SERVED: [Served; 7] = [
-    (&[], &[], &[], &[], 0, ""),
-    (&[OTHER, NO_LENGTH], &[], &[], &[CLOSED], 0, ""),
-    (&[CUT], &[], &[], &[], 8, "rdb: wire 8 CutShort\n"),
+    (&[], &[], &[], &[], 0, "", 9),
+    (&[OTHER, NO_LENGTH], &[], &[], &[CLOSED], 0, "", 9),
+    (&[CUT], &[], &[], &[], 8, "rdb: wire 8 CutShort\n", 9),
     (
         &[NO_LENGTH, OTHER],
         &[],
@@ -213,11 +220,71 @@ const SERVED: [Served; 7] = [
         &[FAREWELL],
         8,
         "rdb: wire 4 NoLength\n",
+        9,
     ),
-    (&[ONE], &[1], &[], &[], 4, "rdb: fault of input\n"),
-    (&[ONE], &[], &[1], &[], 4, "rdb: fault of output\n"),
-    (&[ONE], &[], &[1, 1], &[], 9, "rdb: output takes nothing\n"),
+    (&[ONE], &[1], &[], &[], 4, "rdb: fault of input\n", 9),
+    (&[ONE], &[], &[1], &[], 4, "rdb: fault of output\n", 89),
+    (
+        &[ONE],
+        &[],
+        &[1, 1],
+        &[],
+        9,
+        "rdb: output takes nothing\n",
+        89,
+    ),
 ];
+
+/// Runs that leave their input alone for what they find in the journal, or count what it holds:
+/// words, journal, failing calls on the disk, output, status, line, and how many bytes the journal
+/// has afterwards.
+type Opened = (
+    &'static str,
+    &'static [u8],
+    &'static [u64],
+    &'static [&'static str],
+    u8,
+    &'static str,
+    usize,
+);
+
+const NOTHING: &str = "invocations 0, finalized 0, results 0, exonerations 0, artifacts 0, kept 0, \
+    bytes 0\n";
+
+const OPENED: [Opened; 6] = [
+    (CHECK, b"", &[], &[NOTHING], 0, "", 9),
+    (CHECK, b"RDBJ", &[], &[NOTHING], 0, "", 9),
+    (
+        CHECK,
+        b"RDBJRNL1\x01\xff\xff\xff\xff\x00",
+        &[],
+        &[],
+        3,
+        "rdb: journal refused: 2 Damaged 9\n",
+        14,
+    ),
+    (
+        ANSWER,
+        b"RDBJRNL9\x00\x00",
+        &[],
+        &[],
+        3,
+        "rdb: journal refused: 3 NewerVersion 57\n",
+        10,
+    ),
+    (
+        ANSWER,
+        b"hello world",
+        &[],
+        &[],
+        3,
+        "rdb: journal refused: 1 NotAJournal 0\n",
+        11,
+    ),
+    (ANSWER, b"", &[1], &[], 4, "rdb: fault of disk\n", 0),
+];
+
+const CHECK: &str = "check --journal farm.journal";
 
 const ANSWER: &str = "answer --config farm.toml --journal farm.journal";
 
@@ -280,8 +347,19 @@ fn ends_of(alloc: Global, run: &Run) -> Result<Ends, AllocError> {
     })
 }
 
-/// The exit status of a run.
-fn status_of(rt: &impl Abort, alloc: Global, run: &Run, ends: &mut Ends) -> Result<u8, AllocError> {
+/// A disk whose part 0 has these bytes.
+fn disk(alloc: Global, bytes: &[u8], fails: &[u64]) -> Result<MemoryDisk, AllocError> {
+    let first = bytes.to_vec(alloc)?;
+    MemoryDisk::new(alloc, first, Vec::new(alloc), fails.to_vec(alloc)?, None)
+}
+
+/// The exit status of a run, and what the journal has afterwards.
+fn outcome_of(
+    rt: &impl Abort,
+    alloc: Global,
+    run: &Run,
+    ends: &mut Ends,
+) -> Result<(u8, Vec<u8>), AllocError> {
     let words = words_of(alloc, run.words)?;
     let outcome = run_program(
         rt,
@@ -291,9 +369,10 @@ fn status_of(rt: &impl Abort, alloc: Global, run: &Run, ends: &mut Ends) -> Resu
         &mut ends.input,
         &mut ends.output,
         &mut ends.errors,
+        disk(alloc, run.journal, run.disk_fails)?,
         clock(alloc)?,
     );
-    Ok(outcome.status)
+    Ok((outcome.status, outcome.disk.bytes(0).to_vec(alloc)?))
 }
 
 /// Whether a run ends as it says.
@@ -303,10 +382,11 @@ fn is_right(
     run: &Run,
     ends: &mut Ends,
 ) -> Result<bool, AllocError> {
-    let status = status_of(rt, alloc, run, ends)?;
+    let (status, journal) = outcome_of(rt, alloc, run, ends)?;
     let output = joined(alloc, run.output)?;
     Ok(
         status == run.status
+            && journal.len() == run.size
             && ends.errors.written() == run.line.as_bytes()
             && ends.output.written() == output.as_slice(),
     )
@@ -314,17 +394,20 @@ fn is_right(
 
 /// Whether a run whose words and configuration are accepted ends as it says.
 fn is_served(rt: &impl Abort, alloc: Global, row: &Served) -> Result<bool, AllocError> {
-    let (input, input_fails, output_fails, output, status, line) = *row;
+    let (input, input_fails, output_fails, output, status, line, size) = *row;
     let run = Run {
         words: ANSWER,
         config: CONFIG,
         input,
+        journal: b"",
         config_fails: &[],
         input_fails,
         output_fails,
+        disk_fails: &[],
         output,
         status,
         line,
+        size,
     };
     let mut ends = ends_of(alloc, &run)?;
     is_right(rt, alloc, &run, &mut ends)
@@ -353,12 +436,36 @@ fn is_unserved(rt: &impl Abort, alloc: Global, row: &Unserved) -> Result<bool, A
         words,
         config,
         input: &[ONE],
+        journal: b"",
         config_fails,
         input_fails: &[],
         output_fails,
+        disk_fails: &[],
         output,
         status,
         line,
+        size: 0,
+    };
+    let mut ends = ends_of(alloc, &run)?;
+    is_right_unread(rt, alloc, &run, &mut ends)
+}
+
+/// Whether a run that ends by its journal, or counts it, ends as it says.
+fn is_opened(rt: &impl Abort, alloc: Global, row: &Opened) -> Result<bool, AllocError> {
+    let (words, journal, disk_fails, output, status, line, size) = *row;
+    let run = Run {
+        words,
+        config: CONFIG,
+        input: &[ONE],
+        journal,
+        config_fails: &[],
+        input_fails: &[],
+        output_fails: &[],
+        disk_fails,
+        output,
+        status,
+        line,
+        size,
     };
     let mut ends = ends_of(alloc, &run)?;
     is_right_unread(rt, alloc, &run, &mut ends)
@@ -372,6 +479,9 @@ fn runs_give_their_bytes_and_statuses(rt: HostRuntime) -> Result<(), Fail> {
     for row in &SERVED {
         assert!(rt; is_served(&rt, rt.alloc(), row)?);
     }
-    assert!(rt; is_served(&rt, rt.alloc(), &(CALLS, &[], &[], REPLIES, 0, ""))?);
+    for row in &OPENED {
+        assert!(rt; is_opened(&rt, rt.alloc(), row)?);
+    }
+    assert!(rt; is_served(&rt, rt.alloc(), &(CALLS, &[], &[], REPLIES, 0, "", 491))?);
     Ok(())
 }

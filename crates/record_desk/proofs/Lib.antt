@@ -1,2 +1,3 @@
 pub mod ClockedLaws
 pub mod StandingLaws
+pub mod RecordingLaws

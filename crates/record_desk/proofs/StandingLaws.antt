@@ -1,18 +1,32 @@
--- A service and its clock go on by one call.
-use Rattle.std.proofs.Common.{◌≡◌, ℕ, ℤ, List, [], ◌∷◌, ◌++◌, map, refl, sym, ap, ◌∙◌}
+-- A service, its clock and its disk go on by one call.
+use Rattle.std.proofs.Common.{◌≡◌, ◌⊎◌, inl, inr, ℕ, ℤ, Bool, true, false, List, [], ◌∷◌, ◌++◌, map, Option, refl, sym, ap, subst, ◌∙◌, append_assoc}
 use Rattle.std.proofs.lemmas.List.{map-append}
 use Rattle.std.specs.List.{AllByRecursion}
-use Rattle.service_core.specs.History.{Entry, Serves, entry_at}
-use Rattle.service_core.specs.Service.{Service}
+use Rattle.disks.specs.Moments.{Told as DiskTold}
+use Rattle.result_journal.specs.Journals.{Leaves, disk_of, is_settled, prepared}
+use Rattle.result_journal.proofs.StandLaws.{stands_leave}
+use Rattle.result_journal.specs.declared.journal.Journal.{Journal}
+use Rattle.journal_book.specs.Worlds.{HasSettled, Play}
+use Rattle.journal_book.specs.Books.{Stands}
+use Rattle.journal_book.proofs.StepLaws.{settled_images}
 use Rattle.call_forms.specs.declared.asked.Asked.{Asked}
+use Rattle.call_forms.specs.declared.forms.Standin.TheVariants.{Unavailable}
 use Rattle.call_forms.specs.declared.forms.Told.{Told}
-use Rattle.service_core.proofs.HistoryLaws.{timed_goes_on}
+use Rattle.call_forms.specs.declared.forms.Told.TheVariants.{Standin as Instead}
+use Rattle.request_rules.specs.Settings.{Settings}
+use Rattle.service_effects.specs.Service.{ServiceWorld, empty_service}
+use Rattle.service_core.specs.History.{Entry, IsLegal, Leads, Serves, entry_at}
+use Rattle.service_core.specs.Service.{Service}
+use Rattle.service_core.proofs.HistoryLaws.{timed_goes_on, timed_is_legal}
 use Rattle.tellers.specs.Exchange.{Exchange}
-use Rattle.record_desk.specs.Standing.{Moves, exchange_of}
+use Rattle.record_desk.specs.Standing.{HasBook, HasLast, HasServed, IsTried, MayStand, Moves, Rises, RoseIf, exchange_of}
+use Rattle.record_desk.specs.Recording.{KeepsBook}
 use Rattle.record_desk.proofs.ClockedLaws.{clocked_nothing, clocked_more}
 
-pub moves_nowhere : (s : Service) (tells : List ℤ → Type 0) → Moves s tells [] s tells
-moves_nowhere s tells = record {
+-- ---- nothing was asked yet
+
+moves_nowhere : (s : Service) (tells : List ℤ → Type 0) (faults : ℕ) → Moves s tells faults [] s tells faults
+moves_nowhere s tells faults = record {
   history = [];
   answers = [];
   exchanges_are = refl;
@@ -20,27 +34,136 @@ moves_nowhere s tells = record {
   timed = refl;
   settings = refl;
   clocked = clocked_nothing tells;
+  rises = refl;
 }
 
-seats_more : (h : List Entry) (e : Entry) → AllByRecursion (λ x. x.seat ≡ 0) h → e.seat ≡ 0 → AllByRecursion (λ x. x.seat ≡ 0) (h ++ e ∷ [])
-seats_more [] e all here = (here, tt)
-seats_more (x ∷ h) e all here = (all.0, seats_more h e all.1 here)
+-- a book that was opened, and in which nothing is to settle
+pub served_nothing : {D : Type 0} (told : D → Option DiskTold) (faults : D → ℕ) (plays : Play ServiceWorld) (s : Service)
+    (tells : List ℤ → Type 0) (journal : Journal D) (commands : List (List ℕ)) → Stands told plays empty_service s.world journal commands
+    → (is_settled journal ≡ false → ⊥) → HasServed told faults plays s tells journal [] s tells journal
+served_nothing told faults plays s tells journal commands stands settled = record {
+  moves = moves_nowhere s tells (faults (disk_of journal));
+  book = record { commands = commands; stands = stands; failed = λ unsettled. absurd (settled unsettled) };
+}
+
+-- ---- one call more
+
+all_more : (P : Entry → Type 0) (h : List Entry) (e : Entry) → AllByRecursion P h → P e → AllByRecursion P (h ++ e ∷ [])
+all_more P [] e all here = (here, tt)
+all_more P (x ∷ h) e all here = (all.0, all_more P h e all.1 here)
+
+rises_more : (before : ℕ) (h : List Entry) (between : ℕ) (e : Entry) (after : ℕ) → Rises before h between → RoseIf e.rose between after
+    → Rises before (h ++ e ∷ []) after
+rises_more before [] between e after rises rose = (after, subst (λ (n : ℕ). RoseIf e.rose n after) rises rose, refl)
+rises_more before (x ∷ h) between e after rises rose = (rises.0, rises.1, rises_more rises.0 h between e after rises.2 rose)
 
 -- one call of the clock and one of the core
-pub moves_more : (first now after : Service) (tf tn ta : List ℤ → Type 0) (exchanges : List Exchange) (answer : ℤ) (asked : Asked) (told : Told)
-    → Moves first tf exchanges now tn
-    → Serves now.settings now.world 0 answer asked told after.world → after.settings ≡ now.settings
-    → ((given : ℤ) (others : List ℤ) → tn (given ∷ others) → (answer ≡ given) × ta others)
-    → Moves first tf (exchanges ++ record { asked = asked; told = told } ∷ []) after ta
-moves_more first now after tf tn ta exchanges answer asked told before serves settings clocked =
-    let e : Entry = entry_at now.world 0 answer asked told in
-    let leads = rw before.settings at serves in
+moves_more : (first now after : Service) (tf tn ta : List ℤ → Type 0) (ff fn fa : ℕ) (exchanges : List Exchange) (answer : ℤ)
+    (asked : Asked) (told : Told) (rose : Bool)
+    → Moves first tf ff exchanges now tn fn
+    → Serves first.settings now.world 0 answer asked told rose after.world → after.settings ≡ now.settings
+    → ((given : ℤ) (others : List ℤ) → tn (given ∷ others) → (answer ≡ given) × ta others) → RoseIf rose fn fa
+    → Moves first tf ff (exchanges ++ record { asked = asked; told = told } ∷ []) after ta fa
+moves_more first now after tf tn ta ff fn fa exchanges answer asked told rose before leads settings clocked rises =
+    let e : Entry = entry_at now.world 0 answer asked told rose in
     record {
       history = before.history ++ e ∷ [];
       answers = before.answers ++ answer ∷ [];
       exchanges_are = ap (λ (es : List Exchange). es ++ exchange_of e ∷ []) before.exchanges_are ∙ sym (map-append exchange_of before.history (e ∷ []));
-      seats = seats_more before.history e before.seats refl;
+      seats = all_more (λ x. x.seat ≡ 0) before.history e before.seats refl;
       timed = timed_goes_on first.settings first.world before.history before.answers now.world e answer after.world before.timed leads refl;
       settings = settings ∙ before.settings;
       clocked = clocked_more tf tn ta before.answers answer before.clocked clocked;
+      rises = rises_more ff before.history fn e fa before.rises rises;
     }
+
+-- what may stand may stand still where an entry left the world
+stands_later : (s : Settings) (first : ServiceWorld) (h : List Entry) (w next : ServiceWorld) (e : Entry) → MayStand s first h w next
+    → Leads s w e w → MayStand s first (h ++ e ∷ []) w next
+stands_later s first h w next e may leads = record {
+  before = may.before;
+  entry = may.entry;
+  later = may.later ++ e ∷ [];
+  history_is = ap (λ (l : List Entry). l ++ e ∷ []) may.history_is ∙ append_assoc may.before (may.entry ∷ may.later) (e ∷ []);
+  told = may.told;
+  from = may.from;
+  led = may.led;
+  came = may.came;
+  still = all_more (λ x. Leads s w x w) may.later e may.still leads;
+  tried = may.tried;
+}
+
+-- an entry that was told Unavailable may stand
+stands_new : (s : Settings) (first : ServiceWorld) (h : List Entry) (w after next : ServiceWorld) (e : Entry) → IsLegal s first h w
+    → Leads s w e after → e.told ≡ Instead Unavailable → IsTried s w e next → MayStand s first (h ++ e ∷ []) after next
+stands_new s first h w after next e legal leads told tried = record {
+  before = h;
+  entry = e;
+  later = [];
+  history_is = refl;
+  told = told;
+  from = w;
+  led = legal;
+  came = leads;
+  still = tt;
+  tried = tried;
+}
+
+failed_more : {D : Type 0} (told : D → Option DiskTold) (plays : Play ServiceWorld) (s : Settings) (first : ServiceWorld) (h : List Entry)
+    (w : ServiceWorld) (old : Journal D) (e : Entry) (after : ServiceWorld) (new : Journal D) → HasBook told plays s first h w old
+    → IsLegal s first h w → Leads s w e after
+    → KeepsBook told plays w old (λ next. (e.told ≡ Instead Unavailable) × IsTried s w e next) after new
+    → (is_settled new ≡ false → (next : ServiceWorld) → plays after (prepared new) next → MayStand s first (h ++ e ∷ []) after next)
+failed_more told plays s first h w old e after new book legal leads keeps unsettled next leads_next =
+    elim (keeps.unsettled unsettled next leads_next) [
+      | inl was ↦
+          subst (λ (v : ServiceWorld). MayStand s first (h ++ e ∷ []) v next) (sym was.1)
+          (stands_later s first h w next e (book.failed was.0 next was.2) (subst (Leads s w e) was.1 leads))
+      | inr new_one ↦ stands_new s first h w after next e legal leads new_one.0 new_one.1
+    ]
+
+pub served_more : {D : Type 0} (told : D → Option DiskTold) (faults : D → ℕ) (plays : Play ServiceWorld) (first now after : Service)
+    (tf tn ta : List ℤ → Type 0) (start old new : Journal D) (exchanges : List Exchange) (answer : ℤ) (asked : Asked) (answered : Told) (rose : Bool)
+    → HasServed told faults plays first tf start exchanges now tn old
+    → Serves now.settings now.world 0 answer asked answered rose after.world → after.settings ≡ now.settings
+    → ((given : ℤ) (others : List ℤ) → tn (given ∷ others) → (answer ≡ given) × ta others)
+    → RoseIf rose (faults (disk_of old)) (faults (disk_of new))
+    → KeepsBook told plays now.world old
+    (λ next. (answered ≡ Instead Unavailable) × IsTried now.settings now.world (entry_at now.world 0 answer asked answered rose) next)
+    after.world new
+    → HasServed told faults plays first tf start (exchanges ++ record { asked = asked; told = answered } ∷ []) after ta new
+unfolding moves_more
+served_more {D} told faults plays first now after tf tn ta start old new exchanges answer asked answered rose served serves settings clocked rises keeps =
+    let moves = served.moves in
+    let e : Entry = entry_at now.world 0 answer asked answered rose in
+    let leads : Leads first.settings now.world e after.world =
+    subst (λ (s : Settings). Leads s now.world e after.world) moves.settings serves in
+    let kept : KeepsBook told plays now.world old (λ next. (answered ≡ Instead Unavailable) × IsTried first.settings now.world e next) after.world new =
+    subst (λ (s : Settings). KeepsBook told plays now.world old (λ next. (answered ≡ Instead Unavailable) × IsTried s now.world e next) after.world new)
+    moves.settings keeps in
+    let legal = timed_is_legal first.settings first.world moves.history moves.answers now.world moves.timed in
+    let stood = kept.stands served.book.commands served.book.stands in
+    record {
+      moves = moves_more first now after tf tn ta (faults (disk_of start)) (faults (disk_of old)) (faults (disk_of new)) exchanges answer asked answered
+          rose moves leads settings clocked rises;
+      book = record {
+        commands = stood.0;
+        stands = stood.1;
+        failed = failed_more told plays first.settings first.world moves.history now.world old e after.world new served.book legal leads kept;
+      };
+    }
+
+-- ---- what a crash leaves
+
+pub served_leaves : {D : Type 0} (told : D → Option DiskTold) (plays : Play ServiceWorld) (s : Settings) (first : ServiceWorld)
+    (h : List Entry) (w : ServiceWorld) (journal : Journal D) → HasBook told plays s first h w journal
+    → Leaves (told (disk_of journal)) (HasLast plays s first h w)
+served_leaves told plays s first h w journal book = by_settled (is_settled journal) refl
+    (settled_images plays empty_service w (told (disk_of journal)) (is_settled journal) book.commands (prepared journal) book.stands.leads
+    book.stands.failed (stands_leave told journal book.commands book.stands.on_disk))
+  where
+    by_settled : (b : Bool) → is_settled journal ≡ b → Leaves (told (disk_of journal)) (HasSettled plays empty_service w b (prepared journal))
+        → Leaves (told (disk_of journal)) (HasLast plays s first h w)
+    by_settled true is leaves = λ t e image may. inl (leaves t e image may)
+    by_settled false is leaves = λ t e image may.
+        elim (leaves t e image may) [ inl has ↦ inl has | inr next ↦ inr (next.0, next.2, book.failed is next.0 next.1) ]

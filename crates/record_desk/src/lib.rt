@@ -1,6 +1,7 @@
-//! The service as a teller: a core that is asked at the moments of a clock.
+//! The service as a teller: a book of it that is asked at the moments of a clock.
 #![tactic(auto)]
 
-mod core_teller;
+mod book_teller;
+mod recording;
 
-pub use core_teller::CoreTeller;
+pub use book_teller::BookTeller;

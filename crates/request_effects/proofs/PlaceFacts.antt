@@ -11,6 +11,7 @@ use Rattle.invocation_world.proofs.RowFacts.{stands}
 use Rattle.service_effects.proofs.IdFacts.{id_none}
 use Rattle.message_forms.specs.declared.requests.Request.{Request}
 use Rattle.request_rules.specs.Demands.{demand_of}
+use Rattle.test_results.specs.declared.result.TestResult.{TestResult}
 use Rattle.request_rules.specs.Locating.{Located, located}
 use Rattle.request_rules.specs.Named.{all_found, first_place, place_named, places_in, places_named}
 use Rattle.request_rules.proofs.PlaceLaws.{found_named, place-within, place_holds, place_there}
@@ -58,10 +59,10 @@ places_elsewhere rows including place ids at not = all_placed (λ target. target
     not (subst (Contains ids) is held))
 
 -- where the invocations stand that a request demands, the first place is that of the first one
-pub first_named : (l : Located) (rows : List Invocation) (request shape : Request) (place : Option ℕ) → l ≡ located rows (demand_of request)
+pub first_named : (l : Located) (rows : List Invocation) (held : List TestResult) (request shape : Request) (place : Option ℕ) → l ≡ located rows held (demand_of request)
     → request ≡ shape → place ≡ first_place l.named → place ≡ first_place (places_in rows (demand_of shape).named)
-first_named l rows request shape place are is first =
-    first ∙ ap (λ (x : Located). first_place x.named) (are ∙ ap (λ (q : Request). located rows (demand_of q)) is)
+first_named l rows held request shape place are is first =
+    first ∙ ap (λ (x : Located). first_place x.named) (are ∙ ap (λ (q : Request). located rows held (demand_of q)) is)
 
 pub first_within : (rows : List Invocation) (id : List ℕ) (place : Option ℕ) → place ≡ place_named rows id
     → IfSome place (λ at. at < length rows)
@@ -69,8 +70,8 @@ first_within rows id None is = tt
 first_within rows id (Some at) is = place-within rows id at (sym is)
 
 -- and those that are found of the ones to be included are theirs
-pub targets_named : (l : Located) (rows : List Invocation) (request shape : Request) (targets : List ℕ) → l ≡ located rows (demand_of request)
+pub targets_named : (l : Located) (rows : List Invocation) (held : List TestResult) (request shape : Request) (targets : List ℕ) → l ≡ located rows held (demand_of request)
     → request ≡ shape → targets ≡ all_found l.included → targets ≡ places_named rows (demand_of shape).included
-targets_named l rows request shape targets are is all =
-    all ∙ (ap (λ (x : Located). all_found x.included) (are ∙ ap (λ (q : Request). located rows (demand_of q)) is)
+targets_named l rows held request shape targets are is all =
+    all ∙ (ap (λ (x : Located). all_found x.included) (are ∙ ap (λ (q : Request). located rows held (demand_of q)) is)
     ∙ found_named rows (demand_of shape).included)

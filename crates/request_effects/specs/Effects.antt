@@ -83,3 +83,6 @@ effect_of w moment name (asks.BatchCreateTestResults q) =
 effect_of w moment name (asks.BatchCreateTestExonerations q) =
     exonerations_at w.exonerations (place_named w.rows.invocations q.invocation) q.requests
 effect_of w moment name (asks.GetInvocation q) = does.Nothing
+effect_of w moment name (asks.GetTestResult q) = does.Nothing
+effect_of w moment name (asks.QueryTestResults q) = does.Nothing
+effect_of w moment name (asks.QueryTestVariants q) = does.Nothing

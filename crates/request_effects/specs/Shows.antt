@@ -15,10 +15,19 @@ use Rattle.message_forms.specs.Replies.{reply_text}
 use Rattle.invocation_forms.specs.Shown.{InvocationShown}
 use Rattle.invocation_world.specs.World.{World}
 use Rattle.request_rules.specs.Settings.{Settings}
-use Rattle.request_rules.specs.Named.{place_named}
+use Rattle.request_rules.specs.Named.{place_named, place_of_result, places_named}
 use Rattle.request_rules.specs.Understood.{token_for}
+use Rattle.request_effects.specs.declared.shows.Showing.{Showing}
+use Rattle.request_effects.specs.declared.shows.Showing.TheVariants as showing
 use Rattle.request_effects.specs.declared.shows.Shows.{Shows}
 use Rattle.request_effects.specs.declared.shows.Shows.TheVariants as shows
+use Rattle.query_forms.specs.Results.{results_query}
+use Rattle.query_forms.specs.Sizes.{counted}
+use Rattle.query_forms.specs.Variants.{variants_query}
+use Rattle.query_forms.specs.declared.results.QueryTestResults.{QueryTestResults}
+use Rattle.query_forms.specs.declared.variants.QueryTestVariants.{QueryTestVariants}
+use Rattle.query_pages.specs.declared.queries.ResultQuery.{ResultQuery}
+use Rattle.query_pages.specs.declared.queries.VerdictQuery.{VerdictQuery}
 use Rattle.service_effects.specs.Service.{Recorded}
 
 abbrev pub shows_row : Option ℕ → Shows
@@ -34,18 +43,53 @@ abbrev pub shows_exonerations : Recorded → Option ℕ → ℕ → Shows
 shows_exonerations w None count = shows.Empty
 shows_exonerations w (Some holder) count = shows.Exonerations (length w.exonerations) count
 
+-- the result at a place, if one stands there
+abbrev pub shows_result : Option ℕ → Showing
+shows_result None = showing.Alike shows.Empty
+shows_result (Some place) = showing.Result place
+
+-- the page of results that is asked for: 100 of them, where the request says no number, and never
+-- more than 1,000
+abbrev pub result_query : Recorded → QueryTestResults → ResultQuery
+result_query w q = record {
+  roots = places_named w.rows.invocations q.invocations;
+  query = results_query q;
+  after = q.page_token;
+  size = counted 100 1_000 q.page_size;
+}
+
+-- the page of verdicts: 100 of them, and never more than 10,000, and of each 10 results, and never
+-- more than 100
+abbrev pub verdict_query : Recorded → QueryTestVariants → VerdictQuery
+verdict_query w q = record {
+  roots = places_named w.rows.invocations q.invocations;
+  query = variants_query q;
+  after = q.page_token;
+  size = counted 100 10_000 q.page_size;
+  results = counted 10 100 q.result_limit;
+}
+
 -- What a request shows, by the places in the world before it, a row a method. A new row stands
 -- after all that are there.
-abbrev pub shows_of : Recorded → Request → Shows
-shows_of w (asks.CreateInvocation q) = shows.Made (length w.rows.invocations)
-shows_of w (asks.UpdateInvocation q) = shows_row (place_named w.rows.invocations q.id)
-shows_of w (asks.FinalizeInvocation q) = shows_row (place_named w.rows.invocations q.id)
-shows_of w (asks.UpdateIncludedInvocations q) = shows.Empty
+abbrev pub shows_of : Recorded → Request → Showing
+shows_of w (asks.CreateInvocation q) = showing.Alike (shows.Made (length w.rows.invocations))
+shows_of w (asks.UpdateInvocation q) =
+    showing.Alike (shows_row (place_named w.rows.invocations q.id))
+shows_of w (asks.FinalizeInvocation q) =
+    showing.Alike (shows_row (place_named w.rows.invocations q.id))
+shows_of w (asks.UpdateIncludedInvocations q) = showing.Alike shows.Empty
 shows_of w (asks.BatchCreateTestResults q) =
-    shows_results w (place_named w.rows.invocations q.invocation) (length q.requests)
+    showing.Alike
+    (shows_results w (place_named w.rows.invocations q.invocation) (length q.requests))
 shows_of w (asks.BatchCreateTestExonerations q) =
-    shows_exonerations w (place_named w.rows.invocations q.invocation) (length q.requests)
-shows_of w (asks.GetInvocation q) = shows_row (place_named w.rows.invocations q.id)
+    showing.Alike
+    (shows_exonerations w (place_named w.rows.invocations q.invocation) (length q.requests))
+shows_of w (asks.GetInvocation q) =
+    showing.Alike (shows_row (place_named w.rows.invocations q.id))
+shows_of w (asks.GetTestResult q) =
+    shows_result (place_of_result w.rows.invocations w.results q.name)
+shows_of w (asks.QueryTestResults q) = showing.Results (result_query w q)
+shows_of w (asks.QueryTestVariants q) = showing.Verdicts (verdict_query w q)
 
 -- Where it is shown: what the service is set up with, and what is recorded.
 pub record Scene : Type 0 where

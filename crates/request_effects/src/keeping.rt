@@ -28,8 +28,9 @@ fn copied(alloc: Global, bytes: &[u8]) -> Result<Bytes, AllocError>
     Ok(Bytes::new(Vec::from_slice(alloc, bytes)?))
 }
 
-/// The number in a demand, with this digest.
-fn numbered_in(
+/// The number in a demand, with this digest, where it has one. `Err` where there is no memory for
+/// it.
+pub fn numbered_in(
     alloc: Global,
     demand: &Demand,
     digest: &Option<[u8; 32]>,

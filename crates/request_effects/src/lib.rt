@@ -2,15 +2,17 @@
 #![tactic(auto)]
 
 mod ahead;
+mod cursors;
 mod keeping;
 mod laws;
 mod making;
 mod planning;
+mod seeing;
 mod showing;
 mod shows;
 
-pub use keeping::{Numbered, keep_of, numbered_of};
+pub use keeping::{Numbered, keep_of, numbered_in, numbered_of};
 pub use laws::kept_is_first;
 pub use planning::{Context, plan_change};
 pub use showing::{show, show_kept};
-pub use shows::{Shows, shows_of};
+pub use shows::{Showing, Shows, shows_of};

@@ -168,7 +168,8 @@ pub fn plan_change(
     requires timely { IsTimely tables.old.world.world context.now.moment }
     requires safe { IsSafe tables.old.world.world context.now.moment context.now.name.now request }
     requires located { context.now.located.now
-        ≡ located tables.old.world.world.invocations (demand_of request) }
+        ≡ located tables.old.world.world.invocations tables.old.results.rows
+        (demand_of request) }
     ensures roomier { IsRoomier tables.old tables.new }
     ensures planned { IfOk result (IsPlanned tables.new context.now.moment
         (effect_of (recorded_in tables.old) context.now.moment context.now.name.now request)) }
@@ -199,5 +200,8 @@ pub fn plan_change(
             None => Ok(Planned::Ready(Effect::Nothing)),
         },
         Request::GetInvocation(_) => Ok(Planned::Ready(Effect::Nothing)),
+        Request::GetTestResult(_) => Ok(Planned::Ready(Effect::Nothing)),
+        Request::QueryTestResults(_) => Ok(Planned::Ready(Effect::Nothing)),
+        Request::QueryTestVariants(_) => Ok(Planned::Ready(Effect::Nothing)),
     }
 }

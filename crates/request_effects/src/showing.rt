@@ -8,11 +8,13 @@ ghost use Rattle.service_effects.specs.Fitting.{IsTimely, Suits};
 ghost use Rattle.request_effects.specs.Foreseen.{Foresees, IsHere, IsOwn, Leaves, LeavesAll};
 ghost use Rattle.service_effects.specs.Service.{Recorded};
 ghost use Rattle.service_effects.specs.States.{IsRoomier, recorded_in};
+ghost use Rattle.request_effects.specs.Answers.{Answers, Fits};
 ghost use Rattle.request_effects.specs.Keeps.{kept_answer, made_answer};
 ghost use Rattle.request_effects.specs.Shows.{answer_of, done, exonerations_reply, ids_at, part_of, reply_at, results_reply, shown_with, token_at};
 
 use crate::ahead::{Ahead, Seen, ends_at_once};
-use crate::shows::Shows;
+use crate::seeing::{see_result, see_results, see_verdicts};
+use crate::shows::{Showing, Shows};
 use call_forms::Answer;
 use invocation_world::InvocationWorld;
 use invocations::Invocation;
@@ -20,6 +22,7 @@ use kept_replies::KeptAnswer;
 use message_forms::{Reply, ShownExonerations, ShownInvocation, ShownResults, write_reply};
 use names_realms::{InvocationId, Moment, Pair};
 use permissions::Policy;
+use query_pages::Asker;
 use service_effects::{Change, Effect, Tables};
 use std::alloc::{AllocError, Global};
 use test_results::{TestExoneration, TestResult};
@@ -212,9 +215,9 @@ impl<'r> Ahead<'r> {
     }
 }
 
-/// The answer that shows what a change will leave, where what is shown is what it is about. Nothing
-/// is changed. `Err` where there is no memory for it.
-pub fn show(
+/// The answer that shows what a change will leave to all alike, where what is shown is what it is
+/// about. Nothing is changed. `Err` where there is no memory for it.
+fn show_alike(
     alloc: Global,
     tables: &mut Tables,
     policy: &Policy,
@@ -238,6 +241,35 @@ pub fn show(
         is_final,
     };
     ahead.show(alloc, policy, shows)
+}
+
+/// The answer that shows to a caller what a change will leave, where what is shown is what it is
+/// about, or is read and nothing is done. Nothing is changed. `Err` where there is no memory for
+/// it.
+pub fn show(
+    alloc: Global,
+    tables: &mut Tables,
+    asker: &Asker,
+    change: &Change,
+    showing: &Showing,
+) -> Result<Answer, AllocError>
+    requires timely { IsTimely tables.old.world.world change.now.moment }
+    requires suits { Suits tables.old.world.world change.now.moment change.now.effect }
+    requires caller { asker.now.caller < length asker.now.policy.now.users }
+    requires fits { Fits (recorded_in tables.old) change.now.effect showing.now }
+    ensures roomier { IsRoomier tables.old tables.new }
+    ensures answer { (after : Recorded)
+        → Makes change.now.moment change.now.effect (recorded_in tables.old) after
+        → IfOk result (Answers
+        (record { settings = record { policy = asker.now.policy.now }; world = after })
+        asker.now.caller showing.now) }
+{
+    match showing {
+        Showing::Alike(shows) => show_alike(alloc, tables, asker.policy, change, *shows),
+        Showing::Result(place) => see_result(alloc, tables, asker, *place),
+        Showing::Results(query) => see_results(alloc, tables, asker, query),
+        Showing::Verdicts(query) => see_verdicts(alloc, tables, asker, query),
+    }
 }
 
 /// The answer that showed a new invocation, made again with the deadline and the tags that it had.

@@ -1,17 +1,22 @@
 //! What a request shows, by places.
-ghost use Rattle.std.specs.Prelude.{◌≡◌};
+ghost use Rattle.std.specs.Prelude.{◌≡◌, IfOk};
 ghost use Rattle.service_effects.specs.States.{recorded_in};
-ghost use Rattle.request_effects.specs.Shows.{shows_exonerations, shows_of, shows_results, shows_row};
+ghost use Rattle.request_effects.specs.Shows.{result_query, shows_exonerations, shows_of, shows_result, shows_results, shows_row, verdict_query};
 ghost use Rattle.request_rules.specs.Demands.{demand_of};
 ghost use Rattle.request_rules.specs.Locating.{located};
-ghost use Rattle.request_rules.specs.Named.{first_place};
+ghost use Rattle.request_rules.specs.Named.{first_place, places_in};
 
+use crate::cursors::{copied_result, copied_verdict};
+use lists::Numbers;
 use message_forms::Request;
+use query_forms::{QueryTestResults, QueryTestVariants};
+use query_pages::{ResultQuery, VerdictQuery};
 use request_rules::Located;
 use service_effects::Tables;
+use std::alloc::{AllocError, Global};
 
-/// What is shown of the world that a request leaves. A place is that of an invocation in order of
-/// creation, counted from 0.
+/// What is shown of the world that a request leaves, the same to all who ask. A place is that of an
+/// invocation in order of creation, counted from 0.
 #[derive(Clone, Copy, Debug, PartialEq, Eq)]
 pub enum Shows {
     /// Nothing but that it was done.
@@ -24,6 +29,19 @@ pub enum Shows {
     Results { first: u32, count: usize },
     /// So many exonerations, one behind the other, from this place on.
     Exonerations { first: u32, count: usize },
+}
+
+/// What is shown to who asks.
+#[derive(Drop)]
+pub enum Showing {
+    /// What is the same to all.
+    Alike(Shows),
+    /// The test result at this place, in order of arrival and counted from 0.
+    Result(u32),
+    /// A page of test results.
+    Results(ResultQuery),
+    /// A page of verdicts.
+    Verdicts(VerdictQuery),
 }
 
 /// The invocation at a place, if there is one.
@@ -62,23 +80,90 @@ fn shows_exonerations(tables: &Tables, place: Option<u32>, count: usize) -> Show
     }
 }
 
-/// What a request shows, where the invocations that it names stand at these places.
-pub fn shows_of(tables: &Tables, places: &Located, request: &Request) -> Shows
-    requires { places.now ≡ located tables.now.world.world.invocations (demand_of request.now) }
-    ensures { result ≡ shows_of (recorded_in tables.now) request.now }
+/// The test result at a place, if there is one.
+fn shows_result(place: Option<u32>) -> Showing
+    ensures { result ≡ shows_result place }
+{
+    match place {
+        Some(place) => Showing::Result(place),
+        None => Showing::Alike(Shows::Empty),
+    }
+}
+
+/// The page of results that is asked for, from the invocations at these places. `Err` where there
+/// is no memory.
+fn result_query(
+    alloc: Global,
+    tables: &Tables,
+    places: &Located,
+    q: &QueryTestResults,
+) -> Result<ResultQuery, AllocError>
+    requires { places.now.named ≡ places_in tables.now.world.world.invocations q.now.invocations }
+    ensures { IfOk result (λ query. query ≡ result_query (recorded_in tables.now) q.now) }
+{
+    let _ = tables;
+    Ok(ResultQuery {
+        roots: Numbers::new(places.roots(alloc)?),
+        query: q.query(alloc)?,
+        after: copied_result(alloc, &q.page_token)?,
+        size: q.size(),
+    })
+}
+
+/// The page of verdicts that is asked for, from the invocations at these places. `Err` where there
+/// is no memory.
+fn verdict_query(
+    alloc: Global,
+    tables: &Tables,
+    places: &Located,
+    q: &QueryTestVariants,
+) -> Result<VerdictQuery, AllocError>
+    requires { places.now.named ≡ places_in tables.now.world.world.invocations q.now.invocations }
+    ensures { IfOk result (λ query. query ≡ verdict_query (recorded_in tables.now) q.now) }
+{
+    let _ = tables;
+    Ok(VerdictQuery {
+        roots: Numbers::new(places.roots(alloc)?),
+        query: q.query(alloc)?,
+        after: copied_verdict(alloc, &q.page_token)?,
+        size: q.size(),
+        results: q.limit(),
+    })
+}
+
+/// What a request shows, where the invocations and the result that it names stand at these places.
+/// `Err` where there is no memory for the page that it asks for.
+pub fn shows_of(
+    alloc: Global,
+    tables: &Tables,
+    places: &Located,
+    request: &Request,
+) -> Result<Showing, AllocError>
+    requires { places.now ≡ located tables.now.world.world.invocations tables.now.results.rows
+        (demand_of request.now) }
+    ensures { IfOk result (λ showing. showing ≡ shows_of (recorded_in tables.now) request.now) }
 {
     let first = shows_row(places.first());
     match request {
-        Request::CreateInvocation(_) => Shows::Made(tables.world.count()),
-        Request::UpdateInvocation(_) => first,
-        Request::FinalizeInvocation(_) => first,
-        Request::UpdateIncludedInvocations(_) => Shows::Empty,
+        Request::CreateInvocation(_) => Ok(Showing::Alike(Shows::Made(tables.world.count()))),
+        Request::UpdateInvocation(_) => Ok(Showing::Alike(first)),
+        Request::FinalizeInvocation(_) => Ok(Showing::Alike(first)),
+        Request::UpdateIncludedInvocations(_) => Ok(Showing::Alike(Shows::Empty)),
         Request::BatchCreateTestResults(q) => {
-            shows_results(tables, places.first(), q.requests.len())
+            let count = q.requests.len();
+            Ok(Showing::Alike(shows_results(tables, places.first(), count)))
         }
         Request::BatchCreateTestExonerations(q) => {
-            shows_exonerations(tables, places.first(), q.requests.len())
+            let count = q.requests.len();
+            Ok(Showing::Alike(shows_exonerations(tables, places.first(), count)))
         }
-        Request::GetInvocation(_) => first,
+        Request::GetInvocation(_) => Ok(Showing::Alike(first)),
+        Request::GetTestResult(_) => Ok(shows_result(places.row())),
+        Request::QueryTestResults(q) => {
+            Ok(Showing::Results(result_query(alloc, tables, places, q)?))
+        }
+        Request::QueryTestVariants(q) => {
+            Ok(Showing::Verdicts(verdict_query(alloc, tables, places, q)?))
+        }
     }
 }

@@ -26,11 +26,16 @@ use Rattle.message_forms.proofs.FaultLaws.{asks_or_has_fault, fault_is_refused}
 use Rattle.request_rules.specs.declared.rules.Rule.{Rule}
 use Rattle.request_rules.specs.declared.rules.Rule.TheVariants as rule
 use Rattle.request_rules.specs.Settings.{Settings, caller_name, caller_of, secret_of}
+use Rattle.names_realms.specs.declared.result_names.ResultName.{ResultName}
+use Rattle.test_results.specs.declared.result.TestResult.{TestResult}
+use Rattle.request_rules.specs.declared.grants.Grant.{Grant}
+use Rattle.request_rules.specs.declared.grants.Grant.TheVariants.{One, Either}
+use Rattle.request_rules.specs.Grants.{Has, named_by}
 use Rattle.request_rules.specs.Demands.{Demand, Right, rights_taken}
 use Rattle.request_rules.specs.Numbered.{digest_of, kept_for}
-use Rattle.request_rules.specs.Named.{named, place_named}
+use Rattle.request_rules.specs.Named.{named, place_named, place_of_result}
 use Rattle.request_rules.specs.Order.{FirstOf, IsUnbroken}
-use Rattle.request_rules.specs.Broken.{BadUpdateToken, Case, DeadlineRange, Denied, HasNoMethod, IsBroken, IsInReach, IsMissing, IsRefusedAlone, IsRepeat, Itself, Lacks, NoUpdateToken, NotActive, NotFound, RequestIdReused, Taken, TooMany, Wants, denied, greatest_lifetime, least_lifetime, of_invocation, out_of_reach, refusal, target_of}
+use Rattle.request_rules.specs.Broken.{BadUpdateToken, Case, IsAbsent, Sought, invocation_with, result_named, name_of, sought, DeadlineRange, Denied, HasNoMethod, IsBroken, IsInReach, IsMissing, IsRefusedAlone, IsRepeat, Itself, Lacks, NoUpdateToken, NotActive, NotFound, RequestIdReused, Taken, TooMany, Wants, denied, greatest_lifetime, least_lifetime, of_invocation, out_of_reach, refusal, target_of}
 use Rattle.request_rules.proofs.Firsts.{no_first}
 use Rattle.request_rules.proofs.Judged.{Told}
 
@@ -112,10 +117,21 @@ repeat_or_not x d = repeat_at x d (kept_for x.kept (caller_name x.settings x.cal
 
 -- ---- rules
 
-not_found_told : (rows : List Invocation) (d : Demand) (found : Option (List ℕ)) → FirstOf (IsMissing rows) (d.named ++ d.included) found
-    → Told (NotFound rows d)
-not_found_told rows d None first = inr (λ r is. no_first (IsMissing rows) (d.named ++ d.included) first is.id is.first)
-not_found_told rows d (Some id) first = inl (of_invocation 8 id, record { id = id; first = first; refusal_is = refl })
+absent_at : (rows : List Invocation) (results : List TestResult) (name : ResultName) (o : Option ℕ) → place_of_result rows results name ≡ o
+    → IsAbsent rows results (result_named name) ⊎ (IsAbsent rows results (result_named name) → ⊥)
+absent_at rows results name None e = inl e
+absent_at rows results name (Some p) e = inr (λ none. none-some p (sym none ∙ e))
+
+absent_or_not : (rows : List Invocation) (results : List TestResult) (what : Sought)
+    → IsAbsent rows results what ⊎ (IsAbsent rows results what → ⊥)
+absent_or_not rows results (invocation_with id) = missing_or_not rows id
+absent_or_not rows results (result_named name) = absent_at rows results name (place_of_result rows results name) refl
+
+not_found_told : (rows : List Invocation) (results : List TestResult) (d : Demand) (found : Option Sought)
+    → FirstOf (IsAbsent rows results) (sought d) found → Told (NotFound rows results d)
+not_found_told rows results d None first = inr (λ r is. no_first (IsAbsent rows results) (sought d) first is.what is.first)
+not_found_told rows results d (Some what) first =
+    inl (refusal 8 (name_of what), record { what = what; first = first; refusal_is = refl })
 
 no_token_told : (asked : Asked) (d : Demand) (o t : Option (List ℕ)) → d.changed ≡ o → asked.update_token ≡ t
     → Told (NoUpdateToken asked d)
@@ -149,7 +165,8 @@ bad_token_told s asked d (Some id) (Some token) e f =
 denied_told : (policy : PolicyTables) (rows : List Invocation) (caller : ℕ) (d : Demand) (found : Option Right)
     → FirstOf (Lacks policy caller) (rights_taken rows d) found → Told (Denied policy rows caller d)
 denied_told policy rows caller d None first = inr (λ r is. no_first (Lacks policy caller) (rights_taken rows d) first is.0 is.1)
-denied_told policy rows caller d (Some lacking) first = inl (denied lacking, (lacking, first, refl))
+denied_told policy rows caller d (Some lacking) first =
+    inl (denied (named_by lacking.grant) lacking.realm, (lacking, first, refl))
 
 active_or_not : (state : State) → (state ≡ Active) ⊎ (state ≡ Active → ⊥)
 active_or_not Active = inl refl
@@ -222,18 +239,30 @@ taken_told rows d (Some id) e =
       | inr there ↦ inl (of_invocation 19 id, record { id = id; makes = e; taken = there; refusal_is = refl })
     ]
 
+has_or_not : (policy : PolicyTables) (caller : ℕ) (grant : Grant) (realm : List ℕ)
+    → Has policy caller grant realm ⊎ (Has policy caller grant realm → ⊥)
+has_or_not policy caller (One permission) realm = allows_or_not policy caller permission realm
+has_or_not policy caller (Either first second) realm =
+    elim (allows_or_not policy caller first realm) [
+      | inl is ↦ inl (inl is)
+      | inr lacks ↦ elim (allows_or_not policy caller second realm) [
+        | inl is ↦ inl (inr is)
+        | inr none ↦ inr (λ has. elim has [ inl a ↦ lacks a | inr b ↦ none b ])
+      ]
+    ]
+
 -- whether a caller lacks a right can be told
 lacks_or_not : (policy : PolicyTables) (caller : ℕ) (x : Right) → Lacks policy caller x ⊎ (Lacks policy caller x → ⊥)
 lacks_or_not policy caller x =
-    elim (allows_or_not policy caller x.permission x.realm) [ inl is ↦ inr (λ none. none is) | inr none ↦ inl none ]
+    elim (has_or_not policy caller x.grant x.realm) [ inl is ↦ inr (λ none. none is) | inr none ↦ inl none ]
 
 pub broken_told : (x : Case) (d : Demand) (k : Rule) → Told (IsBroken x d k)
 broken_told x d rule.RequestIdReused =
     let name = caller_name x.settings x.caller in
     reused_told x.kept name x.asked d d.number (kept_for x.kept name d) refl refl
 broken_told x d rule.NotFound =
-    let first = first_there (IsMissing x.rows) (missing_or_not x.rows) (d.named ++ d.included) in
-    not_found_told x.rows d first.0 first.1
+    let first = first_there (IsAbsent x.rows x.results) (absent_or_not x.rows x.results) (sought d) in
+    not_found_told x.rows x.results d first.0 first.1
 broken_told x d rule.NoUpdateToken = no_token_told x.asked d d.changed x.asked.update_token refl refl
 broken_told x d rule.BadUpdateToken = bad_token_told x.settings x.asked d d.changed x.asked.update_token refl refl
 broken_told x d rule.Denied =

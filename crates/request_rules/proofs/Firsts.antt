@@ -1,5 +1,5 @@
 -- The first of a list, a step of a loop at a time.
-use Rattle.std.proofs.Common.{◌≡◌, ◌<◌, ◌≤◌, ◌+◌, ℕ, zero, suc, List, [], ◌∷◌, ◌++◌, length, drop, get_or, Option, Some, None, refl, sym, subst, inl, inr, arith, add-one}
+use Rattle.std.proofs.Common.{◌≡◌, ◌<◌, ◌≤◌, ◌+◌, ℕ, zero, suc, List, [], ◌∷◌, ◌++◌, length, map, drop, get_or, Option, Some, None, option_map, refl, sym, ap, subst, inl, inr, arith, add-one}
 use Rattle.std.proofs.Math.Seq.{drop-cons}
 use Rattle.std.proofs.lemmas.List.{drop_all}
 use Rattle.call_forms.specs.declared.forms.Refusal.{Refusal}
@@ -28,6 +28,13 @@ pub first_in_more : {A : Type 0} → (Holds : A → Type 0) → (xs ys : List A)
 first_in_more Holds [] ys found none first = first
 first_in_more {A} Holds (z ∷ xs) ys found (inl this) first = let e : None ≡ Some z = this.1 in cc
 first_in_more Holds (z ∷ xs) ys found (inr this) first = inr (this.0, first_in_more Holds xs ys found this.1 first)
+
+-- the first of a list is the first of what the list is seen as
+pub first_of_map : {A B : Type 0} → (f : A → B) (Holds : B → Type 0) (xs : List A) (found : Option A) → FirstOf (λ x. Holds (f x)) xs found
+    → FirstOf Holds (map f xs) (option_map f found)
+first_of_map {A} {B} f Holds [] found none = ap (option_map f) none
+first_of_map {A} {B} f Holds (x ∷ xs) found (inl this) = inl (this.0, ap (option_map f) this.1)
+first_of_map {A} {B} f Holds (x ∷ xs) found (inr this) = inr (this.0, first_of_map f Holds xs found this.1)
 
 pub first_of_same : {A : Type 0} → (Holds : A → Type 0) → (xs ys : List A) (found : Option A) → xs ≡ ys → FirstOf Holds xs found
     → FirstOf Holds ys found

@@ -2,6 +2,7 @@ pub mod Firsts
 pub mod Judged
 pub mod RuleFacts
 pub mod PlaceLaws
+pub mod ResultPlaces
 pub mod PolicyLaws
 pub mod ReadLaws
 pub mod CauseLaws

@@ -56,7 +56,7 @@ pub place-named : (rows : List Invocation) (id : List ℕ) (place : ℕ) → pla
     → named rows id ≡ slice_get rows place
 place-named rows id place e = ap (row_at rows) e
 
-slice_get-Contains : {A : Type 0} → (xs : List A) (i : ℕ) (x : A) → slice_get xs i ≡ Some x → Contains xs x
+pub slice_get-Contains : {A : Type 0} → (xs : List A) (i : ℕ) (x : A) → slice_get xs i ≡ Some x → Contains xs x
 slice_get-Contains xs i x e = (i, slice_get_within xs i x e, get_or_from_slice_get xs i x x e)
 
 pub place-has : (rows : List Invocation) (id : List ℕ) (place : ℕ) → place_named rows id ≡ Some place → HasId rows id

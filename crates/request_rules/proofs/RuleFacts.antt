@@ -14,8 +14,10 @@ use Rattle.request_rules.specs.declared.rules.Rule.{Rule}
 use Rattle.request_rules.specs.declared.rules.Rule.TheVariants as rule
 use Rattle.request_rules.specs.Settings.{Settings, caller_name}
 use Rattle.request_rules.specs.Named.{named}
-use Rattle.request_rules.specs.Demands.{Demand, rights_taken}
-use Rattle.request_rules.specs.Broken.{Alone, BadUpdateToken, Case, DeadlineRange, Denied, HasBadBody, IsBroken, IsBrokenAlone, IsMissing, IsRefusedAlone, Itself, Lacks, NoUpdateToken, NotActive, NotFound, RequestIdReused, Taken, Wants, body_right, caller_known, denied, method_known, of_invocation, order_alone, out_of_reach, refusal, target_of}
+use Rattle.test_results.specs.declared.result.TestResult.{TestResult}
+use Rattle.request_rules.specs.Grants.{named_by}
+use Rattle.request_rules.specs.Demands.{Demand, Right, rights_taken}
+use Rattle.request_rules.specs.Broken.{Alone, BadUpdateToken, Case, DeadlineRange, Denied, HasBadBody, IsAbsent, IsBroken, IsBrokenAlone, IsRefusedAlone, Itself, Lacks, NoUpdateToken, NotActive, NotFound, RequestIdReused, Sought, Taken, Wants, body_right, caller_known, denied, method_known, name_of, of_invocation, order_alone, out_of_reach, refusal, sought, target_of}
 use Rattle.request_rules.proofs.Firsts.{one_first}
 use Rattle.message_forms.proofs.FaultLaws.{one_fault}
 use Rattle.message_forms.proofs.RequestLaws.{one_request_asked}
@@ -44,10 +46,10 @@ one_reused kept name asked d r p this that =
     let both : Some this.number ≡ Some that.number = sym this.shows ∙ that.shows in
     one_of this.number that.number r p (refusal 7) (cc) this.refusal_is that.refusal_is
 
-one_not_found : (rows : List Invocation) (d : Demand) → IsOne (NotFound rows d)
-one_not_found rows d r p this that =
-    one_of this.id that.id r p (of_invocation 8)
-    (one_first (IsMissing rows) (d.named ++ d.included) this.id that.id this.first that.first) this.refusal_is that.refusal_is
+one_not_found : (rows : List Invocation) (results : List TestResult) (d : Demand) → IsOne (NotFound rows results d)
+one_not_found rows results d r p this that =
+    one_of this.what that.what r p (λ (what : Sought). refusal 8 (name_of what))
+    (one_first (IsAbsent rows results) (sought d) this.what that.what this.first that.first) this.refusal_is that.refusal_is
 
 one_no_token : (asked : Asked) (d : Demand) → IsOne (NoUpdateToken asked d)
 one_no_token asked d r p this that =
@@ -61,7 +63,8 @@ one_bad_token s asked d r p this that =
 
 one_denied : (policy : PolicyTables) (rows : List Invocation) (caller : ℕ) (d : Demand) → IsOne (Denied policy rows caller d)
 one_denied policy rows caller d r p this that =
-    this.2 ∙ (ap denied (one_first (Lacks policy caller) (rights_taken rows d) this.0 that.0 this.1 that.1) ∙ sym that.2)
+    one_of this.0 that.0 r p (λ (lacking : Right). denied (named_by lacking.grant) lacking.realm)
+    (one_first (Lacks policy caller) (rights_taken rows d) this.0 that.0 this.1 that.1) this.2 that.2
 
 one_not_active : (rows : List Invocation) (d : Demand) → IsOne (NotActive rows d)
 one_not_active rows d r p this that =
@@ -92,7 +95,7 @@ one_taken rows d r p this that =
 
 pub one_broken : (x : Case) (d : Demand) (k : Rule) → IsOne (IsBroken x d k)
 one_broken x d rule.RequestIdReused r p this that = one_reused x.kept (caller_name x.settings x.caller) x.asked d r p this that
-one_broken x d rule.NotFound r p this that = one_not_found x.rows d r p this that
+one_broken x d rule.NotFound r p this that = one_not_found x.rows x.results d r p this that
 one_broken x d rule.NoUpdateToken r p this that = one_no_token x.asked d r p this that
 one_broken x d rule.BadUpdateToken r p this that = one_bad_token x.settings x.asked d r p this that
 one_broken x d rule.Denied r p this that = one_denied x.settings.policy x.rows x.caller d r p this that

@@ -1,23 +1,24 @@
 -- The code's own words: a broken rule whose text isn't written yet.
 use Rattle.std.specs.Prelude.{◌++◌, ℕ, List, Option, None, Some, codes, decimal}
 use Rattle.names_realms.specs.Names.{invocation_name}
+use Rattle.names_realms.specs.ResultNames.{result_name}
 use Rattle.kept_replies.specs.declared.reply.KeptReply.{KeptReply}
 use Rattle.call_forms.specs.declared.asked.Asked.{Asked}
 use Rattle.call_forms.specs.declared.forms.Refusal.{Refusal}
 use Rattle.invocation_forms.specs.Replies.{state_text}
 use Rattle.request_rules.specs.declared.breaches.Breach.{Breach}
-use Rattle.request_rules.specs.declared.breaches.Breach.TheVariants.{RequestIdReused, NotFound, NoUpdateToken, BadUpdateToken, Denied, NotActive, DeadlineRange, Itself, TooMany, Taken}
+use Rattle.request_rules.specs.declared.breaches.Breach.TheVariants.{RequestIdReused, NotFound, NoResult, NoUpdateToken, BadUpdateToken, Denied, NotActive, DeadlineRange, Itself, TooMany, Taken}
 use Rattle.request_rules.specs.declared.judging.Situation.{Situation}
-use Rattle.request_rules.specs.Demands.{right}
 use Rattle.request_rules.specs.Order.{IsUnbroken}
 use Rattle.request_rules.specs.Broken.{Case, refusal, of_invocation, denied, out_of_reach}
 
 abbrev pub refusal_of : Breach → Refusal
 refusal_of (RequestIdReused number) = refusal 7 number.now
 refusal_of (NotFound id) = of_invocation 8 id.now
+refusal_of (NoResult name) = refusal 8 (result_name name.now)
 refusal_of (NoUpdateToken id) = of_invocation 9 id.now
 refusal_of (BadUpdateToken id) = of_invocation 10 id.now
-refusal_of (Denied permission realm) = denied (right permission realm.now)
+refusal_of (Denied permission realm) = denied permission realm.now
 refusal_of (NotActive id state) =
     refusal 12 (invocation_name id.now ++ (codes " " ++ state_text state))
 refusal_of (DeadlineRange deadline moment) = out_of_reach deadline moment
@@ -35,6 +36,7 @@ abbrev pub case_of : Situation → List KeptReply → Asked → ℕ → Case
 case_of x kept asked caller = record {
   settings = record { policy = x.policy.now };
   rows = x.table.now.rows;
+  results = x.results.now.rows;
   kept = kept;
   moment = x.moment;
   asked = asked;

@@ -1,13 +1,17 @@
 -- Which rules a request breaks. Each rule is said by itself.
-use Rattle.std.specs.Prelude.{◌≡◌, ◌≢◌, ℕ, ◌<◌, ◌==◌, if◌then◌else◌, ℤ, pos, ◌+ℤ◌, ◌≤ℤ◌, List, [], ◌∷◌, ◌++◌, length, Contains, codes, decimal, Some, None}
+use Rattle.std.specs.Prelude.{◌≡◌, ◌≢◌, ℕ, ◌<◌, ◌==◌, if◌then◌else◌, ℤ, pos, ◌+ℤ◌, ◌≤ℤ◌, List, [], ◌∷◌, ◌++◌, length, map, Contains, codes, decimal, Some, None}
+use Rattle.std.specs.Option.{option_to_list}
 use Rattle.moments_spans.specs.Moments.{moment_text}
 use Rattle.names_realms.specs.Names.{invocation_name}
+use Rattle.names_realms.specs.ResultNames.{result_name}
+use Rattle.names_realms.specs.declared.result_names.ResultName.{ResultName}
 use Rattle.names_realms.specs.declared.states.State.TheVariants.{Active}
 use Rattle.policy_tables.specs.declared.tables.PolicyTables.{PolicyTables}
+use Rattle.policy_checks.specs.declared.permission.Permission.{Permission}
 use Rattle.policy_checks.specs.Permissions.{permission_text}
-use Rattle.permissions.specs.Allows.{Allows}
 use Rattle.update_tokens.specs.Hash.{token_text}
 use Rattle.kept_replies.specs.declared.reply.KeptReply.{KeptReply}
+use Rattle.test_results.specs.declared.result.TestResult.{TestResult}
 use Rattle.invocations.specs.declared.invocation.Invocation.{Invocation}
 use Rattle.call_forms.specs.declared.asked.Asked.{Asked}
 use Rattle.call_forms.specs.declared.forms.Refusal.{Refusal}
@@ -21,7 +25,8 @@ use Rattle.invocation_forms.specs.Replies.{state_text}
 use Rattle.request_rules.specs.declared.rules.Rule.{Rule}
 use Rattle.request_rules.specs.declared.rules.Rule.TheVariants as rule
 use Rattle.request_rules.specs.Settings.{Settings, caller_name, caller_of, secret_of}
-use Rattle.request_rules.specs.Named.{named, place_named}
+use Rattle.request_rules.specs.Grants.{Has, named_by}
+use Rattle.request_rules.specs.Named.{named, place_named, place_of_result}
 use Rattle.request_rules.specs.Demands.{Demand, Right, rights_taken}
 use Rattle.request_rules.specs.Numbered.{IsReused, IsRepeatOf}
 use Rattle.request_rules.specs.Order.{FirstOf, Judges}
@@ -94,11 +99,31 @@ pub record RequestIdReused (kept : List KeptReply) (name : List ℕ) (asked : As
 abbrev pub IsMissing : List Invocation → List ℕ → Type 0
 IsMissing rows id = place_named rows id ≡ None
 
--- Rule 8: each invocation that is named is there. The first one that isn't is named.
-pub record NotFound (rows : List Invocation) (d : Demand) (r : Refusal) : Type 0 where
-  pub id : List ℕ
-  pub first : FirstOf (IsMissing rows) (d.named ++ d.included) (Some id)
-  pub refusal_is : r ≡ of_invocation 8 id
+-- What is looked for: the invocation with an id, or the result of a name.
+pub data Sought : Type 0 where
+  invocation_with : List ℕ → Sought
+  result_named : ResultName → Sought
+
+abbrev pub name_of : Sought → List ℕ
+name_of (invocation_with id) = invocation_name id
+name_of (result_named name) = result_name name
+
+abbrev pub IsAbsent : List Invocation → List TestResult → Sought → Type 0
+IsAbsent rows results (invocation_with id) = IsMissing rows id
+IsAbsent rows results (result_named name) = place_of_result rows results name ≡ None
+
+-- what has to be there, in the order in which it is looked for
+abbrev pub sought : Demand → List Sought
+sought d =
+    map invocation_with (d.named ++ d.included) ++ map result_named (option_to_list d.row)
+
+-- Rule 8: each invocation that is named is there, and then the result. The first that isn't is
+-- named.
+pub record NotFound (rows : List Invocation) (results : List TestResult) (d : Demand)
+    (r : Refusal) : Type 0 where
+  pub what : Sought
+  pub first : FirstOf (IsAbsent rows results) (sought d) (Some what)
+  pub refusal_is : r ≡ refusal 8 (name_of what)
 
 -- Rule 9: a request that changes an invocation shows an update token.
 pub record NoUpdateToken (asked : Asked) (d : Demand) (r : Refusal) : Type 0 where
@@ -119,16 +144,16 @@ pub record BadUpdateToken (s : Settings) (asked : Asked) (d : Demand) (r : Refus
 
 -- The caller lacks the right by the policy.
 abbrev pub Lacks : PolicyTables → ℕ → Right → Type 0
-Lacks policy caller x = ¬ Allows policy caller x.permission x.realm
+Lacks policy caller x = ¬ Has policy caller x.grant x.realm
 
-abbrev pub denied : Right → Refusal
-denied lacking = refusal 11 (permission_text lacking.permission ++ (codes " " ++ lacking.realm))
+abbrev pub denied : Permission → List ℕ → Refusal
+denied permission realm = refusal 11 (permission_text permission ++ (codes " " ++ realm))
 
 -- Rule 11: the caller has each right that the request takes. The first that is lacking is named.
 abbrev pub Denied : PolicyTables → List Invocation → ℕ → Demand → Refusal → Type 0
 Denied policy rows caller d r =
     (lacking : Right) × FirstOf (Lacks policy caller) (rights_taken rows d) (Some lacking)
-    × (r ≡ denied lacking)
+    × (r ≡ denied (named_by lacking.grant) lacking.realm)
 
 -- Rule 12: the invocation that the request changes is active.
 pub record NotActive (rows : List Invocation) (d : Demand) (r : Refusal) : Type 0 where
@@ -181,11 +206,12 @@ pub record Taken (rows : List Invocation) (d : Demand) (r : Refusal) : Type 0 wh
   pub taken : place_named rows id ≢ None
   pub refusal_is : r ≡ of_invocation 19 id
 
--- What rules look at: what the service is set up with, the invocations that are there and what is
--- kept of numbered requests, the moment of the call, and what was asked and by whom.
+-- What rules look at: what the service is set up with, the invocations and results that are there
+-- and what is kept of numbered requests, the moment of the call, and what was asked and by whom.
 pub record Case : Type 0 where
   pub settings : Settings
   pub rows : List Invocation
+  pub results : List TestResult
   pub kept : List KeptReply
   pub moment : ℤ
   pub asked : Asked
@@ -200,7 +226,7 @@ IsRepeat x d reply =
 abbrev pub IsBroken : Case → Demand → Rule → Refusal → Type 0
 IsBroken x d rule.RequestIdReused r =
     RequestIdReused x.kept (caller_name x.settings x.caller) x.asked d r
-IsBroken x d rule.NotFound r = NotFound x.rows d r
+IsBroken x d rule.NotFound r = NotFound x.rows x.results d r
 IsBroken x d rule.NoUpdateToken r = NoUpdateToken x.asked d r
 IsBroken x d rule.BadUpdateToken r = BadUpdateToken x.settings x.asked d r
 IsBroken x d rule.Denied r = Denied x.settings.policy x.rows x.caller d r

@@ -1,5 +1,6 @@
 pub mod Named
 pub mod Settings
+pub mod Grants
 pub mod Demands
 pub mod Numbered
 pub mod Locating
@@ -8,3 +9,4 @@ pub mod Order
 pub mod Understood
 pub mod Breaches
 pub mod Askers
+pub mod Again

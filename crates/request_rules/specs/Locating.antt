@@ -1,14 +1,18 @@
--- Where the invocations stand that a request names.
+-- Where the invocations and the result stand that a request names.
 use Rattle.std.specs.Prelude.{◌≡◌, ℕ, List, ◌∷◌, Option, Some, None}
+use Rattle.names_realms.specs.declared.result_names.ResultName.{ResultName}
+use Rattle.test_results.specs.declared.result.TestResult.{TestResult}
 use Rattle.invocations.specs.declared.invocation.Invocation.{Invocation}
 use Rattle.request_rules.specs.Demands.{Demand}
-use Rattle.request_rules.specs.Named.{place_named, places_in}
+use Rattle.request_rules.specs.Named.{place_named, place_of_result, places_in}
 
--- The places of those that have to be there, of those to be included, of the one that has to be
--- active, and of the one that has the id of the new one: nothing for one that isn't there.
+-- The places of those that have to be there, of those to be included, of the result that has to be
+-- there, of the one that has to be active, and of the one that has the id of the new one: nothing
+-- for one that isn't there.
 pub record Located : Type 0 where
   pub named : List (Option ℕ)
   pub included : List (Option ℕ)
+  pub row : Option ℕ
   pub active : Option ℕ
   pub made : Option ℕ
 
@@ -17,11 +21,17 @@ abbrev pub place_if : List Invocation → Option (List ℕ) → Option ℕ
 place_if rows None = None
 place_if rows (Some id) = place_named rows id
 
--- where the invocations stand that are demanded
-abbrev pub located : List Invocation → Demand → Located
-located rows d = record {
+-- where the result of this name stands, if a name is given
+abbrev pub result_if : List Invocation → List TestResult → Option ResultName → Option ℕ
+result_if rows held None = None
+result_if rows held (Some name) = place_of_result rows held name
+
+-- where the invocations and the result stand that are demanded
+abbrev pub located : List Invocation → List TestResult → Demand → Located
+located rows held d = record {
   named = places_in rows d.named;
   included = places_in rows d.included;
+  row = result_if rows held d.row;
   active = place_if rows d.active;
   made = place_if rows d.makes;
 }

@@ -1,6 +1,7 @@
 //! Broken rules whose texts aren't written yet.
 ghost use Rattle.std.specs.Prelude.{◌≡◌, ◌++◌, IfOk, codes, decimal};
 ghost use Rattle.moments_spans.specs.Moments.{moment_text};
+ghost use Rattle.names_realms.specs.ResultNames.{result_name};
 ghost use Rattle.policy_checks.specs.Permissions.{permission_text};
 ghost use Rattle.call_forms.specs.Rules.{refusal_answer};
 ghost use Rattle.invocation_forms.specs.Replies.{state_text};
@@ -11,7 +12,7 @@ use crate::refusals::refused;
 use crate::rules::Rule;
 use call_forms::Answer;
 use message_forms::{LimitedText, RequestId, state_name};
-use names_realms::{InvocationId, Moment, Realm, State};
+use names_realms::{InvocationId, Moment, Realm, ResultName, State};
 use permissions::Permission;
 use std::alloc::{AllocError, Global};
 
@@ -25,6 +26,10 @@ pub enum Breach<'r> {
     /// An invocation that the request names isn't there.
     NotFound {
         id: &'r InvocationId,
+    },
+    /// The result that the request names isn't there.
+    NoResult {
+        name: &'r ResultName,
     },
     /// The request changes the invocation, and shows no update token.
     NoUpdateToken {
@@ -93,6 +98,15 @@ fn name_text(alloc: Global, id: &InvocationId) -> Result<Vec<u8>, AllocError>
     Ok(format!(in alloc; "invocations/{id}")?.into_bytes())
 }
 
+/// The name of a result.
+fn result_text(alloc: Global, name: &ResultName) -> Result<Vec<u8>, AllocError>
+    ensures { IfOk result (λ text. text.items ≡ result_name name.now) }
+{
+    let mut text = Vec::new(alloc);
+    name.write_to(alloc, &mut text)?;
+    Ok(text)
+}
+
 /// The name of an invocation and its state, with a space between.
 fn state_of(alloc: Global, id: &InvocationId, state: State) -> Result<Vec<u8>, AllocError>
     ensures { IfOk result (λ text.
@@ -119,6 +133,7 @@ impl Breach<'_> {
         match self {
             Breach::RequestIdReused { .. } => Rule::RequestIdReused,
             Breach::NotFound { .. } => Rule::NotFound,
+            Breach::NoResult { .. } => Rule::NotFound,
             Breach::NoUpdateToken { .. } => Rule::NoUpdateToken,
             Breach::BadUpdateToken { .. } => Rule::BadUpdateToken,
             Breach::Denied { .. } => Rule::Denied,
@@ -139,6 +154,7 @@ impl Breach<'_> {
                 Vec::from_slice(alloc, number.as_str().as_bytes())
             }
             Breach::NotFound { id } => name_text(alloc, id),
+            Breach::NoResult { name } => result_text(alloc, name),
             Breach::NoUpdateToken { id } => name_text(alloc, id),
             Breach::BadUpdateToken { id } => name_text(alloc, id),
             Breach::Denied { permission, realm } => right_text(alloc, permission, realm),

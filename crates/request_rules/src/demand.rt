@@ -2,8 +2,9 @@
 ghost use Rattle.std.specs.Prelude.{◌≡◌};
 ghost use Rattle.request_rules.specs.Demands.{demand_of, nothing, of_batch, to_create};
 
+use crate::grants::Grant;
 use message_forms::{LimitedText, Request, RequestId};
-use names_realms::{InvocationId, Moment, Realm};
+use names_realms::{InvocationId, Moment, Realm, ResultName};
 use permissions::Permission;
 use std::marker::Model;
 use std::slice::from_ref;
@@ -17,6 +18,8 @@ pub struct Demand<'r> {
     pub named: &'r [InvocationId],
     /// Those to be included, which have to be there after them.
     pub included: &'r [InvocationId],
+    /// The test result that has to be there behind these.
+    pub row: Option<&'r ResultName>,
     /// The one that is changed, and whose update token is shown.
     pub changed: Option<&'r InvocationId>,
     /// The one that has to be active.
@@ -25,13 +28,13 @@ pub struct Demand<'r> {
     pub deadline: Option<Moment>,
     /// The id of a new invocation, which has to be free.
     pub makes: Option<&'r InvocationId>,
-    /// The realm of what is new, and the permissions that it takes there, in their order.
+    /// The realm of what is new, and what it takes there, in its order.
     pub realm: Option<&'r Realm>,
-    pub takes: &'r [Permission],
-    /// The permissions that it takes in the realm of each invocation that has to be there.
-    pub of_named: &'r [Permission],
-    /// The permissions that it takes in the realm of each one to be included.
-    pub of_included: &'r [Permission],
+    pub takes: &'r [Grant],
+    /// What it takes in the realm of each invocation that has to be there.
+    pub of_named: &'r [Grant],
+    /// What it takes in the realm of each one to be included.
+    pub of_included: &'r [Grant],
 }
 
 impl<'r> Model for Demand<'r> {
@@ -44,6 +47,7 @@ impl<'r> Model for Demand<'r> {
       number = option_map (λ number. number.now) d.number;
       named = d.named.now;
       included = d.included.now;
+      row = option_map (λ name. name.now) d.row;
       changed = option_map (λ id. id.now) d.changed;
       active = option_map (λ id. id.now) d.active;
       deadline = d.deadline;
@@ -64,6 +68,7 @@ impl<'r> Demand<'r> {
             number: None,
             named: &[],
             included: &[],
+            row: None,
             changed: None,
             active: None,
             deadline: None,
@@ -92,17 +97,16 @@ impl<'r> Demand<'r> {
     }
 }
 
-/// The permissions that a new invocation of this id takes: an id that begins with `u-` is for all
-/// who may create.
-fn to_create(id: &InvocationId) -> &'static [Permission]
+/// What a new invocation of this id takes: an id that begins with `u-` is for all who may create.
+fn to_create(id: &InvocationId) -> &'static [Grant]
     ensures { result.now ≡ to_create id.now }
 {
     if id.as_slice().starts_with(b"u-") {
-        &[Permission::CreateInvocation]
+        &[Grant::One(Permission::CreateInvocation)]
     } else {
         &[
-            Permission::CreateInvocation,
-            Permission::CreateWithReservedId,
+            Grant::One(Permission::CreateInvocation),
+            Grant::One(Permission::CreateWithReservedId),
         ]
     }
 }
@@ -137,14 +141,42 @@ pub fn demand_of(request: &Request) -> Demand<'_>
             included: r.add.as_slice(),
             changed: Some(&r.including),
             active: Some(&r.including),
-            of_included: &[Permission::IncludeInvocation],
+            of_included: &[Grant::One(Permission::IncludeInvocation)],
             ..Demand::nothing()
         },
         Request::BatchCreateTestResults(r) => Demand::of_batch(&r.request_id, &r.invocation),
         Request::BatchCreateTestExonerations(r) => Demand::of_batch(&r.request_id, &r.invocation),
         Request::GetInvocation(r) => Demand {
             named: from_ref(&r.id),
-            of_named: &[Permission::GetInvocation],
+            of_named: &[Grant::One(Permission::GetInvocation)],
+            ..Demand::nothing()
+        },
+        Request::GetTestResult(r) => Demand {
+            named: from_ref(&r.name.invocation),
+            row: Some(&r.name),
+            of_named: &[Grant::One(Permission::GetTestResult)],
+            ..Demand::nothing()
+        },
+        Request::QueryTestResults(r) => Demand {
+            named: r.invocations.as_slice(),
+            of_named: &[Grant::Either(
+                Permission::ListTestResults,
+                Permission::ListLimitedTestResults,
+            )],
+            ..Demand::nothing()
+        },
+        Request::QueryTestVariants(r) => Demand {
+            named: r.invocations.as_slice(),
+            of_named: &[
+                Grant::Either(
+                    Permission::ListTestResults,
+                    Permission::ListLimitedTestResults,
+                ),
+                Grant::Either(
+                    Permission::ListTestExonerations,
+                    Permission::ListLimitedTestExonerations,
+                ),
+            ],
             ..Demand::nothing()
         },
     }

@@ -1,6 +1,7 @@
 //! Which rule a demand breaks, if any. Nothing here takes memory.
 ghost use Rattle.std.specs.Prelude.{◌≡◌, ◌↔◌, ℕ, IsTrue, Contains, List, option_map};
 ghost use Rattle.invocations.specs.declared.invocation.Invocation.{Invocation};
+ghost use Rattle.test_results.specs.declared.result.TestResult.{TestResult};
 ghost use Rattle.call_forms.specs.declared.asked.Asked.{Asked};
 ghost use Rattle.kept_replies.specs.declared.reply.KeptReply.{KeptReply};
 ghost use Rattle.request_rules.specs.Demands.{demand_of};
@@ -15,14 +16,16 @@ ghost use Rattle.request_rules.specs.Askers.{IsAsker, MayJudge};
 
 use crate::breaches::Breach;
 use crate::demand::{Demand, demand_of};
-use crate::locating::{Located, first_missing, row_at};
+use crate::holdings::Holding;
+use crate::locating::{Located, first_missing, missing_result, row_at};
 use crate::numbers::NumberCheck;
 use crate::reading::{Call, TokenCheck};
-use crate::rights::{Asker, Holding};
+use crate::rights::Asker;
 use crate::rules::Rule;
 use invocations::Table;
 use names_realms::{InvocationId, Moment, State};
 use permissions::Policy;
+use test_results::ResultRows;
 
 /// Ten seconds, in microseconds.
 const LEAST_LIFETIME: i64 = 10_000_000;
@@ -46,13 +49,17 @@ fn request_id_reused<'r>(check: NumberCheck, demand: &Demand<'r>) -> Option<Brea
     }
 }
 
-/// The first invocation that is named and isn't there.
-fn not_found<'r>(places: &Located, demand: &Demand<'r>) -> Option<Breach<'r>>
-    ensures { (rows : List Invocation) → places.now ≡ located rows demand.now
-        → Finds (NotFound rows demand.now) result }
+/// The first invocation that is named and isn't there, or the result where these are there.
+pub(crate) fn not_found<'r>(places: &Located, demand: &Demand<'r>) -> Option<Breach<'r>>
+    ensures { (rows : List Invocation) (results : List TestResult)
+        → places.now ≡ located rows results demand.now
+        → Finds (NotFound rows results demand.now) result }
 {
-    match first_missing(places, demand) {
-        Some(id) => Some(Breach::NotFound { id }),
+    if let Some(id) = first_missing(places, demand) {
+        return Some(Breach::NotFound { id });
+    }
+    match missing_result(places, demand) {
+        Some(name) => Some(Breach::NoResult { name }),
         None => None,
     }
 }
@@ -89,13 +96,14 @@ fn denied<'r>(
     places: &Located,
 ) -> Option<Breach<'r>>
     requires asker { IsAsker asker.now }
-    requires places { places.now ≡ located table.now.rows demand.now }
+    requires places { (results : List TestResult)
+        × (places.now ≡ located table.now.rows results demand.now) }
     ensures { Finds (Denied asker.now.policy.now table.now.rows asker.now.caller demand.now)
         result }
 {
     match asker.lacking(table, demand, places) {
         Some(lacking) => Some(Breach::Denied {
-            permission: lacking.permission,
+            permission: lacking.grant.named(),
             realm: lacking.realm,
         }),
         None => None,
@@ -103,8 +111,13 @@ fn denied<'r>(
 }
 
 /// The invocation that has to be active and isn't.
-fn not_active<'r>(table: &Table, places: &Located, demand: &Demand<'r>) -> Option<Breach<'r>>
-    requires { places.now ≡ located table.now.rows demand.now }
+pub(crate) fn not_active<'r>(
+    table: &Table,
+    places: &Located,
+    demand: &Demand<'r>,
+) -> Option<Breach<'r>>
+    requires { (results : List TestResult)
+        × (places.now ≡ located table.now.rows results demand.now) }
     ensures { Finds (NotActive table.now.rows demand.now) result }
 {
     let id = demand.active?;
@@ -131,7 +144,7 @@ fn is_in_reach(moment: Moment, deadline: Moment) -> bool
 }
 
 /// The deadline that is given and isn't in reach.
-fn deadline_range<'r>(moment: Moment, demand: &Demand<'r>) -> Option<Breach<'r>>
+pub(crate) fn deadline_range<'r>(moment: Moment, demand: &Demand<'r>) -> Option<Breach<'r>>
     ensures { Finds (DeadlineRange moment demand.now) result }
 {
     let deadline = demand.deadline?;
@@ -154,7 +167,7 @@ fn is_among(id: &InvocationId, ids: &[InvocationId]) -> bool
 }
 
 /// The invocation that would include itself.
-fn itself<'r>(demand: &Demand<'r>) -> Option<Breach<'r>>
+pub(crate) fn itself<'r>(demand: &Demand<'r>) -> Option<Breach<'r>>
     ensures { Finds (Itself demand.now) result }
 {
     let id = demand.changed?;
@@ -165,7 +178,7 @@ fn itself<'r>(demand: &Demand<'r>) -> Option<Breach<'r>>
 }
 
 /// How many invocations are named to be included, where they are more than may be.
-fn too_many<'r>(demand: &Demand<'r>) -> Option<Breach<'r>>
+pub(crate) fn too_many<'r>(demand: &Demand<'r>) -> Option<Breach<'r>>
     ensures { Finds (TooMany demand.now) result }
 {
     let count = demand.included.len();
@@ -176,8 +189,9 @@ fn too_many<'r>(demand: &Demand<'r>) -> Option<Breach<'r>>
 }
 
 /// The id that has to be free and isn't.
-fn taken<'r>(places: &Located, demand: &Demand<'r>) -> Option<Breach<'r>>
-    ensures { (rows : List Invocation) → places.now ≡ located rows demand.now
+pub(crate) fn taken<'r>(places: &Located, demand: &Demand<'r>) -> Option<Breach<'r>>
+    ensures { (rows : List Invocation) (results : List TestResult)
+        → places.now ≡ located rows results demand.now
         → Finds (Taken rows demand.now) result }
 {
     let id = demand.makes?;
@@ -185,15 +199,17 @@ fn taken<'r>(places: &Located, demand: &Demand<'r>) -> Option<Breach<'r>>
     Some(Breach::Taken { id })
 }
 
-/// What a call is judged by: who may do what, the invocations that are there, and its moment.
+/// What a call is judged by: who may do what, the invocations and results that are there, and its
+/// moment.
 #[derive(Clone, Copy)]
 pub struct Situation<'r> {
     pub policy: &'r Policy,
     pub table: &'r Table,
+    pub results: &'r ResultRows,
     pub moment: Moment,
-    /// What was found before of the caller's rights, by `holding_for`.
-    pub holding: &'r Option<Holding<'r>>,
-    /// Where the invocations stand that the call names.
+    /// What was found before of the caller's rights, by `holdings_for`.
+    pub holdings: &'r [Holding<'r>],
+    /// Where the invocations and the result stand that the call names.
     pub located: &'r Located,
     /// What the number of the call comes to.
     pub number: NumberCheck,
@@ -213,7 +229,7 @@ impl<'r> Situation<'r> {
         let asker = Asker {
             policy: self.policy,
             caller: call.caller,
-            holding: self.holding,
+            holdings: self.holdings,
         };
         match rule {
             Rule::RequestIdReused => request_id_reused(self.number, demand),

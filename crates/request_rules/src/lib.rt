@@ -2,8 +2,11 @@
 //! are there.
 #![tactic(auto)]
 
+mod again;
 mod breaches;
 mod demand;
+mod grants;
+mod holdings;
 mod judging;
 mod locating;
 mod numbers;
@@ -12,11 +15,13 @@ mod refusals;
 mod rights;
 mod rules;
 
+pub use again::{digest_again, is_right};
 pub use breaches::Breach;
 pub use demand::{Demand, demand_of};
+pub use grants::Grant;
+pub use holdings::{Holding, holdings_for};
 pub use judging::Situation;
 pub use locating::Located;
-pub use numbers::{NumberCheck, check_number};
-pub use reading::{Call, TokenCheck, Understood, understand};
-pub use rights::{Holding, holding_for};
+pub use numbers::{NumberCheck, check_digest, check_number};
+pub use reading::{Call, TokenCheck, Understood, caller_of, understand};
 pub use rules::Rule;

@@ -1,19 +1,22 @@
-//! The invocations that a request names, and where they stand.
-ghost use Rattle.std.specs.Prelude.{◌≡◌, ◌++◌, ◌<◌, List, [], IfOk, IfSome, OnOk, length, option_map};
+//! The invocations and the result that a request names, and where they stand.
+ghost use Rattle.std.specs.Prelude.{◌≡◌, ◌++◌, ◌<◌, List, [], None, Some, IfOk, IfSome, MatchOption, OnOk, length, map, option_map};
+ghost use Rattle.std.specs.Option.{option_to_list};
 ghost use Rattle.std.specs.List.{cons_option};
 ghost use Rattle.invocations.specs.declared.invocation.Invocation.{Invocation as InvocationOf};
-ghost use Rattle.request_rules.specs.Named.{all_found, first_place, place_named, places_in, row_at};
+ghost use Rattle.test_results.specs.declared.result.TestResult.{TestResult};
+ghost use Rattle.request_rules.specs.Named.{all_found, first_place, place_held, place_named, place_of_result, places_in, row_at};
 ghost use Rattle.request_rules.specs.Demands.{demand_of};
-ghost use Rattle.request_rules.specs.Locating.{IsActiveFirst, located, place_if};
+ghost use Rattle.request_rules.specs.Locating.{IsActiveFirst, located, place_if, result_if};
 ghost use Rattle.request_rules.specs.Order.{FirstOf};
-ghost use Rattle.request_rules.specs.Broken.{IsMissing};
+ghost use Rattle.request_rules.specs.Broken.{IsAbsent, IsMissing, result_named};
 
 use crate::demand::{Demand, demand_of};
 use invocations::{Invocation, Table};
 use message_forms::Request;
-use names_realms::InvocationId;
+use names_realms::{InvocationId, ResultName};
 use std::alloc::{AllocError, Global};
 use std::marker::Model;
+use test_results::ResultRows;
 
 /// The place of the invocation with this id.
 fn place_of(table: &Table, id: &InvocationId) -> Option<u32>
@@ -28,6 +31,28 @@ fn place_if(table: &Table, id: Option<&InvocationId>) -> Option<u32>
 {
     match id {
         Some(id) => place_of(table, id),
+        None => None,
+    }
+}
+
+/// The place of the result of this name, where this is the place of the invocation that it names.
+fn place_held(results: &ResultRows, name: &ResultName, holder: Option<u32>) -> Option<u32>
+    ensures { result ≡ place_held results.now.rows name.now holder }
+{
+    let _ = results.rows();
+    match holder {
+        Some(holder) => results.find(holder, &name.test, &name.result),
+        None => None,
+    }
+}
+
+/// The place of the result of this name, where one is given.
+fn result_if(table: &Table, results: &ResultRows, name: Option<&ResultName>) -> Option<u32>
+    ensures { result ≡ result_if table.now.rows results.now.rows
+        (option_map (λ given. given.now) name.entry) }
+{
+    match name {
+        Some(name) => place_held(results, name, place_of(table, &name.invocation)),
         None => None,
     }
 }
@@ -80,12 +105,25 @@ fn add_place(places: &mut Vec<u32>, place: Option<u32>) -> Result<(), AllocError
     Ok(())
 }
 
-/// Where the invocations stand that a request names, in order of creation and counted from 0. Each
-/// is looked up once, before the request is judged; one that isn't there has no place.
+/// Those of the places that are there. `Err` where there is no memory for them.
+fn found_in(alloc: Global, places: &[Option<u32>]) -> Result<Vec<u32>, AllocError>
+    ensures { IfOk result (λ found. found.items ≡ all_found places.now) }
+{
+    let mut found = Vec::with_capacity(alloc, places.len())?;
+    for place in places {
+        add_place(&mut found, *place)?;
+    }
+    Ok(found)
+}
+
+/// Where the invocations stand that a request names, in order of creation and counted from 0, and
+/// where the result does, in order of arrival. Each is looked up once, before the request is
+/// judged; one that isn't there has no place.
 #[derive(Drop)]
 pub struct Located {
     pub(crate) named: Vec<Option<u32>>,
     pub(crate) included: Vec<Option<u32>>,
+    pub(crate) row: Option<u32>,
     pub(crate) active: Option<u32>,
     pub(crate) made: Option<u32>,
 }
@@ -98,25 +136,34 @@ impl Model for Located {
     ghost view = { λ l. record {
       named = l.named.items;
       included = l.included.items;
+      row = l.row;
       active = l.active;
       made = l.made;
     } };
 }
 
 impl Located {
-    /// Where the invocations stand that a request names. `Err` where there is no memory for their
-    /// places.
-    pub fn of(alloc: Global, table: &Table, request: &Request) -> Result<Located, AllocError>
-        ensures { IfOk result (λ l. l ≡ located table.now.rows (demand_of request.now)) }
+    /// Where the invocations and the result stand that a request names. `Err` where there is no
+    /// memory for their places.
+    pub fn of(
+        alloc: Global,
+        table: &Table,
+        results: &ResultRows,
+        request: &Request,
+    ) -> Result<Located, AllocError>
+        ensures { IfOk result (λ l.
+            l ≡ located table.now.rows results.now.rows (demand_of request.now)) }
     {
         let demand = demand_of(request);
         let named = places_in(alloc, table, demand.named)?;
         let included = places_in(alloc, table, demand.included)?;
+        let row = result_if(table, results, demand.row);
         let active = active_in(&demand, named.as_slice());
         let made = place_if(table, demand.makes);
         Ok(Located {
             named,
             included,
+            row,
             active,
             made,
         })
@@ -132,15 +179,25 @@ impl Located {
         }
     }
 
+    /// The place of the result that has to be there.
+    pub fn row(&self) -> Option<u32>
+        ensures { result ≡ self.now.row }
+    {
+        self.row
+    }
+
+    /// The places of those that have to be there that are. `Err` where there is no memory for them.
+    pub fn roots(&self, alloc: Global) -> Result<Vec<u32>, AllocError>
+        ensures { IfOk result (λ roots. roots.items ≡ all_found self.now.named) }
+    {
+        found_in(alloc, self.named.as_slice())
+    }
+
     /// The places of those to be included that are there. `Err` where there is no memory for them.
     pub fn targets(&self, alloc: Global) -> Result<Vec<u32>, AllocError>
         ensures { IfOk result (λ targets. targets.items ≡ all_found self.now.included) }
     {
-        let mut targets = Vec::with_capacity(alloc, self.included.len())?;
-        for place in self.included.as_slice() {
-            add_place(&mut targets, *place)?;
-        }
-        Ok(targets)
+        found_in(alloc, self.included.as_slice())
     }
 }
 
@@ -159,7 +216,8 @@ fn first_missing_of<'r>(ids: &'r [InvocationId], places: &[Option<u32>]) -> Opti
 
 /// The first invocation that is named and isn't there.
 pub(crate) fn first_missing<'r>(places: &Located, demand: &Demand<'r>) -> Option<&'r InvocationId>
-    ensures { (rows : List InvocationOf) → places.now ≡ located rows demand.now
+    ensures { (rows : List InvocationOf) (results : List TestResult)
+        → places.now ≡ located rows results demand.now
         → FirstOf (IsMissing rows) (demand.now.named ++ demand.now.included)
         (option_map (λ id. id.now) result) }
 {
@@ -167,4 +225,29 @@ pub(crate) fn first_missing<'r>(places: &Located, demand: &Demand<'r>) -> Option
         return Some(id);
     }
     first_missing_of(demand.included, places.included.as_slice())
+}
+
+/// The name of a result, where it has no place.
+fn unplaced(name: &ResultName, place: Option<u32>) -> Option<&ResultName>
+    ensures { MatchOption place
+        (option_map (λ found. result_named found.now) result ≡ Some (result_named name.now))
+        (λ _. option_map (λ found. result_named found.now) result ≡ None) }
+{
+    match place {
+        Some(_) => None,
+        None => Some(name),
+    }
+}
+
+/// The result that is named and isn't there.
+pub(crate) fn missing_result<'r>(places: &Located, demand: &Demand<'r>) -> Option<&'r ResultName>
+    ensures { (rows : List InvocationOf) (results : List TestResult)
+        → places.now ≡ located rows results demand.now
+        → FirstOf (IsAbsent rows results) (map result_named (option_to_list demand.now.row))
+        (option_map (λ name. result_named name.now) result) }
+{
+    match demand.row {
+        Some(name) => unplaced(name, places.row),
+        None => None,
+    }
 }

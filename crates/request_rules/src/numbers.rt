@@ -1,5 +1,6 @@
 //! The numbers of requests, and whether a request is a repeat.
-ghost use Rattle.std.specs.Prelude.{◌≡◌, ◌≢◌, IfOk, None};
+ghost use Rattle.std.specs.Prelude.{◌≡◌, ◌≢◌, ◌∷◌, ◌++◌, IfOk, None};
+ghost use Rattle.sha2.specs.Sha256.{sha256};
 ghost use Rattle.call_forms.specs.declared.asked.Asked.{Asked};
 ghost use Rattle.request_rules.specs.Demands.{demand_of};
 ghost use Rattle.request_rules.specs.Numbered.{IsNumbered, digest_of};
@@ -27,16 +28,27 @@ pub enum NumberCheck {
 
 /// The digest by which a repeat of a request is known: SHA-256 of its service, method and body,
 /// with a line feed between.
+pub(crate) fn digest_of_texts(service: &[u8], method: &[u8], body: &[u8]) -> [u8; 32]
+    ensures { result ≡ sha256 (service.now ++ (10 ∷ (method.now ++ (10 ∷ body.now)))) }
+{
+    let mut hasher = Sha256::new();
+    hasher.update(service);
+    hasher.update(b"\n");
+    hasher.update(method);
+    hasher.update(b"\n");
+    hasher.update(body);
+    hasher.finalize()
+}
+
+/// The digest by which a repeat of a request is known.
 fn digest_of(asked: &Asked) -> [u8; 32]
     ensures { result ≡ digest_of asked.now }
 {
-    let mut hasher = Sha256::new();
-    hasher.update(asked.service.as_slice());
-    hasher.update(b"\n");
-    hasher.update(asked.method.as_slice());
-    hasher.update(b"\n");
-    hasher.update(asked.body.as_slice());
-    hasher.finalize()
+    digest_of_texts(
+        asked.service.as_slice(),
+        asked.method.as_slice(),
+        asked.body.as_slice(),
+    )
 }
 
 /// The digest of a request of which this is demanded, where it has a number.
@@ -56,8 +68,9 @@ pub(crate) fn digest_for(asked: &Asked, request: &Request) -> Option<[u8; 32]>
     digest_if(asked, &demand_of(request))
 }
 
-/// What the number comes to of a request with this digest.
-fn check_digest(
+/// What the number comes to of a request of a caller of this name, of which this is demanded, and
+/// which has this digest. `Err` where there is no memory to look it up.
+pub fn check_digest(
     alloc: Global,
     kept: &KeptReplies,
     name: &[u8],

@@ -48,7 +48,7 @@ pub enum Understood {
 }
 
 /// The caller who shows the bearer token of a request.
-fn caller_of(policy: &Policy, asked: &Asked) -> Option<CallerId>
+pub fn caller_of(policy: &Policy, asked: &Asked) -> Option<CallerId>
     ensures caller { result ≡ caller_of (record { policy = policy.now }) asked.now.bearer }
     ensures there { IfSome result (λ c. c < length policy.now.users) }
 {

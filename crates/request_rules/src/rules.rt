@@ -8,7 +8,7 @@ ghost use Rattle.request_rules.specs.Broken.{number_of, order};
 pub enum Rule {
     /// No other request of the caller was accepted under the number of the request.
     RequestIdReused,
-    /// Each invocation that is named is there.
+    /// Each invocation that is named is there, and then the result.
     NotFound,
     /// A request that changes an invocation shows an update token.
     NoUpdateToken,

@@ -75,7 +75,7 @@ effect_placed s w moment caller request = placed (recorded w) moment (caller_nam
 
 -- each invocation that it names is there
 pub accepted_found : (s : Settings) (w : ServiceWorld) (moment : ℤ) (asked : Asked) (caller : ℕ) (request : Request)
-    → IsAccepted s w moment asked caller request → IsUnbroken (NotFound w.rows.invocations (demand_of request))
+    → IsAccepted s w moment asked caller request → IsUnbroken (NotFound w.rows.invocations w.results (demand_of request))
 accepted_found s w moment asked caller request h =
     unbroken s w moment asked caller request (record { new = h.new; judged = h.judged }) rule.NotFound not_found_among
 

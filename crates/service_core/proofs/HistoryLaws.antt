@@ -17,7 +17,7 @@ use Rattle.service_effects.specs.Fitting.{IsTimely}
 use Rattle.service_effects.proofs.SoundLaws.{effect_sound}
 use Rattle.service_effects.specs.Service.{AreExonerations, AreResults, IsSound, Recorded, ServiceWorld, recorded}
 use Rattle.service_core.specs.Service.{CarriesDue, CatchesUp, IsValid}
-use Rattle.service_core.specs.History.{Entry, IsTimed, Leads, Tells}
+use Rattle.service_core.specs.History.{DoesNoMore, Entry, IsTimed, Leads, Tells}
 use Rattle.service_core.specs.Laws.{LegalKeepsValid, TimedGoesOn, TimedIsLegal}
 use Rattle.service_core.proofs.KeptLaws.{IsKeptWell, told_well, well_later}
 use Rattle.service_core.proofs.MoveLaws.{IsMoved, Moves, tells_moves}
@@ -82,6 +82,11 @@ caught_well w moment after due well =
     subst (IsKeptWell (recorded after)) (sym due.kept)
     (well_later (recorded w) (recorded after) w.kept (due_lasts (recorded w) moment (recorded after) due.due) well)
 
+no_more_well : (w : ServiceWorld) (moment : ℤ) (after : ServiceWorld) → DoesNoMore w moment after → IsKeptWell (recorded w) w.kept
+    → IsKeptWell (recorded after) after.kept
+no_more_well w moment after (inl same) well = subst (λ (v : ServiceWorld). IsKeptWell (recorded v) v.kept) (sym same) well
+no_more_well w moment after (inr due) well = caught_well w moment after due well
+
 tells_well : (s : Settings) (w : ServiceWorld) (e : Entry) (told : Told) (after : ServiceWorld) → HasNames s → worlds.IsValid w.rows
     → IsCallMoment e.moment → w.rows.last ≤ℤ e.moment → Tells s w e told after → IsKeptWell (recorded w) w.kept
     → IsKeptWell (recorded after) after.kept
@@ -89,10 +94,8 @@ tells_well s w e (Made answer) after names valid call later step well =
     told_well s step.between e.moment e.asked after answer names
     (advanced_timely w.rows step.between.rows e.moment valid call later step.advances.due.rows) step.judged
     (caught_well w e.moment step.between step.advances well)
-tells_well s w e (Instead Memory) after names valid call later (inl same) well =
-    subst (λ (v : ServiceWorld). IsKeptWell (recorded v) v.kept) (sym same) well
-tells_well s w e (Instead Memory) after names valid call later (inr due) well = caught_well w e.moment after due well
-tells_well s w e (Instead Unavailable) after names valid call later never well = absurd never
+tells_well s w e (Instead Memory) after names valid call later no_more well = no_more_well w e.moment after no_more well
+tells_well s w e (Instead Unavailable) after names valid call later told well = no_more_well w e.moment after told.no_more well
 tells_well s w e (Instead Spent) after names valid call later never well = absurd never
 
 leads_sound : (s : Settings) (w : ServiceWorld) (e : Entry) (after : ServiceWorld) → HasNames s → Leads s w e after → IsSound (recorded w)

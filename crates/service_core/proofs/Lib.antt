@@ -13,3 +13,5 @@ pub mod ThereLaws
 pub mod OnceLaws
 pub mod PlanLaws
 pub mod ServeLaws
+pub mod ReplayLaws
+pub mod AgainLaws

@@ -14,7 +14,7 @@ use Rattle.service_effects.specs.Refused.{EffectRefused}
 use Rattle.service_effects.specs.Service.{Recorded, ServiceWorld, recorded}
 use Rattle.service_core.specs.Service.{CarriesDue}
 use Rattle.service_core.specs.Step.{IsTold, effect_for, performed, refused, repeated}
-use Rattle.service_core.specs.History.{Entry, Tells}
+use Rattle.service_core.specs.History.{DoesNoMore, Entry, Tells}
 use Rattle.service_core.proofs.ClearedLaws.{accepted_suits, effect_placed}
 
 -- One effect is done, which suits a world at whose moment nothing is due.
@@ -47,6 +47,11 @@ pub record Moves (s : Settings) (w : Recorded) (moment : ℤ) (after : Recorded)
   pub due : CarriesDue w moment between
   pub moved : IsMoved s between moment after
 
+no_more_moves : (s : Settings) (w : ServiceWorld) (moment : ℤ) (after : ServiceWorld) → DoesNoMore w moment after
+    → (after ≡ w) ⊎ Moves s (recorded w) moment (recorded after)
+no_more_moves s w moment after (inl same) = inl same
+no_more_moves s w moment after (inr due) = inr (record { between = recorded after; due = due.due; moved = inl refl })
+
 pub tells_moves : (s : Settings) (w : ServiceWorld) (e : Entry) (told : Told) (after : ServiceWorld)
     → Tells s w e told after → (after ≡ w) ⊎ Moves s (recorded w) e.moment (recorded after)
 tells_moves s w e (Made answer) after step =
@@ -55,8 +60,6 @@ tells_moves s w e (Made answer) after step =
       due = step.advances.due;
       moved = told_moved s step.between e.moment e.asked after answer step.judged;
     })
-tells_moves s w e (Instead Memory) after (inl same) = inl same
-tells_moves s w e (Instead Memory) after (inr due) =
-    inr (record { between = recorded after; due = due.due; moved = inl refl })
-tells_moves s w e (Instead Unavailable) after never = absurd never
+tells_moves s w e (Instead Memory) after no_more = no_more_moves s w e.moment after no_more
+tells_moves s w e (Instead Unavailable) after told = no_more_moves s w e.moment after told.no_more
 tells_moves s w e (Instead Spent) after never = absurd never

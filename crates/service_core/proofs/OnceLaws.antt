@@ -25,24 +25,25 @@ use Rattle.call_forms.specs.declared.forms.Told.{Told}
 use Rattle.call_forms.specs.declared.forms.Told.TheVariants.{Made, Standin as Instead}
 use Rattle.message_forms.specs.declared.requests.Request.{Request}
 use Rattle.message_forms.specs.declared.requests.Request.TheVariants as asks
-use Rattle.invocation_world.specs.World.{World}
 use Rattle.request_rules.specs.Settings.{Settings, caller_name}
 use Rattle.request_rules.specs.Demands.{Demand, demand_of}
 use Rattle.request_rules.specs.Numbered.{digest_of, kept_for}
-use Rattle.request_rules.specs.Broken.{IsMissing, NotFound, Wants, of_invocation}
+use Rattle.request_rules.specs.Broken.{IsAbsent, NotFound, Sought, Wants, invocation_with, of_invocation, sought}
 use Rattle.request_rules.specs.Named.{place_named}
 use Rattle.request_rules.specs.Order.{FirstOf, IsUnbroken}
 use Rattle.request_rules.proofs.NumberLaws.{found_digest, kept_there}
 use Rattle.request_rules.proofs.ReadLaws.{wanted_alone}
 use Rattle.request_rules.proofs.RuleFacts.{one_caller, one_request}
 use Rattle.service_effects.specs.declared.effect.Effect.{Effect}
-use Rattle.request_effects.specs.declared.shows.Shows.{Shows}
+use Rattle.request_effects.specs.declared.shows.Showing.{Showing}
+use Rattle.request_effects.specs.declared.shows.Showing.TheVariants.{Alike}
+use Rattle.request_effects.specs.Answers.{Answers}
 use Rattle.request_effects.specs.Effects.{effect_of, exonerations_at, results_at}
 use Rattle.request_effects.specs.Laws.{shows_added}
 use Rattle.service_effects.specs.Service.{IsSound, Recorded, ServiceWorld, recorded}
 use Rattle.service_effects.proofs.IdFacts.{id_at}
 use Rattle.request_effects.specs.Keeps.{answer_kept, as_made, kept_answer, kept_of, made_answer, numbered_of, with_kept}
-use Rattle.request_effects.specs.Shows.{answer_of, done, exonerations_reply, exonerations_shown, part_of, results_reply, results_shown, shown_with, shows_exonerations, shows_of, shows_results}
+use Rattle.request_effects.specs.Shows.{done, exonerations_reply, exonerations_shown, part_of, results_reply, results_shown, shown_with, shows_exonerations, shows_of, shows_results}
 use Rattle.message_forms.specs.declared.replies.Reply.TheVariants as reply
 use Rattle.request_rules.specs.Understood.{token_for}
 use Rattle.request_effects.specs.declared.keeping.Numbered.{Numbered}
@@ -50,13 +51,13 @@ use Rattle.request_effects.specs.declared.shows.Shows.TheVariants as shows
 use Rattle.request_effects.proofs.KeepLaws.{kept_is_first}
 use Rattle.service_core.specs.Service.{CatchesUp, StandsIn}
 use Rattle.service_core.specs.Step.{IsRefusal, IsRepeated, IsTold, Performs, effect_for, keep_for, performed, refused, repeated, scene_of}
-use Rattle.service_core.specs.History.{Entry, Tells}
+use Rattle.service_core.specs.History.{DoesNoMore, Entry, Tells}
 use Rattle.service_core.specs.Laws.{FirstIsKept, IsSameInvocation, KeptStays, NumbersActOnce}
 use Rattle.service_core.proofs.ClearedLaws.{accepted_found, accepted_suits, unused}
 use Rattle.service_core.proofs.HistoryLaws.{legal_keeps_valid}
 use Rattle.service_core.proofs.PlanLaws.{length_given}
 use Rattle.service_core.proofs.StayLaws.{AllStay, there_at}
-use Rattle.service_core.proofs.TableLaws.{Grows, Lasts, due_lasts, lasts_both, legal_lasts, part_stays}
+use Rattle.service_core.proofs.TableLaws.{Lasts, due_lasts, lasts_both, legal_lasts, part_stays}
 use Rattle.service_core.proofs.UniqueLaws.{never_repeated}
 
 -- ---- what is kept stays
@@ -73,14 +74,18 @@ told_keeps s w moment asked after answer (performed p) =
     let more = kept_with w.kept (keep_for s w moment asked p.caller p.request) in
     (more.0, p.acts.kept ∙ more.1)
 
+no_more_keeps : (w : ServiceWorld) (moment : ℤ) (after : ServiceWorld) → DoesNoMore w moment after
+    → (more : List KeptReply) × (after.kept ≡ w.kept ++ more)
+no_more_keeps w moment after (inl same) = ([], ap (λ (v : ServiceWorld). v.kept) same ∙ sym (append-nil w.kept))
+no_more_keeps w moment after (inr due) = ([], due.kept ∙ sym (append-nil w.kept))
+
 tells_keeps : (s : Settings) (w : ServiceWorld) (e : Entry) (told : Told) (after : ServiceWorld)
     → Tells s w e told after → (more : List KeptReply) × (after.kept ≡ w.kept ++ more)
 tells_keeps s w e (Made answer) after step =
     let more = told_keeps s step.between e.moment e.asked after answer step.judged in
     (more.0, more.1 ∙ ap (λ (k : List KeptReply). k ++ more.0) step.advances.kept)
-tells_keeps s w e (Instead Memory) after (inl same) = ([], ap (λ (v : ServiceWorld). v.kept) same ∙ sym (append-nil w.kept))
-tells_keeps s w e (Instead Memory) after (inr due) = ([], due.kept ∙ sym (append-nil w.kept))
-tells_keeps s w e (Instead Unavailable) after never = absurd never
+tells_keeps s w e (Instead Memory) after no_more = no_more_keeps w e.moment after no_more
+tells_keeps s w e (Instead Unavailable) after told = no_more_keeps w e.moment after told.no_more
 tells_keeps s w e (Instead Spent) after never = absurd never
 
 pub kept_stays : KeptStays
@@ -230,7 +235,8 @@ tells_again s first w e (Made given) after caller request reply lasts sound stan
     )
 tells_again s first w e (Instead Memory) after caller request reply lasts sound stands nothing wants shows found =
     (nothing, λ answer is same. let no : Instead Memory ≡ Made answer = is in absurd cc)
-tells_again s first w e (Instead Unavailable) after caller request reply lasts sound stands never wants shows found = absurd never
+tells_again s first w e (Instead Unavailable) after caller request reply lasts sound stands told wants shows found =
+    (told.no_more, λ answer is same. let no : Instead Unavailable ≡ Made answer = is in absurd cc)
 tells_again s first w e (Instead Spent) after caller request reply lasts sound stands never wants shows found = absurd never
 
 pub numbers_act_once : NumbersActOnce
@@ -248,46 +254,46 @@ numbers_act_once s w h v e after reply caller request names valid legal leads ke
 -- ---- the first answer is the one that is kept
 
 -- what a request names is there where it breaks no rule
-named_found : (rows : List Invocation) (d : Demand) (id : List ℕ) → IsUnbroken (NotFound rows d) → (d.named ++ d.included) ≡ id ∷ []
-    → place_named rows id ≡ None → ⊥
-named_found rows d id found names missing =
+named_found : (rows : List Invocation) (held : List TestResult) (d : Demand) (id : List ℕ) → IsUnbroken (NotFound rows held d)
+    → sought d ≡ invocation_with id ∷ [] → place_named rows id ≡ None → ⊥
+named_found rows held d id found names missing =
     found (of_invocation 8 id) (record {
-      id = id;
-      first = subst (λ (ids : List (List ℕ)). FirstOf (IsMissing rows) ids (Some id)) (sym names) (inl (missing, refl));
+      what = invocation_with id;
+      first = subst (λ (all : List Sought). FirstOf (IsAbsent rows held) all (Some (invocation_with id))) (sym names) (inl (missing, refl));
       refusal_is = refl;
     })
 
 -- something is kept of an effect, and it is what is shown of it
-abbrev Keeps : Recorded → Effect → Shows → Type 0
-Keeps w effect shown = (answer : KeptAnswer) × (answer_kept w effect ≡ Some answer) × (shown ≡ shows_added w effect)
+abbrev Keeps : Recorded → Effect → Showing → Type 0
+Keeps w effect shown = (answer : KeptAnswer) × (answer_kept w effect ≡ Some answer) × (shown ≡ Alike (shows_added w effect))
 
 results_keep : (w : Recorded) (o : Option ℕ) (rows : List TestResult) → (o ≡ None → ⊥)
-    → Keeps w (results_at o rows) (shows_results w o (length rows))
+    → Keeps w (results_at o rows) (Alike (shows_results w o (length rows)))
 results_keep w None rows found = absurd (found refl)
 results_keep w (Some holder) rows found =
-    (_, refl, ap (shows.Results (length w.results)) (sym (length-map rows (results.with_holder holder))))
+    (_, refl, ap (λ (n : ℕ). Alike (shows.Results (length w.results) n)) (sym (length-map rows (results.with_holder holder))))
 
 exonerations_keep : (w : Recorded) (o : Option ℕ) (rows : List TestExoneration) → (o ≡ None → ⊥)
-    → Keeps w (exonerations_at w.exonerations o rows) (shows_exonerations w o (length rows))
+    → Keeps w (exonerations_at w.exonerations o rows) (Alike (shows_exonerations w o (length rows)))
 exonerations_keep w None rows found = absurd (found refl)
 exonerations_keep w (Some holder) rows found = (
   _,
   refl,
-  ap (shows.Exonerations (length w.exonerations))
+  ap (λ (n : ℕ). Alike (shows.Exonerations (length w.exonerations) n))
       (length_given holder (length (exonerations.places_in w.exonerations holder)) rows),
 )
 
 -- a request that has a number adds something
 numbered_keeps : (w : Recorded) (moment : ℤ) (name number : List ℕ) (request : Request)
-    → IsUnbroken (NotFound w.rows.invocations (demand_of request)) → (demand_of request).number ≡ Some number
+    → IsUnbroken (NotFound w.rows.invocations w.results (demand_of request)) → (demand_of request).number ≡ Some number
     → Keeps w (effect_of w moment name request) (shows_of w request)
 numbered_keeps w moment name number (asks.CreateInvocation q) found e = (_, refl, refl)
 numbered_keeps w moment name number (asks.BatchCreateTestResults q) found e =
     results_keep w (place_named w.rows.invocations q.invocation) q.requests
-    (named_found w.rows.invocations (demand_of (asks.BatchCreateTestResults q)) q.invocation found refl)
+    (named_found w.rows.invocations w.results (demand_of (asks.BatchCreateTestResults q)) q.invocation found refl)
 numbered_keeps w moment name number (asks.BatchCreateTestExonerations q) found e =
     exonerations_keep w (place_named w.rows.invocations q.invocation) q.requests
-    (named_found w.rows.invocations (demand_of (asks.BatchCreateTestExonerations q)) q.invocation found refl)
+    (named_found w.rows.invocations w.results (demand_of (asks.BatchCreateTestExonerations q)) q.invocation found refl)
 numbered_keeps w moment name number _ found e = absurd (none-some number e)
 
 pub first_is_kept : FirstIsKept
@@ -309,5 +315,5 @@ first_is_kept s w moment asked after answer number names timely p e =
       digest = refl;
       again = kept_is_first s (recorded w) (recorded after) moment effect keeps.0 timely
           (accepted_suits s w moment asked p.caller p.request names timely p.accepted) p.acts.made keeps.1
-          ∙ (ap (answer_of (scene_of s after)) (sym keeps.2) ∙ sym p.answer_is);
+          ∙ sym (subst (λ (x : Showing). Answers (scene_of s after) p.caller x answer) keeps.2 p.answers);
     }

@@ -1,7 +1,7 @@
 -- What a call was planned to is what its request comes to.
-use Rattle.std.proofs.Common.{◌≡◌, ◌<◌, ℕ, suc, ℤ, List, [], ◌∷◌, length, Option, Some, None, refl, sym, ap, ◌∙◌, subst, inl, inr}
-use Rattle.std.specs.Prelude.{IfSome, slice_get}
-use Rattle.std.proofs.lemmas.Bool.{cases_Bool, cond-false, cond-true}
+use Rattle.std.proofs.Common.{◌≡◌, ◌<◌, ℕ, suc, ℤ, List, [], ◌∷◌, length, Option, Some, None, refl, sym, ap, ◌∙◌, subst, inl, inr, arith}
+use Rattle.std.specs.Prelude.{◌==◌, ◌≢◌, IfSome, min, slice_get}
+use Rattle.std.proofs.lemmas.Bool.{cases_Bool, cond-false, cond-true, eqb-false}
 use Rattle.std.proofs.lemmas.List.{length-map}
 use Rattle.std.proofs.lemmas.Option.{same_Some}
 use Rattle.names_realms.specs.declared.pairs.Pair.{Pair}
@@ -23,17 +23,22 @@ use Rattle.invocation_world.specs.Changes.{is_update}
 use Rattle.invocation_world.proofs.ValidFacts.{valid_settles}
 use Rattle.request_rules.specs.Demands.{demand_of}
 use Rattle.request_rules.specs.Settings.{Settings, caller_name}
-use Rattle.request_rules.specs.Named.{place_named}
+use Rattle.request_rules.specs.Named.{place_named, place_of_result}
 use Rattle.request_rules.proofs.PlaceLaws.{place-within}
 use Rattle.service_effects.specs.declared.effect.Effect.{Effect}
 use Rattle.service_effects.specs.declared.effect.Effect.TheVariants as does
-use Rattle.request_effects.specs.declared.shows.Shows.{Shows}
+use Rattle.request_effects.specs.declared.shows.Showing.{Showing}
+use Rattle.request_effects.specs.Answers.{Answers, Fits as ShowsFit}
+use Rattle.names_realms.specs.declared.result_names.ResultName.{ResultName}
+use Rattle.query_forms.specs.Sizes.{counted}
+use Rattle.request_effects.proofs.PlaceFacts.{places_within}
+use Rattle.request_rules.proofs.ResultPlaces.{result_stands}
 use Rattle.service_effects.specs.Effects.{Makes}
 use Rattle.request_effects.specs.Effects.{effect_of, end_at, end_of, exonerations_at, results_at, update_at, update_of}
 use Rattle.service_effects.specs.Fitting.{IsTimely}
 use Rattle.request_effects.specs.Foreseen.{IsHere, IsOwn}
 use Rattle.request_effects.specs.Keeps.{kept_of, numbered_of, with_kept}
-use Rattle.request_effects.specs.Shows.{shows_exonerations, shows_of, shows_results, shows_row}
+use Rattle.request_effects.specs.Shows.{shows_exonerations, shows_of, shows_result, shows_results, shows_row}
 use Rattle.service_effects.proofs.EffectLaws.{effects_change}
 use Rattle.service_effects.proofs.RefusedLaws.{unrefused}
 use Rattle.request_effects.proofs.KeepLaws.{nothing_kept}
@@ -46,7 +51,7 @@ use Rattle.service_effects.specs.Service.{Recorded, ServiceWorld, recorded}
 use Rattle.service_effects.specs.States.{recorded_in}
 use Rattle.service_effects.specs.States as tables
 use Rattle.service_effects.specs.declared.tables.Tables.{Tables}
-use Rattle.service_core.specs.Step.{IsTold, Performs, effect_for, keep_for, performed}
+use Rattle.service_core.specs.Step.{IsTold, Performs, effect_for, keep_for, performed, scene_of}
 use Rattle.service_core.proofs.ClearedLaws.{IsCleared, kept_free}
 use Rattle.service_core.proofs.UniqueLaws.{same_parts}
 
@@ -59,7 +64,7 @@ can_keep s core moment asked caller request (Some reply) h is room =
     let free = kept_free s (world_in core) moment asked caller request reply h is in (room, free.0, free.1)
 
 -- nothing is kept of what does nothing
-kept_same : (s : Settings) (w : ServiceWorld) (moment : ℤ) (asked : Asked) (caller : ℕ) (request : Request)
+pub kept_same : (s : Settings) (w : ServiceWorld) (moment : ℤ) (asked : Asked) (caller : ℕ) (request : Request)
     → effect_for s w moment caller request ≡ does.Nothing → w.kept ≡ with_kept w.kept (keep_for s w moment asked caller request)
 kept_same s w moment asked caller request is =
     let name = caller_name s caller in
@@ -87,7 +92,7 @@ comes_prepared s core moment asked caller request (prepared.Answered answer) tim
       request = request;
       accepted = record { new = h.new; judged = h.judged; room = unrefused core.held moment effect comes.0.suits comes.0.room };
       acts = record { made = made; kept = kept_same s (world_in core) moment asked caller request comes.2.0 };
-      answer_is = comes.2.1 w made;
+      answers = comes.2.1 w made;
     }
 comes_prepared s core moment asked caller request (prepared.Change plan) timely h comes =
     let w : Recorded = recorded_in core.held in
@@ -146,7 +151,8 @@ told_of s old mid moment asked p plan result answer after same p_is prepared car
       request = is.request;
       accepted = is.accepted;
       acts = both.0;
-      answer_is = same_Some answer is.answer (sym some ∙ (result_is ∙ is.answer_is)) ∙ both.1;
+      answers = subst (λ (a : Answer). Answers (scene_of s after) is.caller (shows_of (recorded (world_in mid)) is.request) a)
+          (sym (same_Some answer is.answer (sym some ∙ (result_is ∙ is.answer_is)))) both.1;
     } in
     subst (λ (w : ServiceWorld). IsTold s w moment asked after answer) same (performed here)
 
@@ -204,7 +210,23 @@ exonerations_own w (Some holder) rows =
     let before : ℕ = length (exonerations.places_in w.exonerations holder) in
     (exonerations.given holder before rows, refl, (refl, length_given holder before rows))
 
-shown_own : (w : Recorded) (moment : ℤ) (name : List ℕ) (request : Request) → IsOwn w (effect_of w moment name request) (shows_of w request)
+-- a size that counts is one at least
+counted_some : (unsaid most size : ℕ) → 0 < unsaid → 0 < most → 0 < counted unsaid most size
+counted_some unsaid most size some many =
+    elim (cases_Bool (size == 0)) [
+      | inl none ↦ subst (λ (n : ℕ). 0 < n) (sym (cond-true (size == 0) unsaid (min size most) none)) some
+      | inr said ↦
+          let other : size ≢ 0 = eqb-false size 0 said in
+          subst (λ (n : ℕ). 0 < n) (sym (cond-false (size == 0) unsaid (min size most) said)) (omega arith)
+    ]
+
+-- a result that is named is there
+result_fits : (w : Recorded) (name : ResultName) (o : Option ℕ) → place_of_result w.rows.invocations w.results name ≡ o
+    → ShowsFit w does.Nothing (shows_result o)
+result_fits w name None e = tt
+result_fits w name (Some place) e = (refl, result_stands w.rows.invocations w.results name place e)
+
+shown_own : (w : Recorded) (moment : ℤ) (name : List ℕ) (request : Request) → ShowsFit w (effect_of w moment name request) (shows_of w request)
 shown_own w moment name (asks.CreateInvocation q) = refl
 shown_own w moment name (asks.UpdateInvocation q) =
     found_own w (update_at w.rows.invocations q.deadline q.tags) (place_named w.rows.invocations q.id)
@@ -217,10 +239,16 @@ shown_own w moment name (asks.BatchCreateTestResults q) = results_own w (place_n
 shown_own w moment name (asks.BatchCreateTestExonerations q) = exonerations_own w (place_named w.rows.invocations q.invocation) q.requests
 shown_own w moment name (asks.GetInvocation q) =
     found_own w (λ o. does.Nothing) (place_named w.rows.invocations q.id) (λ p at. place-within w.rows.invocations q.id p at)
+shown_own w moment name (asks.GetTestResult q) =
+    result_fits w q.name (place_of_result w.rows.invocations w.results q.name) refl
+shown_own w moment name (asks.QueryTestResults q) =
+    (refl, (places_within w.rows.invocations q.invocations, counted_some 100 1_000 q.page_size (omega arith) (omega arith)))
+shown_own w moment name (asks.QueryTestVariants q) =
+    (refl, (places_within w.rows.invocations q.invocations, counted_some 100 10_000 q.page_size (omega arith) (omega arith)))
 
-pub own_as : (old new : Recorded) (moment : ℤ) (name : List ℕ) (request : Request) (effect : Effect) (shows : Shows) → new ≡ old
-    → effect ≡ effect_of old moment name request → shows ≡ shows_of old request → IsOwn new effect shows
+pub own_as : (old new : Recorded) (moment : ℤ) (name : List ℕ) (request : Request) (effect : Effect) (shows : Showing) → new ≡ old
+    → effect ≡ effect_of old moment name request → shows ≡ shows_of old request → ShowsFit new effect shows
 own_as old new moment name request effect shows same effect_is shows_are =
-    subst (λ (w : Recorded). IsOwn w effect shows) (sym same)
-    (subst (λ (e : Effect). IsOwn old e shows) (sym effect_is)
-    (subst (IsOwn old (effect_of old moment name request)) (sym shows_are) (shown_own old moment name request)))
+    subst (λ (w : Recorded). ShowsFit w effect shows) (sym same)
+    (subst (λ (e : Effect). ShowsFit old e shows) (sym effect_is)
+    (subst (ShowsFit old (effect_of old moment name request)) (sym shows_are) (shown_own old moment name request)))

@@ -1,7 +1,8 @@
 -- Calls that are judged, and due deadlines that are carried out.
-use Rattle.std.proofs.Common.{◌≡◌, ◌≢◌, ℕ, ℤ, ◌≤ℤ◌, List, Option, Some, None, refl, sym, ap, ◌∙◌, subst, inl, inr}
+use Rattle.std.proofs.Common.{◌≡◌, ◌≢◌, ℕ, ℤ, ◌≤ℤ◌, Bool, List, Option, Some, None, refl, sym, ap, ◌∙◌, subst, inl, inr}
 use Rattle.std.specs.Prelude.{slice_get}
 use Rattle.invocations.specs.declared.invocation.Invocation.{Invocation}
+use Rattle.test_results.specs.declared.result.TestResult.{TestResult}
 use Rattle.call_forms.specs.declared.asked.Asked.{Asked}
 use Rattle.call_forms.specs.declared.forms.Answer.{Answer}
 use Rattle.call_forms.specs.declared.forms.Refusal.{Refusal}
@@ -52,14 +53,16 @@ pub caught_up : (old : CoreState) (after : ServiceWorld) (moment : ℤ) → IsVa
 caught_up old after moment valid call later due = advanced_timely old.held.world.world after.rows moment valid call later due.due.rows
 
 -- whatever was found of a call among these rows, which are those of a world
-pub found_there : (s : Settings) (w : ServiceWorld) (moment : ℤ) (rows : List Invocation) (asked : Asked) (call : Call) (ks : List Rule)
-    (found : Option Refusal) → rows ≡ w.rows.invocations → ks ≡ order
-    → Judges (IsBroken (record { settings = s; rows = rows; kept = w.kept; moment = moment; asked = asked; caller = call.caller }) (demand_of call.request)) ks found
+pub found_there : (s : Settings) (w : ServiceWorld) (moment : ℤ) (rows : List Invocation) (held : List TestResult) (asked : Asked) (call : Call)
+    (ks : List Rule) (found : Option Refusal) → rows ≡ w.rows.invocations → held ≡ w.results → ks ≡ order
+    → Judges (IsBroken (record { settings = s; rows = rows; results = held; kept = w.kept; moment = moment; asked = asked; caller = call.caller }) (demand_of call.request)) ks found
     → IsJudgedAs s w moment asked call.caller call.request found
-found_there s w moment rows asked call ks found same all judged =
-    let Found : List Invocation → List Rule → Type 0 =
-    λ rs ls. Judges (IsBroken (record { settings = s; rows = rs; kept = w.kept; moment = moment; asked = asked; caller = call.caller }) (demand_of call.request)) ls found in
-    subst (λ (ls : List Rule). Found w.rows.invocations ls) all (subst (λ (rs : List Invocation). Found rs ks) same judged)
+found_there s w moment rows held asked call ks found same same_held all judged =
+    let Found : List Invocation → List TestResult → List Rule → Type 0 =
+    λ rs hs ls. Judges (IsBroken (record { settings = s; rows = rs; results = hs; kept = w.kept; moment = moment; asked = asked; caller = call.caller }) (demand_of call.request)) ls found in
+    subst (λ (ls : List Rule). Found w.rows.invocations w.results ls) all
+    (subst (λ (hs : List TestResult). Found w.rows.invocations hs ks) same_held
+    (subst (λ (rs : List Invocation). Found rs held ks) same judged))
 
 pub refuses_first : (s : Settings) (w : ServiceWorld) (moment : ℤ) (asked : Asked) (call : Call) (r : Refusal) (answer : Answer)
     → IsNew s w moment asked call.caller call.request → IsJudgedAs s w moment asked call.caller call.request (Some r) → answer ≡ refusal_answer r
@@ -123,25 +126,23 @@ told_after s w between after e due (Instead Unavailable) answered = absurd answe
 told_after s w between after e due (Instead Spent) answered = absurd answered
 
 -- what is answered after what was due is served
-pub serves_after : (s : Settings) (w between after : ServiceWorld) (seat : ℕ) (now moment : ℤ) (asked : Asked) (told : Told)
+pub serves_after : (s : Settings) (w between after : ServiceWorld) (seat : ℕ) (now moment : ℤ) (asked : Asked) (told : Told) (rose : Bool)
     → moment ≡ moment_of w.rows.last now → IsCallMoment moment → w.rows.last ≤ℤ moment → CatchesUp w moment between
-    → IsAnswered s between moment asked told after → Leads s w (entry_at w seat now asked told) after
-serves_after s w between after seat now moment asked told is call later due answered =
-    let e : Entry = entry_at w seat now asked told in
+    → IsAnswered s between moment asked told after → Leads s w (entry_at w seat now asked told rose) after
+serves_after s w between after seat now moment asked told rose is call later due answered =
+    let e : Entry = entry_at w seat now asked told rose in
     record {
       moment = subst IsCallMoment is call;
       later = subst (λ (t : ℤ). w.rows.last ≤ℤ t) is later;
       tells = told_after s w between after e (subst (λ (t : ℤ). CatchesUp w t between) is due) told
           (subst (λ (t : ℤ). IsAnswered s between t asked told after) is answered);
-      still = refl;
     }
 
 -- want of memory leaves the world, and is served
-pub serves_nothing : (s : Settings) (w after : ServiceWorld) (seat : ℕ) (now moment : ℤ) (asked : Asked) → moment ≡ moment_of w.rows.last now
-    → IsCallMoment moment → w.rows.last ≤ℤ moment → after ≡ w → Leads s w (entry_at w seat now asked (Instead Memory)) after
-serves_nothing s w after seat now moment asked is call later same = record {
+pub serves_nothing : (s : Settings) (w after : ServiceWorld) (seat : ℕ) (now moment : ℤ) (asked : Asked) (rose : Bool) → moment ≡ moment_of w.rows.last now
+    → IsCallMoment moment → w.rows.last ≤ℤ moment → after ≡ w → Leads s w (entry_at w seat now asked (Instead Memory) rose) after
+serves_nothing s w after seat now moment asked rose is call later same = record {
   moment = subst IsCallMoment is call;
   later = subst (λ (t : ℤ). w.rows.last ≤ℤ t) is later;
   tells = inl same;
-  still = refl;
 }

@@ -15,7 +15,8 @@ use Rattle.service_effects.specs.Effects.{exonerations_after, results_after, wit
 use Rattle.service_effects.specs.Refused.{EffectRefused}
 use Rattle.service_effects.specs.Service.{ServiceWorld, recorded}
 use Rattle.request_effects.specs.Keeps.{kept_answer, with_kept}
-use Rattle.request_effects.specs.Shows.{answer_of, shows_of}
+use Rattle.request_effects.specs.Shows.{shows_of}
+use Rattle.request_effects.proofs.AnswerLaws.{answer_there}
 use Rattle.service_effects.proofs.RefusedLaws.{refused_or_not}
 use Rattle.service_core.specs.Service.{CatchesUp}
 use Rattle.service_core.specs.Step.{IsJudgedAs, IsNew, IsRefusal, IsRepeated, effect_for, keep_for, performed, refused, repeated, scene_of}
@@ -68,9 +69,10 @@ performed_there s w moment asked between caller request advances new judged room
       exonerations = exonerations_after effect between.exonerations;
       kept = with_kept between.kept (keep_for s between moment asked caller request);
     } in
+    let shown = answer_there (scene_of s after) caller (shows_of (recorded between) request) in
     record {
       after = after;
-      answer = answer_of (scene_of s after) (shows_of (recorded between) request);
+      answer = shown.0;
       step = record {
         between = between;
         advances = advances;
@@ -79,7 +81,7 @@ performed_there s w moment asked between caller request advances new judged room
           request = request;
           accepted = record { new = new; judged = judged; room = room };
           acts = record { made = record { rows = settled.1; results = refl; exonerations = refl }; kept = refl };
-          answer_is = refl;
+          answers = shown.1;
         });
       };
     }

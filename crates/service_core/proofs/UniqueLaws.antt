@@ -18,7 +18,9 @@ use Rattle.request_rules.proofs.ReadLaws.{wanted_alone}
 use Rattle.request_rules.proofs.RuleFacts.{one_broken, one_caller, one_refused_alone, one_request}
 use Rattle.service_effects.specs.Effects.{with_effect}
 use Rattle.request_effects.specs.Keeps.{kept_answer}
-use Rattle.request_effects.specs.Shows.{answer_of, shows_of}
+use Rattle.request_effects.specs.Answers.{Answers}
+use Rattle.request_effects.specs.Shows.{shows_of}
+use Rattle.request_effects.proofs.AnswerLaws.{one_answer}
 use Rattle.service_effects.proofs.EffectLaws.{one_settling}
 use Rattle.service_effects.proofs.RefusedLaws.{one_refusal as one_of_effect}
 use Rattle.service_effects.specs.Service.{ServiceWorld, recorded}
@@ -128,8 +130,11 @@ one_performed s w moment asked v r x q this that =
     let same : v ≡ x = same_parts v x rows (acts.made.results ∙ sym that.acts.made.results)
     (acts.made.exonerations ∙ sym that.acts.made.exonerations) (acts.kept ∙ sym that.acts.kept) in (
       same,
-      this.answer_is ∙ (ap (λ (p : Request). answer_of (scene_of s v) (shows_of (recorded w) p)) request
-          ∙ (ap (λ (u : ServiceWorld). answer_of (scene_of s u) (shows_of (recorded w) that.request)) same ∙ sym that.answer_is)),
+      one_answer (scene_of s x) that.caller (shows_of (recorded w) that.request) r q
+          (subst (λ (c : ℕ). Answers (scene_of s x) c (shows_of (recorded w) that.request) r) caller
+          (subst (λ (p : Request). Answers (scene_of s x) this.caller (shows_of (recorded w) p) r) request
+          (subst (λ (u : ServiceWorld). Answers (scene_of s u) this.caller (shows_of (recorded w) this.request) r) same this.answers)))
+          that.answers,
     )
 
 one_told_case : (s : Settings) (w : ServiceWorld) (moment : ℤ) (asked : Asked) (v : ServiceWorld) (r : Answer) (x : ServiceWorld) (q : Answer)
@@ -150,7 +155,7 @@ one_told_case s w moment asked v r x q (performed this) (repeated that) =
     absurd (never_repeated s w moment asked this.caller that.caller this.request that.request that.reply this.accepted.new that.wants that.repeated)
 one_told_case s w moment asked v r x q (performed this) (performed that) = one_performed s w moment asked v r x q this that
 
-one_between : (w : ServiceWorld) (moment : ℤ) (v x : ServiceWorld) → CatchesUp w moment v → CatchesUp w moment x → v ≡ x
+pub one_between : (w : ServiceWorld) (moment : ℤ) (v x : ServiceWorld) → CatchesUp w moment v → CatchesUp w moment x → v ≡ x
 one_between w moment v x this that =
     same_parts v x (advanced_once moment w.rows v.rows x.rows this.due.rows that.due.rows) (this.due.results ∙ sym that.due.results)
     (this.due.exonerations ∙ sym that.due.exonerations) (this.kept ∙ sym that.kept)

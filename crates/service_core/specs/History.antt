@@ -1,11 +1,13 @@
 -- Histories: what was asked and told, one call after the other.
-use Rattle.std.specs.Prelude.{◌≡◌, ◌⊎◌, ℕ, ℤ, ◌≤ℤ◌, Bool, false, List, [], ◌∷◌}
+use Rattle.std.specs.Prelude.{◌≡◌, ◌≢◌, ◌⊎◌, ℕ, ℤ, ◌≤ℤ◌, Bool, true, List, [], ◌∷◌}
 use Rattle.request_rules.specs.Settings.{Settings}
 use Rattle.call_forms.specs.declared.asked.Asked.{Asked}
+use Rattle.call_forms.specs.declared.forms.Answer.{Answer}
 use Rattle.call_forms.specs.declared.forms.Standin.TheVariants.{Unavailable, Memory, Spent}
 use Rattle.call_forms.specs.declared.forms.Told.{Told}
 use Rattle.call_forms.specs.declared.forms.Told.TheVariants.{Made, Standin as Instead}
 use Rattle.invocation_world.specs.World.{IsCallMoment}
+use Rattle.invocation_world.specs.Advancing.{IsDueAt}
 use Rattle.service_effects.specs.Service.{ServiceWorld}
 use Rattle.service_core.specs.Service.{CatchesUp}
 use Rattle.service_core.specs.Step.{Step, moment_of}
@@ -19,33 +21,57 @@ pub record Entry : Type 0 where
   pub told : Told
   pub rose : Bool
 
+-- A call may do no more than carry out what is due.
+abbrev pub DoesNoMore : ServiceWorld → ℤ → ServiceWorld → Type 0
+DoesNoMore w moment after = (after ≡ w) ⊎ CatchesUp w moment after
+
+-- One step of the service for a request leads to another world.
+pub record Changes (s : Settings) (w : ServiceWorld) (moment : ℤ) (asked : Asked) : Type 0 where
+  pub after : ServiceWorld
+  pub answer : Answer
+  pub step : Step s w moment asked after answer
+  pub other : after ≢ w
+
+-- There is something to record of a request: a deadline is due at its moment, or its step leads to
+-- another world.
+abbrev pub TakesRecord : Settings → ServiceWorld → ℤ → Asked → Type 0
+TakesRecord s w moment asked = IsDueAt w.rows moment ⊎ Changes s w moment asked
+
+-- The disk failed in the call of an entry, of which there is something to record.
+pub record IsUnavailable (s : Settings) (w : ServiceWorld) (e : Entry) (after : ServiceWorld)
+    : Type 0 where
+  pub failed : e.rose ≡ true
+  pub takes_record : TakesRecord s w e.moment e.asked
+  pub no_more : DoesNoMore w e.moment after
+
 -- What the call of an entry may be told, and the world after it. Want of memory changes nothing but
--- due deadlines. As there is no disk and no turn to wait for, no call is told Unavailable or Spent.
+-- due deadlines, and so does a failure of the disk, which is told only where there is something to
+-- record. As there is no turn to wait for, no call is told Spent.
 abbrev pub Tells : Settings → ServiceWorld → Entry → Told → ServiceWorld → Type 0
 Tells s w e (Made answer) after = Step s w e.moment e.asked after answer
-Tells s w e (Instead Memory) after = (after ≡ w) ⊎ CatchesUp w e.moment after
-Tells s w e (Instead Unavailable) after = ⊥
+Tells s w e (Instead Memory) after = DoesNoMore w e.moment after
+Tells s w e (Instead Unavailable) after = IsUnavailable s w e after
 Tells s w e (Instead Spent) after = ⊥
 
--- The entry leads from the world w to the world after. There is no disk whose count could rise.
+-- The entry leads from the world w to the world after.
 pub record Leads (s : Settings) (w : ServiceWorld) (e : Entry) (after : ServiceWorld) : Type 0 where
   pub moment : IsCallMoment e.moment
   pub later : w.rows.last ≤ℤ e.moment
   pub tells : Tells s w e e.told after
-  pub still : e.rose ≡ false
 
--- One call of a seat, at the moment that this answer of a clock makes of the world.
-abbrev pub entry_at : ServiceWorld → ℕ → ℤ → Asked → Told → Entry
-entry_at w seat now asked told = record {
+-- One call of a seat, at the moment that this answer of a clock makes of the world, and whether the
+-- count of faults of the disk rose in it.
+abbrev pub entry_at : ServiceWorld → ℕ → ℤ → Asked → Told → Bool → Entry
+entry_at w seat now asked told rose = record {
   seat = seat;
   moment = moment_of w.rows.last now;
   asked = asked;
   told = told;
-  rose = false;
+  rose = rose;
 }
 
-abbrev pub Serves : Settings → ServiceWorld → ℕ → ℤ → Asked → Told → ServiceWorld → Type 0
-Serves s w seat now asked told after = Leads s w (entry_at w seat now asked told) after
+abbrev pub Serves : Settings → ServiceWorld → ℕ → ℤ → Asked → Told → Bool → ServiceWorld → Type 0
+Serves s w seat now asked told rose after = Leads s w (entry_at w seat now asked told rose) after
 
 -- Each entry leads from the world that the one before it left.
 abbrev pub IsLegal : Settings → ServiceWorld → List Entry → ServiceWorld → Type 0

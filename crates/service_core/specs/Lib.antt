@@ -7,3 +7,6 @@ pub mod Finality
 pub mod Laws
 pub mod Judged
 pub mod Planning
+pub mod Replay
+pub mod Replaying
+pub mod Counting

@@ -9,12 +9,13 @@ use Rattle.message_forms.specs.declared.requests.Request.{Request}
 use Rattle.request_rules.specs.Settings.{Settings}
 use Rattle.service_effects.specs.declared.effect.Change.{Change}
 use Rattle.service_effects.specs.declared.effect.Effect.TheVariants as does
-use Rattle.request_effects.specs.declared.shows.Shows.{Shows}
+use Rattle.request_effects.specs.declared.shows.Showing.{Showing}
 use Rattle.service_effects.specs.Effects.{Makes}
 use Rattle.service_effects.specs.Fitting.{Fits}
 use Rattle.service_effects.specs.Refused.{EffectRefused}
 use Rattle.service_effects.specs.Service.{Recorded}
-use Rattle.request_effects.specs.Shows.{answer_of, shows_of}
+use Rattle.request_effects.specs.Answers.{Answers}
+use Rattle.request_effects.specs.Shows.{shows_of}
 use Rattle.service_effects.specs.States.{recorded_in}
 use Rattle.service_core.specs.declared.plan.Prepared.{Prepared}
 use Rattle.service_core.specs.declared.plan.Prepared.TheVariants as prepared
@@ -22,11 +23,11 @@ use Rattle.service_core.specs.declared.plan.Work.TheVariants as work
 use Rattle.service_core.specs.CoreState.{CoreState, PlanState, world_in}
 use Rattle.service_core.specs.Step.{effect_for, keep_for}
 
--- the answer shows this of what a change leaves
-abbrev pub Answers : Settings → Recorded → Change → Shows → Answer → Type 0
-Answers s w change shows answer =
+-- the answer shows this to a caller, of what a change leaves
+abbrev pub Foretells : Settings → ℕ → Recorded → Change → Showing → Answer → Type 0
+Foretells s caller w change shows answer =
     (after : Recorded) → Makes change.moment change.effect w after
-    → answer ≡ answer_of (record { settings = s; world = after }) shows
+    → Answers (record { settings = s; world = after }) caller shows answer
 
 -- What is done and kept of a request.
 pub record Deed : Type 0 where
@@ -43,16 +44,16 @@ plan_of deed answer core = record {
 }
 
 -- A change that does nothing is answered; another one is planned, with its answer.
-abbrev pub IsShown : Settings → CoreState → Deed → Shows → Prepared → Type 0
-IsShown s core deed shows (prepared.Refused answer) = ⊥
-IsShown s core deed shows (prepared.Repeated answer) = ⊥
-IsShown s core deed shows (prepared.Answered answer) =
+abbrev pub IsShown : Settings → ℕ → CoreState → Deed → Showing → Prepared → Type 0
+IsShown s caller core deed shows (prepared.Refused answer) = ⊥
+IsShown s caller core deed shows (prepared.Repeated answer) = ⊥
+IsShown s caller core deed shows (prepared.Answered answer) =
     (deed.change.effect ≡ does.Nothing)
-    × Answers s (recorded_in core.held) deed.change shows answer
-IsShown s core deed shows (prepared.Change plan) =
+    × Foretells s caller (recorded_in core.held) deed.change shows answer
+IsShown s caller core deed shows (prepared.Change plan) =
     (deed.change.effect ≢ does.Nothing)
     × ((answer : Answer) × (plan ≡ plan_of deed answer core)
-    × Answers s (recorded_in core.held) deed.change shows answer)
+    × Foretells s caller (recorded_in core.held) deed.change shows answer)
 
 -- what is done and kept of a caller's request at a moment
 abbrev pub deed_for : Settings → CoreState → ℤ → Asked → ℕ → Request → Deed
@@ -70,7 +71,7 @@ IsReady s core moment asked caller request p =
     Fits core.held moment (effect_for s (world_in core) moment caller request)
     × IfSome (keep_for s (world_in core) moment asked caller request)
     (λ reply. 0 < core.keeps.room)
-    × IsShown s core (deed_for s core moment asked caller request)
+    × IsShown s caller core (deed_for s core moment asked caller request)
     (shows_of (recorded_in core.held) request) p
 
 -- The request is refused for what it does; or there is room, and what it does is shown.

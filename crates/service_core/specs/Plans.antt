@@ -12,7 +12,8 @@ use Rattle.service_effects.specs.Effects.{Makes}
 use Rattle.service_effects.specs.Fitting as effects
 use Rattle.request_effects.specs.Keeps.{with_kept}
 use Rattle.service_effects.specs.Service.{Recorded, ServiceWorld, recorded}
-use Rattle.request_effects.specs.Shows.{answer_of, shows_of}
+use Rattle.request_effects.specs.Answers.{Answers}
+use Rattle.request_effects.specs.Shows.{shows_of}
 use Rattle.service_core.specs.declared.plan.Work.{Work}
 use Rattle.service_core.specs.declared.plan.Work.TheVariants.{Tick, Change}
 use Rattle.service_core.specs.declared.plan.Prepared.{Prepared}
@@ -60,7 +61,7 @@ pub record IsPlanOf (s : Settings) (w : ServiceWorld) (moment : ℤ) (asked : As
   pub answer_is : plan.answer ≡ Some answer
   pub acts : (after : ServiceWorld) → Carries w plan after
       → Acts s w moment asked caller request after
-      × (answer ≡ answer_of (scene_of s after) (shows_of (recorded w) request))
+      × Answers (scene_of s after) caller (shows_of (recorded w) request) answer
   pub changes : (after : ServiceWorld) → Carries w plan after → after ≢ w
 
 -- A request is refused by the answer of the rule that it breaks; or it is a repeat, and this is the

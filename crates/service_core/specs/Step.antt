@@ -18,7 +18,8 @@ use Rattle.request_effects.specs.Effects.{effect_of}
 use Rattle.request_effects.specs.Keeps.{kept_answer, kept_of, numbered_of, with_kept}
 use Rattle.service_effects.specs.Refused.{EffectRefused}
 use Rattle.service_effects.specs.Service.{ServiceWorld, recorded}
-use Rattle.request_effects.specs.Shows.{Scene, answer_of, shows_of}
+use Rattle.request_effects.specs.Answers.{Answers}
+use Rattle.request_effects.specs.Shows.{Scene, shows_of}
 use Rattle.service_core.specs.Service.{CatchesUp}
 
 -- The moment of a call: what the clock says, brought into 1970-01-01T00:00:00Z to
@@ -31,6 +32,7 @@ abbrev pub case_in : Settings → ServiceWorld → ℤ → Asked → ℕ → Cas
 case_in s w moment asked caller = record {
   settings = s;
   rows = w.rows.invocations;
+  results = w.results;
   kept = w.kept;
   moment = moment;
   asked = asked;
@@ -126,16 +128,15 @@ pub record Repeats (s : Settings) (w : ServiceWorld) (moment : ℤ) (asked : Ask
   pub same : after ≡ w
   pub answer_is : answer ≡ kept_answer (scene_of s w) reply.answer
 
--- An accepted request is acted on, and answered: what it shows is shown of the world that it
--- leaves.
+-- An accepted request is acted on, and answered: what it shows is shown to its caller, of the world
+-- that it leaves.
 pub record Performs (s : Settings) (w : ServiceWorld) (moment : ℤ) (asked : Asked)
     (after : ServiceWorld) (answer : Answer) : Type 0 where
   pub caller : ℕ
   pub request : Request
   pub accepted : IsAccepted s w moment asked caller request
   pub acts : Acts s w moment asked caller request after
-  pub answer_is : answer ≡ answer_of (scene_of s after)
-      (shows_of (recorded w) request)
+  pub answers : Answers (scene_of s after) caller (shows_of (recorded w) request) answer
 
 -- The three cases of a request at a moment at which nothing is due.
 pub data IsTold (s : Settings) (w : ServiceWorld) (moment : ℤ) (asked : Asked)

@@ -1,5 +1,6 @@
 //! Laws of steps and histories. These functions do nothing: what each of them ensures is the law.
 ghost use Rattle.service_core.specs.Laws.{ExonerationsStay, FinalInTime, FinalStays, FirstIsKept, HasSteps, KeptStays, LegalKeepsValid, NumbersActOnce, ResultsStay, RowsStay, ShownIsNamed, StepsAreUnique, TimedGoesOn, TimedIsLegal};
+ghost use Rattle.service_core.specs.Replay.{RecordedIsReplayed, ReplaysAreUnique, TickIsReplayed};
 
 /// Each request at a moment leads from each world to some world, with some answer.
 pub fn a_step_is_there()
@@ -73,4 +74,19 @@ pub fn timed_is_legal()
 /// A history goes on by one call, at the moment that one more answer of the clock makes.
 pub fn timed_goes_on()
     ensures { TimedGoesOn }
+{}
+
+/// A command leads from a world to one world alone.
+pub fn one_replay()
+    ensures { ReplaysAreUnique }
+{}
+
+/// The world to which an accepted request led is the one to which its command leads.
+pub fn recorded_is_replayed()
+    ensures { RecordedIsReplayed }
+{}
+
+/// So is the world to which due deadlines led, with a tick.
+pub fn tick_is_replayed()
+    ensures { TickIsReplayed }
 {}

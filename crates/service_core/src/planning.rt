@@ -6,9 +6,10 @@ ghost use Rattle.request_rules.specs.Locating.{located};
 ghost use Rattle.request_rules.specs.Settings.{caller_name};
 ghost use Rattle.request_rules.specs.Understood.{IsDigested};
 ghost use Rattle.service_effects.specs.Fitting.{Fits, HasRoom, IsTimely};
-ghost use Rattle.request_effects.specs.Foreseen.{IsOwn};
+ghost use Rattle.request_effects.specs.Answers.{Fits as ShowsFit};
 ghost use Rattle.request_effects.specs.Keeps.{kept_of};
 ghost use Rattle.request_effects.specs.Planned.{IsSafe};
+ghost use Rattle.request_effects.specs.Shows.{shows_of};
 ghost use Rattle.service_effects.specs.States.{recorded_in};
 ghost use Rattle.service_core.specs.CoreState.{IsRoomier};
 ghost use Rattle.service_core.specs.Planning.{ComesTo, IsShown};
@@ -18,17 +19,25 @@ use crate::serving::Core;
 use kept_replies::Ready;
 use names_realms::Moment;
 use permissions::Policy;
+use query_pages::Asker;
 use request_effects::{
-    Context, Numbered, Shows, keep_of, numbered_of, plan_change, show, shows_of,
+    Context, Numbered, Showing, keep_of, numbered_of, plan_change, show, shows_of,
 };
 use request_rules::{Call, Located};
 use service_effects::{Change, Effect, Planned};
 use std::alloc::{AllocError, Global};
 
+/// What was found of a call that is to be planned: where what it names stands, and what it shows.
+#[derive(Clone, Copy)]
+struct Found<'r> {
+    places: &'r Located,
+    shows: &'r Showing,
+}
+
 impl Core {
     /// What is to be kept of a request of a caller of this name that has this effect, for which
     /// there is room, with all room that it takes. `Err` where there is no memory.
-    fn ready(
+    pub(crate) fn ready(
         &mut self,
         alloc: Global,
         name: &[u8],
@@ -48,27 +57,70 @@ impl Core {
         Ok(Some(self.kept.prepare(alloc, reply)?))
     }
 
-    /// The answer that shows what a change will leave, with the change, where it is one.
+    /// The answer that shows to a caller what a change will leave, with the change, where it is
+    /// one.
     fn with_answer(
         &mut self,
         alloc: Global,
-        policy: &Policy,
+        asker: &Asker,
         change: Change,
         keep: Option<Ready>,
-        shows: Shows,
+        shows: &Showing,
     ) -> Result<Prepared, AllocError>
+        requires there { asker.now.caller < length asker.now.policy.now.users }
         requires fits { Fits self.old.held change.moment change.effect }
-        requires own { IsOwn (recorded_in self.old.held) change.effect shows }
+        requires own { ShowsFit (recorded_in self.old.held) change.effect shows.now }
         ensures roomier { IsRoomier self.old self.new }
-        ensures shown { IfOk result (IsShown (record { policy = policy.now }) self.old
-            (record { change = change; keep = keep }) shows) }
+        ensures shown { IfOk result (IsShown (record { policy = asker.now.policy.now })
+            asker.now.caller self.old (record { change = change; keep = keep }) shows.now) }
     {
-        let answer = show(alloc, &mut self.tables, policy, &change, shows)?;
+        let answer = show(alloc, &mut self.tables, asker, &change, shows)?;
         if change.effect.is_nothing() {
             return Ok(Prepared::Answered(answer));
         }
         let work = Work::Change(change);
         Ok(Prepared::Change(Plan::new(work, keep, Some(answer), self.changes)))
+    }
+
+    /// What a call comes to of which this was found. `Err` where there is no memory.
+    fn plan_found(
+        &mut self,
+        alloc: Global,
+        policy: &Policy,
+        moment: Moment,
+        call: Call,
+        found: &Found,
+    ) -> Result<Prepared, AllocError>
+        requires there { call.caller < length policy.now.users }
+        requires places { found.now.places.now
+            ≡ located self.old.held.world.world.invocations self.old.held.results.rows
+            (demand_of call.request) }
+        requires shows { found.now.shows.now ≡ shows_of (recorded_in self.old.held) call.request }
+        requires timely { IsTimely self.old.held.world.world moment }
+        requires safe { IsSafe self.old.held.world.world moment
+            (caller_name (record { policy = policy.now }) call.caller) call.request }
+        ensures roomier { IsRoomier self.old self.new }
+        ensures comes { (asked : Asked) → IsDigested asked (demand_of call.request) call.digest
+            → IfOk result (ComesTo (record { policy = policy.now }) self.new moment asked
+            call.caller call.request) }
+    {
+        let numbered = numbered_of(alloc, &call)?;
+        let caller = call.caller;
+        let name = policy.name_of(caller);
+        let context = Context {
+            moment,
+            name,
+            located: found.places,
+        };
+        match plan_change(alloc, &mut self.tables, &context, call.request)? {
+            Planned::Refused(fault) => Ok(Prepared::Refused(fault.answer(alloc)?)),
+            Planned::Ready(effect) => {
+                let keep = self.ready(alloc, name, numbered, &effect)?;
+                let change = Change { moment, effect };
+                let asker = Asker { policy, caller };
+                self.with_answer(alloc, &asker, change, keep, found.shows)
+            }
+        }
     }
 
     /// What a call comes to that breaks no rule for what is demanded, where the invocations that it
@@ -83,7 +135,8 @@ impl Core {
     ) -> Result<Prepared, AllocError>
         requires there { call.caller < length policy.now.users }
         requires places { places.now
-            ≡ located self.old.held.world.world.invocations (demand_of call.request) }
+            ≡ located self.old.held.world.world.invocations self.old.held.results.rows
+            (demand_of call.request) }
         requires timely { IsTimely self.old.held.world.world moment }
         requires safe { IsSafe self.old.held.world.world moment
             (caller_name (record { policy = policy.now }) call.caller) call.request }
@@ -92,21 +145,11 @@ impl Core {
             → IfOk result (ComesTo (record { policy = policy.now }) self.new moment asked
             call.caller call.request) }
     {
-        let shows = shows_of(&self.tables, places, &call.request);
-        let numbered = numbered_of(alloc, &call)?;
-        let name = policy.name_of(call.caller);
-        let context = Context {
-            moment,
-            name,
-            located: places,
+        let shows = shows_of(alloc, &self.tables, places, &call.request)?;
+        let found = Found {
+            places,
+            shows: &shows,
         };
-        match plan_change(alloc, &mut self.tables, &context, call.request)? {
-            Planned::Refused(fault) => Ok(Prepared::Refused(fault.answer(alloc)?)),
-            Planned::Ready(effect) => {
-                let keep = self.ready(alloc, name, numbered, &effect)?;
-                let change = Change { moment, effect };
-                self.with_answer(alloc, policy, change, keep, shows)
-            }
-        }
+        self.plan_found(alloc, policy, moment, call, &found)
     }
 }

@@ -1,5 +1,5 @@
 //! The core: the world in memory, and its steps.
-ghost use Rattle.std.specs.Prelude.{◌≡◌, ◌≢◌, ℕ, ◌≤ℤ◌, ◌<◌, pos, IfOk, MatchBool, None, Some, OnErr, OnOk, length, slice_get};
+ghost use Rattle.std.specs.Prelude.{◌≡◌, ◌≢◌, ℕ, ◌≤ℤ◌, ◌<◌, Bool, pos, IfOk, MatchBool, None, Some, OnErr, OnOk, length, slice_get};
 ghost use Rattle.std.specs.Int.{int_min, int_max};
 ghost use Rattle.kept_replies.specs.declared.reply.KeptReply.{KeptReply};
 ghost use Rattle.invocation_world.specs.World.{IsCallMoment, IsValid, latest_call};
@@ -29,7 +29,7 @@ use names_realms::Moment;
 use permissions::Policy;
 use request_effects::show_kept;
 use request_rules::{
-    Call, Located, NumberCheck, Rule, Situation, Understood, check_number, holding_for,
+    Call, Located, NumberCheck, Rule, Situation, Understood, check_number, holdings_for,
 };
 use service_effects::{Tables, carry_out};
 use std::alloc::{AllocError, Global};
@@ -132,7 +132,8 @@ impl Core {
     ) -> Result<Option<Answer>, AllocError>
         requires there { call.now.caller < length policy.now.users }
         requires places { found.now.places.now
-            ≡ located self.now.held.world.world.invocations (demand_of call.now.request) }
+            ≡ located self.now.held.world.world.invocations self.now.held.results.rows
+            (demand_of call.now.request) }
         ensures valid { IfOk result (λ _. IsValid self.now.held.world.world) }
         ensures told { (asked : Asked) → IsCallOf (record { policy = policy.now }) asked call.now
             → IsNumbered self.now.keeps.kept
@@ -141,12 +142,13 @@ impl Core {
             → IfOk result (TellsRefusal (record { policy = policy.now }) (world_in self.now) moment
             asked call.now) }
     {
-        let holding = holding_for(alloc, policy, call)?;
+        let holdings = holdings_for(alloc, policy, call)?;
         let situation = Situation {
             policy,
             table: self.tables.world.table(),
+            results: &self.tables.results,
             moment,
-            holding: &holding,
+            holdings: holdings.as_slice(),
             located: found.places,
             number: found.number,
         };
@@ -200,7 +202,8 @@ impl Core {
             → IfOk result (IsPrepared (record { policy = policy.now }) self.new moment asked) }
     {
         let _ = policy.tables();
-        let places = Located::of(alloc, self.tables.world.table(), &call.request)?;
+        let table = self.tables.world.table();
+        let places = Located::of(alloc, table, &self.tables.results, &call.request)?;
         let found = LookedUp {
             places: &places,
             number,
@@ -382,9 +385,9 @@ impl Core {
     ) -> Told
         requires { (asked : Asked)
             × IfOk understood (IsUnderstood (record { policy = policy.now }) asked) }
-        ensures { (seat : ℕ) (asked : Asked)
+        ensures { (seat : ℕ) (asked : Asked) (rose : Bool)
             → IfOk understood (IsUnderstood (record { policy = policy.now }) asked)
-            → Serves (record { policy = policy.now }) (world_in self.old) seat now asked result
+            → Serves (record { policy = policy.now }) (world_in self.old) seat now asked result rose
             (world_in self.new) }
     {
         let moment = self.moment_of(now);

@@ -232,7 +232,7 @@ same_recorded v w rows results exonerations =
     ap (λ (a : World). Of a v.results v.exonerations) rows
     ∙ (ap (λ (b : List TestResult). Of w.rows b v.exonerations) results ∙ ap (Of w.rows w.results) exonerations)
 
-all_stays_same : (w after : Recorded) (moment : ℤ) (effect : Effect) → IsTimely w.rows moment → Makes moment effect w after
+pub all_stays_same : (w after : Recorded) (moment : ℤ) (effect : Effect) → IsTimely w.rows moment → Makes moment effect w after
     → effect ≡ does.Nothing → after ≡ w
 all_stays_same w after moment effect timely makes is =
     same_recorded after w (stays_same w.rows after.rows moment effect timely makes.rows is)

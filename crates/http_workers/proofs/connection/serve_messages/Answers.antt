@@ -1,7 +1,11 @@
 use Rattle.std.proofs.Common.{◌≡◌, false, sym, ◌∙◌}
 use Rattle.http_wire.specs.Stream.{closes}
-use Rattle.http_workers.proofs.Serving.{answered, goes_on, breaks_off, ended, finished, closed, not_last, reading_to, answers_from, closes_from, stands_more}
+use Rattle.http_workers.proofs.Serving.{answered, goes_on, breaks_off, ended, finished, closed, not_last, reading_to, answers_from, closes_from, stands_more, stands_on}
 use Rattle.http_workers.proofs.connection.serve_messages.Goals as goal
+
+pub answer_message-requires : goal.answer_message-requires
+answer_message-requires g c =
+    stands_on g.T.Teller.stands c.args.teller.now c.messages.teller _ c.requires.stands c.messages.invariant.serving.told
 
 pub returns-in-Err-answer_message-clause-connection : goal.returns-in-Err-answer_message-clause-connection
 returns-in-Err-answer_message-clause-connection g c =

@@ -1,34 +1,23 @@
-use Rattle.std.proofs.Common.{◌≡◌, ◌≢◌, codes, sym, ◌∙◌, map, false, true, string_bytes, Global}
-use Rattle.std.specs.List.{list_any}
-use Rattle.clap.specs.Words.{kind_of}
-use Rattle.clap.specs.declared.error.kind.ErrorKind.TheVariants.{OutOfMemory}
-use Rattle.clap.proofs.WalkLemmas.{list_any-map}
-use Rattle.program_words.specs.Clap.{is_stray}
-use Rattle.program_words.proofs.Answering.{parse_taken, parse_value, parse_refused, answer_free, answer_simple, said_answer, answer_taken}
-use Rattle.program_words.proofs.WordLists.{if_said}
+use Rattle.std.proofs.Common.{codes, sym, ◌∙◌}
+use Rattle.std.proofs.lemmas.Result.{err_from_is_err_and}
+use Rattle.program_words.specs.Grammar.{answer_options}
+use Rattle.program_words.specs.declared.command.Command.TheVariants.{Answer}
+use Rattle.program_words.proofs.Answering.{answer_plain}
+use Rattle.program_words.proofs.WordLists.{if_said, told_refused}
 use Rattle.program_words.proofs.reading.read_answer.Goals as goal
 
-pub returns-then-has_stray-clause-refused : goal.returns-then-has_stray-clause-refused
-returns-then-has_stray-clause-refused c = λ is config journal a.
-    let none = (answer_taken _ config journal a).0 in
-    let some : list_any is_stray (map (string_bytes {Z = Global}) c.args.words.now) ≡ true =
-    sym (list_any-map is_stray (string_bytes {Z = Global}) c.args.words.now) ∙ sym c.has_stray.ensures ∙ c.if-has_stray.true in
-    let bad : false ≡ true = sym none ∙ some in
-    cc
-
-pub returns-in-Err-clause-refused : goal.returns-in-Err-clause-refused
-returns-in-Err-clause-refused c = λ is config journal a.
-    let other : kind_of c.in-Err.error ≢ OutOfMemory =
-    λ same. let kind = c.kind.ensures ∙ same in let tested = rw kind at c.eq.ensures in cc in
-    parse_refused _ _ _ c.in-Err.error c.in-Ok.ensures.app answer_free c.in-Err.ensures.kinds other (answer_taken _ config journal a).1
+pub returns-in_err-found-clause-refused : goal.returns-in_err-found-clause-refused
+returns-in_err-found-clause-refused c = λ is config journal a.
+    let p = err_from_is_err_and c.from_residual.result c.from_residual.ensures.1 in
+    let fault = told_refused c.from_residual.result p.0 c.in_err-found.field-0.0 p.1 p.2 is in
+    c.in_err-found.ensures.refused (codes "answer") answer_options a.givens answer_plain c.in-Ok.ensures.app (cc) a.words_are
 
 pub returns-in-Some-Some-clause-ok : goal.returns-in-Some-Some-clause-ok
 returns-in-Some-Some-clause-ok c =
-    let app_is = c.in-Ok.ensures.app in
-    let parse = c.in-Ok-try_get_matches_from.ensures in
-    let none : list_any is_stray (map (string_bytes {Z = Global}) c.args.words.now) ≡ false =
-    sym (list_any-map is_stray (string_bytes {Z = Global}) c.args.words.now) ∙ sym c.has_stray.ensures ∙ c.if-has_stray.false in
-    if_said _ _ _ _ c.answer_of.ensures.value
-    (said_answer _ c.requires.0 _ _ c.requires.1 none (parse_taken _ _ _ app_is answer_free parse.kinds)
-    (sym (parse_value _ _ _ _ (codes "config") app_is answer_simple parse.matches) ∙ sym c.in-Some-Some.ensures)
-    (sym (parse_value _ _ _ _ (codes "journal") app_is answer_simple parse.matches) ∙ sym c.in-Some-Some.ensures'))
+    let found = c.in_ok-found.ensures.ok (codes "answer") answer_options c.requires.0 answer_plain c.in-Ok.ensures.app c.requires.1 in
+    if_said _ (Answer c.in-Some-Some.config.now c.in-Some-Some.journal.now) _ c.answer_of.ensures.value (record {
+      givens = found.0;
+      words_are = found.1;
+      config_is = sym (found.2 (codes "config")) ∙ sym c.in-Some-Some.ensures;
+      journal_is = sym (found.2 (codes "journal")) ∙ sym c.in-Some-Some.ensures';
+    })

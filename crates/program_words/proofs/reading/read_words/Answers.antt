@@ -8,12 +8,17 @@ read_answer-requires c =
     first_word c.args.words.now c.command-item.result (codes "answer") (omega arith) c.command-item.is
     (sym c.as_str.ensures.value ∙ text_is _ _ (sym c.eq.ensures ∙ c.if-eq.true))
 
+pub read_check-requires : goal.read_check-requires
+read_check-requires c =
+    first_word c.args.words.now c.command-item-2.result (codes "check") (omega arith) c.command-item-2.is
+    (sym c.as_str-2.ensures.value ∙ text_is _ _ (sym c.eq-2.ensures ∙ c.if-eq-2.true))
+
 pub returns-in-len1-clause-said : goal.returns-in-len1-clause-said
 returns-in-len1-clause-said c =
     one_word c.args.words.now c.word-item.result (codes "--help") (omega arith) c.word-item.is
-    (sym c.as_str-then-words-lt2.ensures.value ∙ text_is _ _ (sym c.eq-then-words-lt2.ensures ∙ c.if-eq-2.true))
+    (sym c.as_str-then-words-lt2.ensures.value ∙ text_is _ _ (sym c.eq-then-words-lt2.ensures ∙ c.if-eq-3.true))
 
 pub returns-in-len1-2-clause-said : goal.returns-in-len1-2-clause-said
 returns-in-len1-2-clause-said c =
     one_word c.args.words.now c.word-item-then-words-lt2.result (codes "--version") (omega arith) c.word-item-then-words-lt2.is
-    (sym c.as_str-then-words-lt2-2.ensures.value ∙ text_is _ _ (sym c.eq-then-words-lt2-2.ensures ∙ c.if-eq-3.true))
+    (sym c.as_str-then-words-lt2-2.ensures.value ∙ text_is _ _ (sym c.eq-then-words-lt2-2.ensures ∙ c.if-eq-4.true))

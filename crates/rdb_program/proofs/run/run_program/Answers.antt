@@ -13,7 +13,7 @@ returns-clause-status g c =
     let input = c.input-1.given.1 (sym c.new-link.ensures.source ∙ sym same_source) in
     let output = c.output-1.given.1 (sym c.new-link.ensures.sink ∙ sym same_sink) in
     rw c.status.ensures
-    (says_through _ _ _ _ _ _ _ _ _ _ _ _ _ _ _ c.run_words-ending.result
+    (says_through _ _ _ _ _ _ _ _ _ _ _ _ _ _ _ _ _ c.run_words-ending.result.0
     (ap g.I.Source.ends c.new-link.ensures.source_now) (ap g.I.Source.ends (sym input))
     (ap g.O.Sink.ends c.new-link.ensures.sink_now) (ap g.O.Sink.ends (sym output))
     c.run_words-ending.ensures.run c.report.ensures)

@@ -24,13 +24,13 @@ pub update_of-requires : goal.update_of-requires
 update_of-requires c =
     let rows = c.args.tables.now.world.world.invocations in
     first_within rows c.in-UpdateInvocation.q.id c.first-first.result
-    (first_named c.args.context.now.located.now rows c.args.request (asks.UpdateInvocation c.in-UpdateInvocation.q) c.first-first.result
+    (first_named c.args.context.now.located.now rows c.args.tables.now.results.rows c.args.request (asks.UpdateInvocation c.in-UpdateInvocation.q) c.first-first.result
     c.requires.located c.in-UpdateInvocation.is c.first-first.ensures)
 
 pub returns-in-UpdateInvocation-clause-planned : goal.returns-in-UpdateInvocation-clause-planned
 returns-in-UpdateInvocation-clause-planned c =
     let q = c.in-UpdateInvocation.q in
-    let first = first_named c.args.context.now.located.now c.args.tables.now.world.world.invocations c.args.request (asks.UpdateInvocation q)
+    let first = first_named c.args.context.now.located.now c.args.tables.now.world.world.invocations c.args.tables.now.results.rows c.args.request (asks.UpdateInvocation q)
     c.first-first.result c.requires.located c.in-UpdateInvocation.is c.first-first.ensures in
     update_ready c.args.tables.now c.args.context.now.moment c.args.context.now.name.now c.args.request q
     c.in_ok-update_of-in-UpdateInvocation.field-0 c.first-first.result c.requires.timely c.requires.safe c.in-UpdateInvocation.is
@@ -40,13 +40,13 @@ pub end_of-requires : goal.end_of-requires
 end_of-requires c =
     let rows = c.args.tables.now.world.world.invocations in
     first_within rows c.in-FinalizeInvocation.field-0.id c.first-first.result
-    (first_named c.args.context.now.located.now rows c.args.request (asks.FinalizeInvocation c.in-FinalizeInvocation.field-0)
+    (first_named c.args.context.now.located.now rows c.args.tables.now.results.rows c.args.request (asks.FinalizeInvocation c.in-FinalizeInvocation.field-0)
     c.first-first.result c.requires.located c.in-FinalizeInvocation.is c.first-first.ensures)
 
 pub returns-in-FinalizeInvocation-clause-planned : goal.returns-in-FinalizeInvocation-clause-planned
 returns-in-FinalizeInvocation-clause-planned c =
     let q = c.in-FinalizeInvocation.field-0 in
-    let first = first_named c.args.context.now.located.now c.args.tables.now.world.world.invocations c.args.request (asks.FinalizeInvocation q)
+    let first = first_named c.args.context.now.located.now c.args.tables.now.world.world.invocations c.args.tables.now.results.rows c.args.request (asks.FinalizeInvocation q)
     c.first-first.result c.requires.located c.in-FinalizeInvocation.is c.first-first.ensures in
     end_ready c.args.tables.now c.args.context.now.moment c.args.context.now.name.now c.args.request q c.end_of.result c.first-first.result
     c.requires.timely c.requires.safe c.in-FinalizeInvocation.is c.end_of.ensures first
@@ -56,7 +56,7 @@ plan_edges-requires-clause-active c =
     let w = c.args.tables.now.world.world in
     let q = c.in-UpdateIncludedInvocations.field-0 in
     let request : Request = asks.UpdateIncludedInvocations q in
-    let first = first_named c.args.context.now.located.now w.invocations c.args.request request c.first-first.result c.requires.located
+    let first = first_named c.args.context.now.located.now w.invocations c.args.tables.now.results.rows c.args.request request c.first-first.result c.requires.located
     c.in-UpdateIncludedInvocations.is c.first-first.ensures in
     is_still_active w c.args.context.now.moment c.args.context.now.name.now request q.including c.in-Some.place
     (subst (IsSafe w c.args.context.now.moment c.args.context.now.name.now) c.in-UpdateIncludedInvocations.is c.requires.safe) refl
@@ -67,7 +67,7 @@ plan_edges-requires-clause-there c =
     let w = c.args.tables.now.world.world in
     let q = c.in-UpdateIncludedInvocations.field-0 in
     let targets = c.as_slice.ensures.value
-    ∙ targets_named c.args.context.now.located.now w.invocations c.args.request (asks.UpdateIncludedInvocations q)
+    ∙ targets_named c.args.context.now.located.now w.invocations c.args.tables.now.results.rows c.args.request (asks.UpdateIncludedInvocations q)
     c.in_ok-targets-in-Some.targets.items c.requires.located c.in-UpdateIncludedInvocations.is c.in_ok-targets-in-Some.ensures in
     subst (All (λ target. target < length w.invocations)) (sym targets) (places_within w.invocations q.add)
 
@@ -76,10 +76,10 @@ plan_edges-requires-clause-elsewhere c =
     let w = c.args.tables.now.world.world in
     let q = c.in-UpdateIncludedInvocations.field-0 in
     let request : Request = asks.UpdateIncludedInvocations q in
-    let first = first_named c.args.context.now.located.now w.invocations c.args.request request c.first-first.result c.requires.located
+    let first = first_named c.args.context.now.located.now w.invocations c.args.tables.now.results.rows c.args.request request c.first-first.result c.requires.located
     c.in-UpdateIncludedInvocations.is c.first-first.ensures in
     let targets = c.as_slice.ensures.value
-    ∙ targets_named c.args.context.now.located.now w.invocations c.args.request request c.in_ok-targets-in-Some.targets.items
+    ∙ targets_named c.args.context.now.located.now w.invocations c.args.tables.now.results.rows c.args.request request c.in_ok-targets-in-Some.targets.items
     c.requires.located c.in-UpdateIncludedInvocations.is c.in_ok-targets-in-Some.ensures in
     subst (All (λ target. target ≢ c.in-Some.place)) (sym targets)
     (places_elsewhere w.invocations q.including c.in-Some.place q.add (sym first ∙ c.in-Some.is)
@@ -93,10 +93,10 @@ returns-in-Some-clause-planned c =
     let name = c.args.context.now.name.now in
     let q = c.in-UpdateIncludedInvocations.field-0 in
     let request : Request = asks.UpdateIncludedInvocations q in
-    let first = first_named c.args.context.now.located.now w.invocations c.args.request request c.first-first.result c.requires.located
+    let first = first_named c.args.context.now.located.now w.invocations c.args.tables.now.results.rows c.args.request request c.first-first.result c.requires.located
     c.in-UpdateIncludedInvocations.is c.first-first.ensures in
     let targets = c.as_slice.ensures.value
-    ∙ targets_named c.args.context.now.located.now w.invocations c.args.request request c.in_ok-targets-in-Some.targets.items
+    ∙ targets_named c.args.context.now.located.now w.invocations c.args.tables.now.results.rows c.args.request request c.in_ok-targets-in-Some.targets.items
     c.requires.located c.in-UpdateIncludedInvocations.is c.in_ok-targets-in-Some.ensures in
     let effect = include_at w (places_named w.invocations q.add) (place_named w.invocations q.including) in
     subst (λ (r : Request). IfOk c.plan_edges.result (IsPlanned c.plan_edges.new.tables moment (effect_of (recorded_in c.args.tables.now) moment name r)))
@@ -116,7 +116,7 @@ plan_results-requires-clause-there c =
     let q = c.in-BatchCreateTestResults.q in
     subst (λ (o : Option ℕ). IfSome o (λ at. at < length rows)) c.in-Some-first.is
     (first_within rows q.invocation c.first-first.result
-    (first_named c.args.context.now.located.now rows c.args.request (asks.BatchCreateTestResults q) c.first-first.result c.requires.located
+    (first_named c.args.context.now.located.now rows c.args.tables.now.results.rows c.args.request (asks.BatchCreateTestResults q) c.first-first.result c.requires.located
     c.in-BatchCreateTestResults.is c.first-first.ensures))
 
 pub plan_results-requires-clause-some : goal.plan_results-requires-clause-some
@@ -133,7 +133,7 @@ returns-in-Some-first-clause-planned c =
     let q = c.in-BatchCreateTestResults.q in
     let holder = c.in-Some-first.holder in
     let shape : Request = asks.BatchCreateTestResults q in
-    let first = first_named c.args.context.now.located.now w.rows.invocations c.args.request shape c.first-first.result c.requires.located
+    let first = first_named c.args.context.now.located.now w.rows.invocations c.args.tables.now.results.rows c.args.request shape c.first-first.result c.requires.located
     c.in-BatchCreateTestResults.is c.first-first.ensures in
     let at : place_named w.rows.invocations q.invocation ≡ Some holder = sym first ∙ c.in-Some-first.is in
     let effect : Effect = does.Results (results.given holder c.into_vec.result.items) in
@@ -160,7 +160,7 @@ returns-in-Some-first-2-clause-planned c =
     let q = c.in-BatchCreateTestExonerations.q in
     let holder = c.in-Some-first-2.holder in
     let shape : Request = asks.BatchCreateTestExonerations q in
-    let first = first_named c.args.context.now.located.now w.rows.invocations c.args.request shape c.first-first.result c.requires.located
+    let first = first_named c.args.context.now.located.now w.rows.invocations c.args.tables.now.results.rows c.args.request shape c.first-first.result c.requires.located
     c.in-BatchCreateTestExonerations.is c.first-first.ensures in
     let at : place_named w.rows.invocations q.invocation ≡ Some holder = sym first ∙ c.in-Some-first-2.is in
     let before = length (exonerations.places_in w.exonerations holder) in

@@ -9,13 +9,13 @@ use Rattle.request_rules.proofs.judging.not_active.Goals as goal
 pub row_at-requires : goal.row_at-requires
 row_at-requires c =
     subst (λ (place : Option ℕ). IfSome place (λ at. at < length c.args.table.now.rows))
-    (sym (ap (λ (l : Located). l.active) (c.places.view_is ∙ c.requires))) (if_there c.args.table.now.rows c.args.demand.now.active)
+    (sym (ap (λ (l : Located). l.active) (c.places.view_is ∙ c.requires.1))) (if_there c.args.table.now.rows c.args.demand.now.active)
 
 pub returns : goal.returns
 returns c =
     let rows = c.args.table.now.rows in
     let id = c.in_ok-id.id.now in
-    let place = ap (λ (l : Located). l.active) (c.places.view_is ∙ c.requires) in
+    let place = ap (λ (l : Located). l.active) (c.places.view_is ∙ c.requires.1) in
     let shows : c.args.demand.now.active ≡ Some id =
     sym (ap (λ (d : Demand). d.active) c.demand.view_is) ∙ ap (option_map (λ given. given.now)) c.in_ok-id.was in
     record {

@@ -14,14 +14,14 @@ pub lacks_in-requires-clause-there : goal.lacks_in-requires-clause-there
 lacks_in-requires-clause-there c =
     let rows = c.args.table.now.rows in
     let are : c.as_slice.result.now ≡ places_in rows c.args.demand.now.named =
-    c.as_slice.ensures.value ∙ ap (λ (l : Located). l.named) (c.places.view_is ∙ c.requires.places) in
+    c.as_slice.ensures.value ∙ ap (λ (l : Located). l.named) (c.places.view_is ∙ c.requires.places.1) in
     subst (All (λ place. IfSome place (λ at. at < length rows))) (sym are) (all_there rows c.args.demand.now.named)
 
 pub lacks_in-requires-2-clause-there : goal.lacks_in-requires-2-clause-there
 lacks_in-requires-2-clause-there c =
     let rows = c.args.table.now.rows in
     let are : c.as_slice-2.result.now ≡ places_in rows c.args.demand.now.included =
-    c.as_slice-2.ensures.value ∙ ap (λ (l : Located). l.included) (c.places.view_is ∙ c.requires.places) in
+    c.as_slice-2.ensures.value ∙ ap (λ (l : Located). l.included) (c.places.view_is ∙ c.requires.places.1) in
     subst (All (λ place. IfSome place (λ at. at < length rows))) (sym are) (all_there rows c.args.demand.now.included)
 
 pub returns-in-Some : goal.returns-in-Some
@@ -36,7 +36,7 @@ returns-in-Some-lacks_in c =
     let rows = c.args.table.now.rows in
     let lacks = Lacks c.args.self.now.policy.now c.args.self.now.caller in
     let are : c.as_slice.result.now ≡ places_in rows d.named =
-    c.as_slice.ensures.value ∙ ap (λ (l : Located). l.named) (c.places.view_is ∙ c.requires.places) in
+    c.as_slice.ensures.value ∙ ap (λ (l : Located). l.named) (c.places.view_is ∙ c.requires.places.1) in
     first_in_more lacks (rights_here d.realm d.takes) _ _ c.in_default.ensures
     (first_in_front lacks (rights_in rows d.of_named (places_in rows d.named)) _ c.in-Some-lacks_in.lacking
     (rights_same lacks rows _ _ d.of_named _ (places_in rows d.named) (ap (λ (x : Demand). x.of_named) c.demand.view_is) are
@@ -48,9 +48,9 @@ returns c =
     let rows = c.args.table.now.rows in
     let lacks = Lacks c.args.self.now.policy.now c.args.self.now.caller in
     let named : c.as_slice.result.now ≡ places_in rows d.named =
-    c.as_slice.ensures.value ∙ ap (λ (l : Located). l.named) (c.places.view_is ∙ c.requires.places) in
+    c.as_slice.ensures.value ∙ ap (λ (l : Located). l.named) (c.places.view_is ∙ c.requires.places.1) in
     let included : c.as_slice-2.result.now ≡ places_in rows d.included =
-    c.as_slice-2.ensures.value ∙ ap (λ (l : Located). l.included) (c.places.view_is ∙ c.requires.places) in
+    c.as_slice-2.ensures.value ∙ ap (λ (l : Located). l.included) (c.places.view_is ∙ c.requires.places.1) in
     first_in_more lacks (rights_here d.realm d.takes) _ _ c.in_default.ensures
     (first_in_more lacks (rights_in rows d.of_named (places_in rows d.named)) _ _
     (rights_same lacks rows _ _ d.of_named _ (places_in rows d.named) (ap (λ (x : Demand). x.of_named) c.demand.view_is) named

@@ -22,8 +22,9 @@ refused-requires-clause-there c =
 pub refused-requires-clause-places : goal.refused-requires-clause-places
 refused-requires-clause-places c =
     c.in_ok-places.ensures
-    ∙ ap (λ (rows : List Invocation). located rows (demand_of c.args.call.request))
-    (c.table.ensures.rows ∙ ap (λ (k : CoreState). k.held.world.world.invocations) c.self.view_is)
+    ∙ (ap (λ (rows : List Invocation). located rows c.self.inside.tables.results.rows (demand_of c.args.call.request))
+    (c.table-table.ensures.rows ∙ ap (λ (k : CoreState). k.held.world.world.invocations) c.self.view_is)
+    ∙ ap (λ (k : CoreState). located c.args.self.now.held.world.world.invocations k.held.results.rows (demand_of c.args.call.request)) c.self.view_is)
 
 pub returns-in-Some-clause-prepared : goal.returns-in-Some-clause-prepared
 returns-in-Some-clause-prepared c = λ asked is numbered.
@@ -41,8 +42,9 @@ plan-requires-clause-there c =
 pub plan-requires-clause-places : goal.plan-requires-clause-places
 plan-requires-clause-places c =
     c.in_ok-places.ensures
-    ∙ ap (λ (rows : List Invocation). located rows (demand_of c.args.call.request))
-    (c.table.ensures.rows ∙ ap (λ (k : CoreState). k.held.world.world.invocations) c.self.view_is)
+    ∙ (ap (λ (rows : List Invocation). located rows c.self.inside.tables.results.rows (demand_of c.args.call.request))
+    (c.table-table.ensures.rows ∙ ap (λ (k : CoreState). k.held.world.world.invocations) c.self.view_is)
+    ∙ ap (λ (k : CoreState). located c.args.self.now.held.world.world.invocations k.held.results.rows (demand_of c.args.call.request)) c.self.view_is)
 
 pub plan-requires-clause-safe : goal.plan-requires-clause-safe
 plan-requires-clause-safe c =

@@ -1,0 +1,3 @@
+pub mod VisitLaws
+pub mod WorkLaws
+pub mod WorkerLaws

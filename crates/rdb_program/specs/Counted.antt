@@ -1,0 +1,25 @@
+-- What is printed of a journal that is counted.
+use Rattle.std.specs.Prelude.{ℕ, List, ◌++◌, codes, decimal}
+use Rattle.service_effects.specs.Service.{ServiceWorld}
+use Rattle.service_core.specs.Counting.{counts_of}
+use Rattle.service_core.specs.declared.counting.Counts.{Counts}
+
+-- a name and a number
+abbrev pub item : List ℕ → ℕ → List ℕ
+item name number = name ++ decimal number
+
+-- how many rows there are of each kind, none of them an artifact yet, and how many bytes their
+-- records have
+abbrev pub counts_text : Counts → ℕ → List ℕ
+counts_text counts bytes =
+    item (codes "invocations ") counts.invocations
+    ++ item (codes ", finalized ") counts.finalized
+    ++ item (codes ", results ") counts.results
+    ++ item (codes ", exonerations ") counts.exonerations
+    ++ item (codes ", artifacts ") 0
+    ++ item (codes ", kept ") counts.kept
+    ++ item (codes ", bytes ") bytes
+    ++ codes "\n"
+
+abbrev pub world_text : ServiceWorld → ℕ → List ℕ
+world_text w bytes = counts_text (counts_of w) bytes
