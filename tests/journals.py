@@ -3,6 +3,7 @@ refused; and what kills and a full disk leave of it.
 """
 
 import json
+import os
 import pathlib
 import random
 import resource
@@ -11,11 +12,12 @@ import subprocess
 import threading
 import time
 
-from harness import BEARER, LENGTH, RDB, SECONDS, Wrong, changing, expect, named, new, replies, request, route, run
-from harness import same, told_by, words
+from harness import BEARER, EXAMPLES, LENGTH, RDB, SECONDS, Wrong, changing, expect, named, new, replies, request, route, run
+from harness import results, same, told_by, words
 
 KILLS = 200
 EMPTY = b"RDBJRNL1\0"
+TAKEN = b"19 Taken: invocations/u-a/tests/t/results/r0\n"
 COUNTS = b"invocations %d, finalized %d, results %d, exonerations %d, artifacts 0, kept %d, bytes %d\n"
 
 
@@ -171,7 +173,7 @@ def kills(folder):
 class Calling:
     """A program that is asked one request after another over pipes."""
 
-    def __init__(self, folder, path, limit):
+    def __init__(self, folder, path, limit=resource.RLIM_INFINITY):
         def limited():
             signal.signal(signal.SIGXFSZ, signal.SIG_IGN)
             resource.setrlimit(resource.RLIMIT_FSIZE, (limit, resource.RLIM_INFINITY))
@@ -217,12 +219,71 @@ def a_full_disk(folder):
     same([status for status, _ in shown(stream, folder, path)], [200] * (1 + made) + [404] * (6 - made))
 
 
+def lost(stream, folder, path):
+    """Runs the program over this input where nobody reads its output, and gives how it ended."""
+    reading, writing = os.pipe()
+    os.close(reading)
+    with open(writing, "wb") as output:
+        return run(stream, folder, stdout=output, journal=path)[1:]
+
+
+def a_batch_cut_off(folder):
+    """A batch under a number whose reply was lost is sent again in another run: it gets the reply byte for byte that an
+    uncut one gets, adds no byte to the journal, and its rows stand once. Without a number its rows are taken."""
+    begun = creation("u-a")
+    ids = [f"r{number}" for number in range(200)]
+    for number in ("upload-1", None):
+        batch, whole, cut = results("u-a", *ids, number=number), *(pathlib.Path(folder) / name for name in "xy")
+        for path in (whole, cut):
+            path.unlink(missing_ok=True)
+            same([status for status, _ in shown(begun, folder, path)], [200])
+        reply, *end = run(batch, folder, journal=whole)
+        same(end, [b"", 0])
+        same(lost(batch, folder, cut), (b"rdb: fault of output\n", 4))
+        size = cut.stat().st_size
+        again, *end = run(batch, folder, journal=cut)
+        same((again == reply, end, cut.stat().st_size, size), (number is not None, [b"", 0], size, whole.stat().st_size))
+        if number is None:
+            same([(head[:13], body) for head, body in replies(again)], [(b"HTTP/1.1 409 ", TAKEN)])
+        query = {"invocations": ["invocations/u-a"], "pageSize": 1000}
+        rows = shown(request("QueryTestResults", query), folder, cut)[0][1]["testResults"]
+        same(sorted(row["resultId"] for row in rows), sorted(ids))
+
+
+def the_example(folder):
+    """The example loses the reply to a batch, sends it again, and counts one result."""
+    done = subprocess.run([EXAMPLES / "send-again.sh", folder], capture_output=True, timeout=SECONDS)
+    same((done.stderr, done.returncode), (b"rdb: fault of output\n", 0))
+    body, counted = done.stdout.partition(b"\r\n\r\n")[2].splitlines()[1:]
+    same([row["name"] for row in json.loads(body)["testResults"]], ["invocations/u-a/tests/net%2Fdns/results/run-1"])
+    same(counted + b"\n", COUNTS % (1, 0, 1, 0, 1, (pathlib.Path(folder) / "farm.journal").stat().st_size - 9))
+
+
+def one_at_a_time(folder):
+    """A second run over a journal that a first one has open, and a count of it, find a fault of the disk and leave its
+    bytes alone. Once the first has ended, the journal is read."""
+    path, reading = journal_in(folder), request("GetInvocation", named("u-a"))
+    first = Calling(folder, path)
+    created = first.ask(creation("u-a"))
+    content = path.read_bytes()
+    for got in (run(creation("u-b"), folder, journal=path), count(path)):
+        expect(got, b"", b"rdb: fault of disk\n", 4)
+    same(path.read_bytes(), content)
+    same(first.ask(reading), created)
+    first.end()
+    same(shown(reading, folder, path), [created])
+    expect(count(path), COUNTS % (1, 0, 0, 0, 0, len(content) - 9), b"", 0)
+
+
 CHECKS = {
     "what one run records another reads": a_second_run,
     "journals of nothing": nothing_was_asked,
     "what is recorded": what_is_recorded,
     "journals that are refused": refused_journals,
     "no file can be made there": no_disk,
+    "a batch that is cut off": a_batch_cut_off,
+    "the example that sends a batch again": the_example,
     "kills under load": kills,
     "a full disk": a_full_disk,
+    "one process at a time": one_at_a_time,
 }

@@ -1,9 +1,10 @@
 //! Files as the parts of a disk.
-ghost use Rattle.std.specs.Prelude.{◌≡◌, ◌≤◌, None, IfOk, MatchResult};
+ghost use Rattle.std.specs.Prelude.{◌≡◌, ◌≢◌, ◌≤◌, None, IfOk, MatchResult};
 ghost use Rattle.std.specs.Io.{ReadsAtMost};
 ghost use Rattle.fault_counts.specs.Causes.{HasCause, counted};
 
-use crate::{Disk, Failed};
+use crate::held::HeldFile;
+use crate::{Disk, Failed, Holdable};
 use fault_counts::Count;
 use std::alloc::{AllocError, Global};
 use std::fs::{OpenFile, OpenOptions};
@@ -13,10 +14,14 @@ use std::rt::Files;
 
 /// Two files as a disk: part 0 at a path, and part 1 at that path with `.1` behind it.
 ///
-/// The file of a part is opened at the first call on that part, and made empty where it is missing.
-/// It tells nothing of what it holds.
+/// The file of a part is opened and held at the first call on that part, made empty where it is
+/// missing, and let go of when the disk is dropped. Where it can't be held, since another disk
+/// holds it, the call fails, and nothing is read or written. It tells nothing of what it holds.
 #[derive(Drop)]
-pub struct FileDisk<R: Files + Drop> {
+pub struct FileDisk<R: Files + Drop>
+where
+    R::File: Holdable,
+{
     rt: R,
     first: PartFile<R::File>,
     second: PartFile<R::File>,
@@ -25,15 +30,15 @@ pub struct FileDisk<R: Files + Drop> {
 
 /// The file of a part.
 #[derive(Drop)]
-struct PartFile<F> {
+struct PartFile<F: Holdable> {
     path: String,
-    file: Option<F>,
+    file: Option<HeldFile<F>>,
     is_folder_synced: bool,
 }
 
 impl<R: Files + Drop> FileDisk<R>
 where
-    R::File: FileExt,
+    R::File: Holdable,
 {
     pub fn new(rt: R, alloc: Global, path: &str) -> Result<FileDisk<R>, AllocError>
         ensures { IfOk result (λ d. d.faults ≡ 0) }
@@ -53,9 +58,11 @@ where
         self.faults.value()
     }
 
-    // Opens the file of a part, unless it is open.
+    // Opens the file of a part and holds it, unless it is open: what is open stays.
     fn open(&mut self, part: u8) -> bool
-        ensures { self.new.faults ≡ self.old.faults }
+        ensures faults { self.new.faults ≡ self.old.faults }
+        ensures first { self.old.first.file ≢ None → self.new.first.file ≡ self.old.first.file }
+        ensures second { self.old.second.file ≢ None → self.new.second.file ≡ self.old.second.file }
     {
         match part {
             0 => self.first.open(&self.rt),
@@ -75,13 +82,13 @@ where
 
     fn file(&self, part: u8) -> Option<&R::File> {
         match part {
-            0 => self.first.file.as_ref(),
-            _ => self.second.file.as_ref(),
+            0 => self.first.held(),
+            _ => self.second.held(),
         }
     }
 }
 
-impl<F: OpenFile + Drop> PartFile<F> {
+impl<F: Holdable> PartFile<F> {
     fn new(path: String) -> PartFile<F> {
         PartFile {
             path,
@@ -90,29 +97,33 @@ impl<F: OpenFile + Drop> PartFile<F> {
         }
     }
 
-    /// Opens the file, unless it is open.
-    fn open<R: Files<File = F>>(&mut self, rt: &R) -> bool {
-        if self.file.is_some() {
-            return true;
+    /// Opens the file and holds it, unless it is open: what is open stays.
+    fn open<R: Files<File = F>>(&mut self, rt: &R) -> bool
+        ensures stays { self.old.file ≢ None → self.new.file ≡ self.old.file }
+    {
+        if self.file.is_none() {
+            let opened = OpenOptions::new()
+                .read(true)
+                .write(true)
+                .create(true)
+                .open(rt, self.path.as_str());
+            self.file = opened.ok().and_then(HeldFile::new);
         }
-        let opened = OpenOptions::new()
-            .read(true)
-            .write(true)
-            .create(true)
-            .open(rt, self.path.as_str());
-        match opened {
-            Ok(file) => {
-                self.file = Some(file);
-                true
-            }
-            Err(_) => false,
+        self.file.is_some()
+    }
+
+    /// The file, where it is open.
+    fn held(&self) -> Option<&F> {
+        match &self.file {
+            Some(held) => Some(held.file()),
+            None => None,
         }
     }
 
     /// Brings the file to the device; and at the first sync the folder's entry for it, too, since
     /// the process that made the file may have died before it did so.
     fn sync<R: Files<File = F>>(&mut self, rt: &R) -> io::Result<()> {
-        match &self.file {
+        match self.held() {
             Some(file) => file.sync_all()?,
             None => return Ok(()),
         }
@@ -141,7 +152,7 @@ fn folder_of(path: &str) -> &str {
 
 impl<R: Files + Drop> Disk for FileDisk<R>
 where
-    R::File: FileExt,
+    R::File: Holdable,
 {
     ghost use Rattle.std.specs.Prelude.{None};
 

@@ -136,7 +136,8 @@ enum Act {
     Fails,
 }
 
-/// A file and its folder. Their writes and syncs go by a script, and those behind it work.
+/// A file and its folder. The calls on them are counted and go by a script, and those behind it
+/// work.
 #[derive(Drop)]
 struct Script<'a> {
     acts: &'a [Act],
@@ -157,7 +158,7 @@ impl<'a> Script<'a> {
         }
     }
 
-    /// How many bytes the coming call may write.
+    /// How many bytes the coming call may write, where it is a write.
     fn most(&self) -> io::Result<usize> {
         let number = self.calls.get();
         self.calls.set(number.saturating_add(1));
@@ -173,12 +174,15 @@ impl<'a> Script<'a> {
 #[derive(Clone, Copy)]
 struct ScriptedFiles<'a> {
     script: &'a Script<'a>,
+    is_free: bool,
 }
 
 #[derive(Drop)]
 struct ScriptedFile<'a> {
     script: &'a Script<'a>,
     is_folder: bool,
+    /// Whether nothing else holds it.
+    is_free: bool,
 }
 
 fn unsupported<T>() -> io::Result<T> {
@@ -209,11 +213,13 @@ impl<'a> Seek for ScriptedFile<'a> {
 
 impl<'a> OpenFile for ScriptedFile<'a> {
     fn metadata(&self) -> io::Result<Metadata> {
+        self.script.most()?;
         unsupported()
     }
 
     fn set_len(&self, _size: u64) -> io::Result<()> {
-        unsupported()
+        self.script.most()?;
+        Ok(())
     }
 
     fn sync_all(&self) -> io::Result<()> {
@@ -234,6 +240,7 @@ impl<'a> OpenFile for ScriptedFile<'a> {
 
 impl<'a> FileExt for ScriptedFile<'a> {
     fn read_at(&self, _buf: &mut [u8], _offset: u64) -> io::Result<usize> {
+        self.script.most()?;
         Ok(0)
     }
 
@@ -251,6 +258,14 @@ impl<'a> FileExt for ScriptedFile<'a> {
     }
 }
 
+impl<'a> Holdable for ScriptedFile<'a> {
+    ghost is_held = { λ f. f.is_free };
+
+    fn hold(&self) -> bool {
+        self.is_free
+    }
+}
+
 impl<'a> Files for ScriptedFiles<'a> {
     type File = ScriptedFile<'a>;
 
@@ -260,6 +275,7 @@ impl<'a> Files for ScriptedFiles<'a> {
         Ok(ScriptedFile {
             script: self.script,
             is_folder: !how.asks_write(),
+            is_free: self.is_free,
         })
     }
 
@@ -325,7 +341,10 @@ const ROWS: [Row; 6] = [
 fn files_are_written_whole_and_synced(rt: HostRuntime) -> Result<(), Fail> {
     for (acts, works, syncs) in ROWS {
         let script = Script::new(acts);
-        let files = ScriptedFiles { script: &script };
+        let files = ScriptedFiles {
+            script: &script,
+            is_free: true,
+        };
         let mut disk = FileDisk::new(files, rt.alloc(), "part")?;
         let written = disk.write_at(0, 0, b"abcdef").is_ok();
         let answers = [written, disk.sync(0).is_ok(), disk.sync(0).is_ok()];
@@ -334,6 +353,49 @@ fn files_are_written_whole_and_synced(rt: HostRuntime) -> Result<(), Fail> {
         assert_eq!(rt; [script.syncs.get(), script.folder_syncs.get()], syncs);
         assert_eq!(rt; disk.faults() == 0, works == [true, true, true]);
     }
+    Ok(())
+}
+
+#[test]
+fn a_file_that_is_not_held_is_left_alone(rt: HostRuntime) -> Result<(), Fail> {
+    let script = Script::new(&[]);
+    let files = ScriptedFiles {
+        script: &script,
+        is_free: false,
+    };
+    let mut disk = FileDisk::new(files, rt.alloc(), "part")?;
+    let mut room = [0u8; 4];
+    assert!(rt; disk.len(0).is_err() && disk.read(0, 0, &mut room).is_err());
+    assert!(rt; disk.write_at(0, 0, b"abc").is_err() && disk.cut(0, 0).is_err());
+    assert!(rt; disk.sync(0).is_err());
+    assert_eq!(rt; (disk.faults(), script.calls.get()), (5, 0));
+    Ok(())
+}
+
+/// Whether each call of a disk works, on its first part.
+fn which_work<D: Disk>(disk: &mut D) -> [bool; 5] {
+    let mut room = [0u8; 4];
+    [
+        disk.len(0).is_ok(),
+        disk.read(0, 0, &mut room).is_ok(),
+        disk.write_at(0, 0, b"abc").is_ok(),
+        disk.cut(0, 0).is_ok(),
+        disk.sync(0).is_ok(),
+    ]
+}
+
+#[test]
+fn one_disk_at_a_time_has_a_file(rt: HostRuntime) -> Result<(), Fail> {
+    let path = "held_by_a_test";
+    let mut first = FileDisk::new(&rt, rt.alloc(), path)?;
+    assert_eq!(rt; which_work(&mut first), [true; 5]);
+    let mut second = FileDisk::new(&rt, rt.alloc(), path)?;
+    assert_eq!(rt; which_work(&mut second), [false; 5]);
+    assert_eq!(rt; which_work(&mut first), [true; 5]);
+    drop(first);
+    assert_eq!(rt; which_work(&mut second), [true; 5]);
+    assert_eq!(rt; second.faults(), 5);
+    std::fs::remove_file(&rt, path)?;
     Ok(())
 }
 
