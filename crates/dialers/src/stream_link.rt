@@ -46,6 +46,11 @@ impl<S: Read + Write + Drop> StreamLink<S> {
         }
     }
 
+    /// The stream, for what ends it.
+    pub fn into_stream(self) -> S {
+        self.stream
+    }
+
     /// How many reads failed.
     pub fn read_faults(&self) -> u64
         ensures { result ≡ self.now.read_faults }

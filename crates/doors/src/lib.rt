@@ -3,6 +3,8 @@
 
 mod door;
 mod memory;
+mod parting;
+mod patience;
 mod tcp;
 #[cfg(test)]
 mod tests;
@@ -10,4 +12,5 @@ mod tests;
 pub use dialers::StreamLink;
 pub use door::Door;
 pub use memory::MemoryDoor;
+pub use patience::{Limits, PatientListener, PatientStream};
 pub use tcp::TcpDoor;

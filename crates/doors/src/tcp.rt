@@ -8,6 +8,7 @@ ghost use Rattle.doors.specs.Doors.{Accepts};
 ghost use Rattle.doors.specs.Listeners.{CountsDown};
 
 use crate::Door;
+use crate::parting::part;
 use dialers::StreamLink;
 use fault_counts::Count;
 use outside::Failed;
@@ -54,13 +55,21 @@ fn made_ready<S: OpenStream + Drop>(stream: S) -> io::Result<S> {
     Ok(stream)
 }
 
-/// Whether an accept that failed so failed because its peer is gone, or was only interrupted: the
-/// listener can give the next connection.
-fn is_passing(kind: ErrorKind) -> bool {
-    matches!(
-        kind,
-        ErrorKind::ConnectionAborted | ErrorKind::ConnectionReset | ErrorKind::Interrupted
-    )
+/// The system's number for an error of the protocol, which has no kind of its own.
+const PROTOCOL_ERROR: i32 = 71;
+
+/// Whether an accept that failed so failed because its peer is gone or isn't reached any more, or
+/// was only interrupted: the listener can give the next connection.
+fn is_passing(error: &io::Error) -> bool {
+    let is_of_peer = matches!(
+        error.kind(),
+        ErrorKind::ConnectionAborted
+            | ErrorKind::ConnectionReset
+            | ErrorKind::HostUnreachable
+            | ErrorKind::NetworkUnreachable
+            | ErrorKind::Interrupted
+    );
+    is_of_peer || error.raw_os_error() == Some(PROTOCOL_ERROR)
 }
 
 /// The next connection, or None where its peer is gone. `Err` where the listener failed.
@@ -71,7 +80,7 @@ where
     match listener.accept() {
         Ok((stream, _)) => Ok(made_ready(stream).ok()),
         Err(error) => {
-            if is_passing(error.kind()) {
+            if is_passing(&error) {
                 Ok(None)
             } else {
                 Err(error)
@@ -167,11 +176,12 @@ where
         }
     }
 
-    /// Closes the connection.
+    /// Tells the peer that nothing more comes, drops what it still sends, up to a bound, and closes
+    /// the connection.
     fn give_back(&mut self, link: StreamLink<N::Stream>)
         ensures tells { untold self.new.faults ≡ with_returned (untold self.old.faults) link }
         ensures left { self.new.left ≡ self.old.left }
     {
-        let _ = link;
+        part(link.into_stream());
     }
 }

@@ -1,13 +1,14 @@
 //! What doors give and take back.
-use crate::{Door, MemoryDoor, TcpDoor};
+use crate::{Door, Limits, MemoryDoor, PatientListener, PatientStream, TcpDoor};
 use outside::{Link, MemoryLink};
 use std::alloc::{AllocError, Global};
 use std::cell::Cell;
 use std::io;
 use std::io::{ErrorKind, Read, Write};
-use std::net::{OpenListener, OpenStream, SocketAddr, TcpListener, TcpStream};
+use std::net::{OpenListener, OpenStream, Shutdown, SocketAddr, TcpListener, TcpStream};
 use std::process::Abort;
 use std::test::Fail;
+use std::time::{Clock, Duration};
 
 fn link_of(alloc: Global, bytes: &[u8]) -> Result<MemoryLink, AllocError> {
     let mut pieces = Vec::new(alloc);
@@ -104,11 +105,11 @@ impl OpenStream for OneByte {
         }
     }
 
-    fn set_read_timeout(&self, _most: Option<std::time::Duration>) -> io::Result<()> {
+    fn set_read_timeout(&self, _most: Option<Duration>) -> io::Result<()> {
         Ok(())
     }
 
-    fn set_write_timeout(&self, _most: Option<std::time::Duration>) -> io::Result<()> {
+    fn set_write_timeout(&self, _most: Option<Duration>) -> io::Result<()> {
         Ok(())
     }
 }
@@ -119,13 +120,28 @@ struct Scripted {
     calls: Cell<usize>,
 }
 
-const SCRIPT: [Result<u8, ErrorKind>; 8] = [
-    Err(ErrorKind::ConnectionAborted),
+// Errors by the system's numbers.
+const NO_MORE_FILES: i32 = 24;
+
+const INTERRUPTED: i32 = 4;
+
+const PROTOCOL: i32 = 71;
+
+const ABORTED: i32 = 103;
+
+const RESET: i32 = 104;
+
+const NO_ROUTE: i32 = 113;
+
+const SCRIPT: [Result<u8, i32>; 10] = [
+    Err(ABORTED),
     Ok(b'a'),
-    Err(ErrorKind::PermissionDenied),
-    Err(ErrorKind::Interrupted),
+    Err(NO_MORE_FILES),
+    Err(INTERRUPTED),
+    Err(PROTOCOL),
     Ok(0),
-    Err(ErrorKind::ConnectionReset),
+    Err(RESET),
+    Err(NO_ROUTE),
     Ok(b'b'),
     Ok(b'c'),
 ];
@@ -139,8 +155,8 @@ impl OpenListener for Scripted {
         let address = SocketAddr::from(([127, 0, 0, 1], 1));
         match SCRIPT.get(call) {
             Some(Ok(byte)) => Ok((OneByte(*byte), address)),
-            Some(Err(kind)) => Err(io::Error::from(*kind)),
-            None => Err(io::Error::from(ErrorKind::Other)),
+            Some(Err(number)) => Err(io::Error::from_raw_os_error(*number)),
+            None => Err(io::Error::from_raw_os_error(NO_MORE_FILES)),
         }
     }
 }
@@ -180,5 +196,118 @@ fn connections_come_in_over_the_loopback(rt: HostRuntime) -> Result<(), Fail> {
     assert_eq!(rt; peer.read(&mut all)?, 0, "the link was closed");
     check_accepted(&rt, &mut door, Expected::End);
     assert_eq!(rt; door.faults(), 0);
+    Ok(())
+}
+
+/// A clock that stands still but for the seconds that a stream takes.
+#[derive(Clone, Copy)]
+struct Seconds<'a> {
+    passed: &'a Cell<u64>,
+}
+
+impl<'a> Seconds<'a> {
+    fn pass(&self, seconds: u64) {
+        self.passed.set(self.passed.get().saturating_add(seconds));
+    }
+}
+
+impl<'a> Clock for Seconds<'a> {
+    fn monotonic(&self) -> io::Result<Duration> {
+        Ok(Duration::from_secs(self.passed.get()))
+    }
+
+    fn since_1970(&self) -> io::Result<Duration> {
+        self.monotonic()
+    }
+}
+
+/// A stream that gives and takes one byte in 25 seconds, and is never told to wait for more than
+/// is left of a minute.
+#[derive(Drop)]
+struct Slow<'a> {
+    seconds: Seconds<'a>,
+}
+
+impl<'a> Read for Slow<'a> {
+    fn read(&mut self, room: &mut [u8]) -> io::Result<usize> {
+        self.seconds.pass(25);
+        Ok(room.len().min(1))
+    }
+}
+
+impl<'a> Write for Slow<'a> {
+    fn write(&mut self, piece: &[u8]) -> io::Result<usize> {
+        self.seconds.pass(25);
+        Ok(piece.len().min(1))
+    }
+
+    fn flush(&mut self) -> io::Result<()> {
+        Ok(())
+    }
+}
+
+impl<'a> OpenStream for Slow<'a> {
+    fn shutdown(&self, _how: Shutdown) -> io::Result<()> {
+        Ok(())
+    }
+
+    fn set_read_timeout(&self, _most: Option<Duration>) -> io::Result<()> {
+        Ok(())
+    }
+
+    fn set_write_timeout(&self, _most: Option<Duration>) -> io::Result<()> {
+        Ok(())
+    }
+}
+
+#[test]
+fn a_slow_peer_gets_no_further_time(rt: HostRuntime) {
+    let passed = Cell::new(0u64);
+    let seconds = Seconds { passed: &passed };
+    let limits = Limits {
+        turn: Duration::from_secs(60),
+        farewell: Duration::from_secs(30),
+    };
+    let mut stream = PatientStream::new(seconds, Slow { seconds }, limits);
+    let mut room = [0u8; 4];
+    for works in [true, true, true, false] {
+        assert_eq!(rt; stream.read(&mut room).is_ok(), works);
+    }
+    for works in [true, true, true, false] {
+        assert_eq!(rt; stream.write(b"abc").is_ok(), works);
+    }
+    assert!(rt; stream.read(&mut room).is_ok());
+    assert!(rt; stream.shutdown(Shutdown::Write).is_ok());
+    for works in [true, false] {
+        assert_eq!(rt; stream.read(&mut room).is_ok(), works);
+    }
+    assert_eq!(rt; passed.get(), 200);
+}
+
+#[test]
+fn a_peer_that_still_sends_gets_the_last_reply(rt: HostRuntime) -> Result<(), Fail> {
+    let limits = Limits {
+        turn: Duration::from_millis(200),
+        farewell: Duration::from_millis(200),
+    };
+    let listener = PatientListener::new(rt, TcpListener::bind(&rt, "127.0.0.1:0")?, limits);
+    let mut door = TcpDoor::new(&listener, Some(1));
+    let mut peer = TcpStream::connect(&rt, listener.local_addr()?)?;
+    peer.write_all(b"x")?;
+    let accepted = door.accept();
+    assert!(rt; accepted.is_ok());
+    if let Ok(Some(mut link)) = accepted {
+        assert_eq!(rt; byte_of(&mut link), Some(b'x'));
+        assert_eq!(rt; byte_of(&mut link), None, "the peer is silent");
+        assert_eq!(rt; link.read_faults(), 1);
+        assert_eq!(rt; link.write(b"y").ok(), Some(1));
+        peer.write_all(&[0u8; 4096])?;
+        door.give_back(link);
+    }
+    let mut all = [0u8; 2];
+    assert_eq!(rt; peer.read(&mut all)?, 1);
+    assert_eq!(rt; all[0], b'y');
+    assert_eq!(rt; peer.read(&mut all)?, 0, "the link was closed");
+    assert!(rt; peer.write(b"z").is_ok(), "the link was not reset");
     Ok(())
 }
