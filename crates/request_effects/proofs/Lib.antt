@@ -6,3 +6,4 @@ pub mod AheadFacts
 pub mod AnswerLaws
 pub mod BatchFacts
 pub mod KeepLaws
+pub mod FitLaws

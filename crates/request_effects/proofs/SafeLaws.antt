@@ -225,10 +225,7 @@ suits w moment name (asks.BatchCreateTestResults q) timely safe =
 suits w moment name (asks.BatchCreateTestExonerations q) timely safe =
     exonerations_suit w.rows moment w.exonerations (place_named w.rows.invocations q.invocation) q.requests safe.forms.some
     (λ p at. is_still_active w.rows moment name (asks.BatchCreateTestExonerations q) q.invocation p safe refl at)
-suits w moment name (asks.GetInvocation q) timely safe = tt
-suits w moment name (asks.GetTestResult q) timely safe = tt
-suits w moment name (asks.QueryTestResults q) timely safe = tt
-suits w moment name (asks.QueryTestVariants q) timely safe = tt
+suits w moment name _ timely safe = tt
 
 -- ---- what is so of each effect on the invocations
 
@@ -288,7 +285,4 @@ placed w moment name (asks.BatchCreateTestResults q) =
     results_placed w.exonerations (place_named w.rows.invocations q.invocation) q.requests
 placed w moment name (asks.BatchCreateTestExonerations q) =
     exonerations_placed w.exonerations (place_named w.rows.invocations q.invocation) q.requests
-placed w moment name (asks.GetInvocation q) = tt
-placed w moment name (asks.GetTestResult q) = tt
-placed w moment name (asks.QueryTestResults q) = tt
-placed w moment name (asks.QueryTestVariants q) = tt
+placed w moment name _ = tt

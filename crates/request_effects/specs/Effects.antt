@@ -66,7 +66,8 @@ exonerations_at held (Some holder) rows =
     does.Exonerations
     (exonerations.given holder (length (exonerations.places_in held holder)) rows)
 
--- What a request of a caller of this name does at this moment, a row a method.
+-- What a request of a caller of this name does at this moment, a row a method. One of another
+-- method only reads.
 abbrev pub effect_of : Recorded → ℤ → List ℕ → Request → Effect
 effect_of w moment name (asks.CreateInvocation q) =
     does.Add (new_row moment name q.id
@@ -82,7 +83,4 @@ effect_of w moment name (asks.BatchCreateTestResults q) =
     results_at (place_named w.rows.invocations q.invocation) q.requests
 effect_of w moment name (asks.BatchCreateTestExonerations q) =
     exonerations_at w.exonerations (place_named w.rows.invocations q.invocation) q.requests
-effect_of w moment name (asks.GetInvocation q) = does.Nothing
-effect_of w moment name (asks.GetTestResult q) = does.Nothing
-effect_of w moment name (asks.QueryTestResults q) = does.Nothing
-effect_of w moment name (asks.QueryTestVariants q) = does.Nothing
+effect_of w moment name _ = does.Nothing

@@ -199,9 +199,6 @@ pub fn plan_change(
             Some(holder) => plan_exonerations(alloc, tables, holder, q.requests.into_vec()),
             None => Ok(Planned::Ready(Effect::Nothing)),
         },
-        Request::GetInvocation(_) => Ok(Planned::Ready(Effect::Nothing)),
-        Request::GetTestResult(_) => Ok(Planned::Ready(Effect::Nothing)),
-        Request::QueryTestResults(_) => Ok(Planned::Ready(Effect::Nothing)),
-        Request::QueryTestVariants(_) => Ok(Planned::Ready(Effect::Nothing)),
+        _ => Ok(Planned::Ready(Effect::Nothing)),
     }
 }

@@ -1,17 +1,5 @@
 pub mod ClearedLaws
-pub mod DecideLaws
-pub mod ChangeLaws
-pub mod MoveLaws
-pub mod StayLaws
-pub mod TableLaws
-pub mod KeptLaws
 pub mod HistoryLaws
-pub mod FinalLaws
-pub mod FinalityLaws
 pub mod UniqueLaws
-pub mod ThereLaws
-pub mod OnceLaws
 pub mod PlanLaws
 pub mod ServeLaws
-pub mod ReplayLaws
-pub mod AgainLaws

@@ -1,49 +1,35 @@
 -- What a call was planned to is what its request comes to.
-use Rattle.std.proofs.Common.{◌≡◌, ◌<◌, ℕ, suc, ℤ, List, [], ◌∷◌, length, Option, Some, None, refl, sym, ap, ◌∙◌, subst, inl, inr, arith}
-use Rattle.std.specs.Prelude.{◌==◌, ◌≢◌, IfSome, min, slice_get}
-use Rattle.std.proofs.lemmas.Bool.{cases_Bool, cond-false, cond-true, eqb-false}
-use Rattle.std.proofs.lemmas.List.{length-map}
+use Rattle.std.proofs.Common.{◌≡◌, ◌<◌, ℕ, ℤ, List, Option, Some, None, refl, sym, ap, ◌∙◌, subst, inr}
+use Rattle.std.specs.Prelude.{IfSome}
 use Rattle.std.proofs.lemmas.Option.{same_Some}
-use Rattle.names_realms.specs.declared.pairs.Pair.{Pair}
-use Rattle.names_realms.specs.declared.states.State.{State}
-use Rattle.names_realms.specs.declared.states.State.TheVariants.{Active, Finalizing, Finalized}
-use Rattle.invocations.specs.declared.invocation.Invocation.{Invocation}
-use Rattle.invocations.specs.Rows.{states_of}
 use Rattle.kept_replies.specs.declared.reply.KeptReply.{KeptReply}
 use Rattle.test_results.specs.declared.exoneration.TestExoneration.{TestExoneration}
 use Rattle.test_results.specs.declared.result.TestResult.{TestResult}
-use Rattle.test_results.specs.Batches as results
-use Rattle.test_results.specs.Exonerations as exonerations
 use Rattle.call_forms.specs.declared.asked.Asked.{Asked}
 use Rattle.call_forms.specs.declared.forms.Answer.{Answer}
 use Rattle.message_forms.specs.declared.requests.Request.{Request}
-use Rattle.message_forms.specs.declared.requests.Request.TheVariants as asks
 use Rattle.invocation_world.specs.World.{World}
-use Rattle.invocation_world.specs.Changes.{is_update}
 use Rattle.invocation_world.proofs.ValidFacts.{valid_settles}
 use Rattle.request_rules.specs.Demands.{demand_of}
 use Rattle.request_rules.specs.Settings.{Settings, caller_name}
-use Rattle.request_rules.specs.Named.{place_named, place_of_result}
-use Rattle.request_rules.proofs.PlaceLaws.{place-within}
 use Rattle.service_effects.specs.declared.effect.Effect.{Effect}
 use Rattle.service_effects.specs.declared.effect.Effect.TheVariants as does
-use Rattle.request_effects.specs.declared.shows.Showing.{Showing}
-use Rattle.request_effects.specs.Answers.{Answers, Fits as ShowsFit}
-use Rattle.names_realms.specs.declared.result_names.ResultName.{ResultName}
-use Rattle.query_forms.specs.Sizes.{counted}
-use Rattle.request_effects.proofs.PlaceFacts.{places_within}
-use Rattle.request_rules.proofs.ResultPlaces.{result_stands}
+use Rattle.request_effects.specs.Answers.{Answers}
 use Rattle.service_effects.specs.Effects.{Makes}
-use Rattle.request_effects.specs.Effects.{effect_of, end_at, end_of, exonerations_at, results_at, update_at, update_of}
 use Rattle.service_effects.specs.Fitting.{IsTimely}
-use Rattle.request_effects.specs.Foreseen.{IsHere, IsOwn}
+use Rattle.service_effects.specs.Fitting as effects
+use Rattle.service_effects.specs.Planned.{refusal_of}
+use Rattle.service_effects.specs.Refused.{EffectRefused, IsUnrefused}
+use Rattle.service_effects.specs.declared.faults.EffectFault.{EffectFault}
+use Rattle.request_effects.specs.Effects.{effect_of}
 use Rattle.request_effects.specs.Keeps.{kept_of, numbered_of, with_kept}
-use Rattle.request_effects.specs.Shows.{shows_exonerations, shows_of, shows_result, shows_results, shows_row}
+use Rattle.request_effects.specs.Shows.{shows_of}
 use Rattle.service_effects.proofs.EffectLaws.{effects_change}
 use Rattle.service_effects.proofs.RefusedLaws.{unrefused}
 use Rattle.request_effects.proofs.KeepLaws.{nothing_kept}
 use Rattle.service_core.specs.declared.plan.Prepared.{Prepared}
 use Rattle.service_core.specs.declared.plan.Prepared.TheVariants as prepared
+use Rattle.service_core.specs.Again.{Again, IsDoneBy, IsPreparedAgain}
 use Rattle.service_core.specs.CoreState.{CoreState, IsRoomier, PlanState, world_in}
 use Rattle.service_core.specs.Planning.{ComesTo}
 use Rattle.service_core.specs.Plans.{CanKeep, Carries, Fits, IsPlanOf, IsPrepared}
@@ -171,84 +157,24 @@ answers_as s core moment asked p plan p_is prepared none =
     let is = (subst (IsPrepared s core moment asked) p_is prepared).0 in
     let no : Some is.answer ≡ None = sym is.answer_is ∙ none in cc
 
--- ---- what a request shows is what its effect is about
+-- what is planned to be done again is prepared
+pub prepared_so : (mid new : CoreState) (a : Again) (effect : Effect) (p : Option PlanState) → IsRoomier mid new → effect ≡ a.effect
+    → effects.Fits mid.held a.moment effect → IsDoneBy new (record a { effect = effect }) p → IsPreparedAgain new a p
+prepared_so mid new a effect None roomier is fits done = λ free. sym is ∙ done
+prepared_so mid new a effect (Some plan) roomier is fits done =
+    let room : IsUnrefused (recorded_in mid.held) effect = unrefused mid.held a.moment effect fits.suits fits.room in (
+      subst (IsUnrefused (recorded_in new.held)) is
+          (subst (λ (w : Recorded). IsUnrefused w effect) (sym (same_recorded mid.held new.held roomier.held)) room),
+      subst (λ (e : Effect). IsDoneBy new (record a { effect = e }) (Some plan)) is done,
+    )
 
-update_own : (w : World) (deadline : Option ℤ) (tags : Option (List Pair)) (p : ℕ) (o : Option Invocation) → p < length w.invocations
-    → IsHere w (update_of deadline tags p o) p
-update_own w deadline tags p None low = low
-update_own w deadline tags p (Some row) low =
-    elim (cases_Bool (is_update deadline tags row)) [
-      | inl yes_ ↦ subst (λ (e : Effect). IsHere w e p) (sym (cond-true (is_update deadline tags row) (does.Update p deadline tags) does.Nothing yes_)) refl
-      | inr no_ ↦ subst (λ (e : Effect). IsHere w e p) (sym (cond-false (is_update deadline tags row) (does.Update p deadline tags) does.Nothing no_)) low
-    ]
-
-end_own : (w : World) (p : ℕ) (o : Option State) → p < length w.invocations → IsHere w (end_of p o) p
-end_own w p None low = low
-end_own w p (Some Active) low = refl
-end_own w p (Some Finalizing) low = low
-end_own w p (Some Finalized) low = low
-
--- of a row that is found
-found_own : (w : Recorded) (effect : Option ℕ → Effect) (o : Option ℕ) → ((p : ℕ) → o ≡ Some p → IsHere w.rows (effect (Some p)) p)
-    → IsOwn w (effect o) (shows_row o)
-found_own w effect None here = tt
-found_own w effect (Some p) here = here p refl
-
--- of a batch: it shows the rows that it adds
-results_own : (w : Recorded) (o : Option ℕ) (rows : List TestResult) → IsOwn w (results_at o rows) (shows_results w o (length rows))
-results_own w None rows = tt
-results_own w (Some holder) rows = (results.given holder rows, refl, (refl, sym (length-map rows (results.with_holder holder))))
-
-pub length_given : (holder before : ℕ) (rows : List TestExoneration) → length rows ≡ length (exonerations.given holder before rows)
-length_given holder before [] = refl
-length_given holder before (row ∷ rows) = ap suc (length_given holder (suc before) rows)
-
-exonerations_own : (w : Recorded) (o : Option ℕ) (rows : List TestExoneration)
-    → IsOwn w (exonerations_at w.exonerations o rows) (shows_exonerations w o (length rows))
-exonerations_own w None rows = tt
-exonerations_own w (Some holder) rows =
-    let before : ℕ = length (exonerations.places_in w.exonerations holder) in
-    (exonerations.given holder before rows, refl, (refl, length_given holder before rows))
-
--- a size that counts is one at least
-counted_some : (unsaid most size : ℕ) → 0 < unsaid → 0 < most → 0 < counted unsaid most size
-counted_some unsaid most size some many =
-    elim (cases_Bool (size == 0)) [
-      | inl none ↦ subst (λ (n : ℕ). 0 < n) (sym (cond-true (size == 0) unsaid (min size most) none)) some
-      | inr said ↦
-          let other : size ≢ 0 = eqb-false size 0 said in
-          subst (λ (n : ℕ). 0 < n) (sym (cond-false (size == 0) unsaid (min size most) said)) (omega arith)
-    ]
-
--- a result that is named is there
-result_fits : (w : Recorded) (name : ResultName) (o : Option ℕ) → place_of_result w.rows.invocations w.results name ≡ o
-    → ShowsFit w does.Nothing (shows_result o)
-result_fits w name None e = tt
-result_fits w name (Some place) e = (refl, result_stands w.rows.invocations w.results name place e)
-
-shown_own : (w : Recorded) (moment : ℤ) (name : List ℕ) (request : Request) → ShowsFit w (effect_of w moment name request) (shows_of w request)
-shown_own w moment name (asks.CreateInvocation q) = refl
-shown_own w moment name (asks.UpdateInvocation q) =
-    found_own w (update_at w.rows.invocations q.deadline q.tags) (place_named w.rows.invocations q.id)
-    (λ p at. update_own w.rows q.deadline q.tags p (slice_get w.rows.invocations p) (place-within w.rows.invocations q.id p at))
-shown_own w moment name (asks.FinalizeInvocation q) =
-    found_own w (end_at w.rows.invocations) (place_named w.rows.invocations q.id)
-    (λ p at. end_own w.rows p (slice_get (states_of w.rows.invocations) p) (place-within w.rows.invocations q.id p at))
-shown_own w moment name (asks.UpdateIncludedInvocations q) = tt
-shown_own w moment name (asks.BatchCreateTestResults q) = results_own w (place_named w.rows.invocations q.invocation) q.requests
-shown_own w moment name (asks.BatchCreateTestExonerations q) = exonerations_own w (place_named w.rows.invocations q.invocation) q.requests
-shown_own w moment name (asks.GetInvocation q) =
-    found_own w (λ o. does.Nothing) (place_named w.rows.invocations q.id) (λ p at. place-within w.rows.invocations q.id p at)
-shown_own w moment name (asks.GetTestResult q) =
-    result_fits w q.name (place_of_result w.rows.invocations w.results q.name) refl
-shown_own w moment name (asks.QueryTestResults q) =
-    (refl, (places_within w.rows.invocations q.invocations, counted_some 100 1_000 q.page_size (omega arith) (omega arith)))
-shown_own w moment name (asks.QueryTestVariants q) =
-    (refl, (places_within w.rows.invocations q.invocations, counted_some 100 10_000 q.page_size (omega arith) (omega arith)))
-
-pub own_as : (old new : Recorded) (moment : ℤ) (name : List ℕ) (request : Request) (effect : Effect) (shows : Showing) → new ≡ old
-    → effect ≡ effect_of old moment name request → shows ≡ shows_of old request → ShowsFit new effect shows
-own_as old new moment name request effect shows same effect_is shows_are =
-    subst (λ (w : Recorded). ShowsFit w effect shows) (sym same)
-    (subst (λ (e : Effect). ShowsFit old e shows) (sym effect_is)
-    (subst (ShowsFit old (effect_of old moment name request)) (sym shows_are) (shown_own old moment name request)))
+-- and what is refused isn't
+pub never_unrefused : (self inside core : CoreState) (held : Tables) (moment : ℤ) (name : List ℕ) (request : Request) (fault : EffectFault)
+    → self.held ≡ held → inside ≡ core
+    → EffectRefused (recorded_in held) (effect_of (recorded_in inside.held) moment name request) (refusal_of fault)
+    → IsUnrefused (recorded_in self.held) (effect_of (recorded_in core.held) moment name request) → ⊥
+never_unrefused self inside core held moment name request fault is same refused free =
+    free (refusal_of fault)
+    (subst (λ (k : CoreState). EffectRefused (recorded_in self.held) (effect_of (recorded_in k.held) moment name request) (refusal_of fault)) same
+    (subst (λ (t : Tables). EffectRefused (recorded_in t) (effect_of (recorded_in inside.held) moment name request) (refusal_of fault)) (sym is)
+    refused))

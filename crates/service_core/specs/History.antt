@@ -46,7 +46,7 @@ pub record IsUnavailable (s : Settings) (w : ServiceWorld) (e : Entry) (after : 
 
 -- What the call of an entry may be told, and the world after it. Want of memory changes nothing but
 -- due deadlines, and so does a failure of the disk, which is told only where there is something to
--- record. As there is no turn to wait for, no call is told Spent.
+-- record. A call that is told Spent, since no turn is left, has no entry.
 abbrev pub Tells : Settings → ServiceWorld → Entry → Told → ServiceWorld → Type 0
 Tells s w e (Made answer) after = Step s w e.moment e.asked after answer
 Tells s w e (Instead Memory) after = DoesNoMore w e.moment after

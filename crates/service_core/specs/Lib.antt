@@ -3,10 +3,8 @@ pub mod Step
 pub mod History
 pub mod CoreState
 pub mod Plans
-pub mod Finality
+pub mod Again
 pub mod Laws
 pub mod Judged
 pub mod Planning
-pub mod Replay
-pub mod Replaying
 pub mod Counting

@@ -11,12 +11,14 @@ ghost use Rattle.request_effects.specs.Keeps.{kept_of};
 ghost use Rattle.request_effects.specs.Planned.{IsSafe};
 ghost use Rattle.request_effects.specs.Shows.{shows_of};
 ghost use Rattle.service_effects.specs.States.{recorded_in};
+ghost use Rattle.service_core.specs.Again.{IsDoneBy, IsFreeFor, IsPreparedAgain, again_of};
 ghost use Rattle.service_core.specs.CoreState.{IsRoomier};
 ghost use Rattle.service_core.specs.Planning.{ComesTo, IsShown};
 
 use crate::plan::{Plan, Prepared, Work};
 use crate::serving::Core;
 use kept_replies::Ready;
+use message_forms::Request;
 use names_realms::Moment;
 use permissions::Policy;
 use query_pages::Asker;
@@ -151,5 +153,63 @@ impl Core {
             shows: &shows,
         };
         self.plan_found(alloc, policy, moment, call, &found)
+    }
+
+    /// The plan that does again what has this effect, for which there is room; none where it does
+    /// nothing. `Err` where there is no memory.
+    fn plan_again(
+        &mut self,
+        alloc: Global,
+        context: &Context,
+        numbered: Option<Numbered>,
+        effect: Effect,
+    ) -> Result<Option<Plan>, AllocError>
+        requires fits { Fits self.old.held context.now.moment effect }
+        requires free { IsFreeFor self.old.keeps.kept context.now.name.now numbered }
+        ensures roomier { IsRoomier self.old self.new }
+        ensures done { IfOk result (IsDoneBy self.new (record {
+          moment = context.now.moment;
+          name = context.now.name.now;
+          numbered = numbered;
+          effect = effect;
+        })) }
+    {
+        if effect.is_nothing() {
+            return Ok(None);
+        }
+        let keep = self.ready(alloc, context.name, numbered, &effect)?;
+        let work = Work::Change(Change {
+            moment: context.moment,
+            effect,
+        });
+        Ok(Some(Plan::new(work, keep, None, self.changes)))
+    }
+
+    /// The plan that does again what a request does that was accepted before, by its caller's name
+    /// and where the invocations stand that it names. It gives no answer. There is none where what
+    /// the request does is refused, or is nothing. It takes all the memory that the change needs,
+    /// and changes nothing yet. `Err` where there is no memory.
+    pub fn prepare_again(
+        &mut self,
+        alloc: Global,
+        context: &Context,
+        numbered: Option<Numbered>,
+        request: Request,
+    ) -> Result<Option<Plan>, AllocError>
+        requires timely { IsTimely self.old.held.world.world context.now.moment }
+        requires safe { IsSafe self.old.held.world.world context.now.moment context.now.name.now
+            request }
+        requires places { context.now.located.now
+            ≡ located self.old.held.world.world.invocations self.old.held.results.rows
+            (demand_of request) }
+        requires free { IsFreeFor self.old.keeps.kept context.now.name.now numbered }
+        ensures roomier { IsRoomier self.old self.new }
+        ensures prepared { IfOk result (IsPreparedAgain self.new (again_of self.old
+            context.now.moment context.now.name.now numbered request)) }
+    {
+        match plan_change(alloc, &mut self.tables, context, request)? {
+            Planned::Refused(_) => Ok(None),
+            Planned::Ready(effect) => self.plan_again(alloc, context, numbered, effect),
+        }
     }
 }

@@ -85,6 +85,20 @@ impl Core {
         self.tables.world.rows()
     }
 
+    /// What is recorded, in memory.
+    pub fn tables(&self) -> &Tables
+        ensures { result.now ≡ self.now.held }
+    {
+        &self.tables
+    }
+
+    /// What is kept of numbered requests.
+    pub fn kept(&self) -> &KeptReplies
+        ensures { result.now ≡ self.now.keeps }
+    {
+        &self.kept
+    }
+
     /// The moment of a call: what the clock says, in microseconds since 1970, brought into
     /// 1970-01-01T00:00:00Z to 9999-01-01T00:00:00Z, and no earlier than the last change.
     pub fn moment_of(&self, now: i64) -> Moment

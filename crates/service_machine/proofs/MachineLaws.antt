@@ -2,7 +2,7 @@
 use Rattle.std.proofs.Common.{subst}
 use Rattle.service_core.specs.CoreState.{world_in}
 use Rattle.service_core.specs.Plans.{Carries}
-use Rattle.service_core.proofs.ReplayLaws.{one_replay}
+use Rattle.service_replay.proofs.ReplayLaws.{one_replay}
 use Rattle.service_machine.specs.Leading.{carries_there, one_way}
 use Rattle.service_machine.specs.Laws.{ReplayedIsCarried, ReplaysAreAlone}
 

@@ -15,11 +15,11 @@ use Rattle.service_effects.proofs.EffectLaws.{effects_change}
 use Rattle.service_core.specs.declared.plan.Work.TheVariants.{Tick}
 use Rattle.service_core.specs.CoreState.{CoreState, PlanState, world_in}
 use Rattle.service_core.specs.Plans.{Carries, Fits, IsPlanOf}
-use Rattle.service_core.specs.Replay.{IsKindOf, IsRecorded, Replays, command_of}
+use Rattle.service_replay.specs.Replay.{IsKindOf, IsRecorded, Replays, command_of}
 use Rattle.service_core.specs.Step.{effect_for}
 use Rattle.service_core.proofs.ClearedLaws.{accepted_suits}
 use Rattle.service_core.proofs.PlanLaws.{kept_same}
-use Rattle.service_core.proofs.ReplayLaws.{kind_is_there, recorded_is_replayed, tick_is_replayed}
+use Rattle.service_replay.proofs.ReplayLaws.{kind_is_there, recorded_is_replayed, tick_is_replayed}
 use Rattle.service_core.proofs.ServeLaws.{ticked as ticked_so}
 use Rattle.service_core.proofs.UniqueLaws.{same_parts}
 use Rattle.service_machine.specs.Machines.{IsCommandOf, IsFit}

@@ -3,7 +3,7 @@ use Rattle.std.specs.Prelude.{ℕ, List}
 use Rattle.service_effects.specs.Service.{ServiceWorld}
 use Rattle.service_core.specs.CoreState.{CoreState, world_in}
 use Rattle.service_core.specs.Plans.{Carries}
-use Rattle.service_core.specs.Replay.{Replays}
+use Rattle.service_replay.specs.Replay.{Replays}
 use Rattle.service_machine.specs.Machines.{IsFit, Plays, RecordedState}
 
 -- The world to which the command of a plan that fits leads is the one that the plan makes.

@@ -7,7 +7,7 @@ use Rattle.request_rules.specs.Settings.{Settings, caller_name, caller_of}
 use Rattle.service_effects.specs.Service.{ServiceWorld}
 use Rattle.service_core.specs.CoreState.{CoreState, PlanState, world_in}
 use Rattle.service_core.specs.Plans.{Carries, Fits}
-use Rattle.service_core.specs.Replay.{IsKindOf, Replays, command_of}
+use Rattle.service_replay.specs.Replay.{IsKindOf, Replays, command_of}
 
 -- A plan, and its command.
 pub record RecordedState : Type 0 where

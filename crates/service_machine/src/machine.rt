@@ -2,7 +2,8 @@
 use crate::plans::RecordedPlan;
 use call_forms::Answer;
 use journal_book::{Machine, ReplayFault};
-use service_core::{Core, ReplayFault as Fault};
+use service_core::Core;
+use service_replay::{ReplayFault as Fault, replay};
 use std::alloc::Global;
 
 /// The service: its world is that of the core, and what it answers to a change is the plan's
@@ -50,7 +51,7 @@ impl Machine for ServiceMachine {
     }
 
     fn replay(&mut self, alloc: Global, command: &[u8]) -> Result<(), ReplayFault> {
-        match self.core.replay(alloc, command) {
+        match replay(alloc, &mut self.core, command) {
             Ok(()) => Ok(()),
             Err(Fault::OutOfPlace) => Err(ReplayFault::OutOfPlace),
             Err(Fault::Memory) => Err(ReplayFault::Memory),

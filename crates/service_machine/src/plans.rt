@@ -10,7 +10,7 @@ ghost use Rattle.request_rules.specs.Settings.{caller_of};
 ghost use Rattle.service_effects.specs.Fitting.{IsTimely};
 ghost use Rattle.service_core.specs.CoreState.{world_in};
 ghost use Rattle.service_core.specs.Plans.{Fits, IsPlanOf};
-ghost use Rattle.service_core.specs.Replay.{IsKindOf};
+ghost use Rattle.service_replay.specs.Replay.{IsKindOf};
 ghost use Rattle.service_core.specs.declared.plan.Work.TheVariants.{Tick};
 ghost use Rattle.service_machine.specs.Machines.{IsCommandOf, IsFit, IsTooLong};
 
@@ -20,7 +20,8 @@ use names_realms::Moment;
 use permissions::Policy;
 use recorded_calls::{RecordedCall, write_call, write_tick};
 use request_rules::caller_of;
-use service_core::{Core, Plan, kind_of};
+use service_core::{Core, Plan};
+use service_replay::kind_of;
 use std::alloc::{AllocError, Global};
 use std::marker::Model;
 

@@ -6,7 +6,8 @@ use Rattle.request_effects.specs.Planned.{IsPlanned}
 use Rattle.service_effects.specs.States.{recorded_in}
 use Rattle.request_effects.specs.Shows.{shows_of}
 use Rattle.service_core.specs.CoreState.{CoreState}
-use Rattle.service_core.proofs.PlanLaws.{own_as, same_recorded}
+use Rattle.request_effects.proofs.FitLaws.{own_as}
+use Rattle.service_core.proofs.PlanLaws.{same_recorded}
 use Rattle.service_core.proofs.serving.Core.plan_found.Goals as goal
 
 pub with_answer-requires-clause-own : goal.with_answer-requires-clause-own

@@ -4,4 +4,4 @@ use Rattle.service_machine.proofs.machine.ServiceMachineMachine.replay.Goals as 
 
 pub returns-in-Ok-clause-ok : goal.returns-in-Ok-clause-ok
 returns-in-Ok-clause-ok c =
-    replays_are_alone (world_in c.args.self.now.core) c.args.command.now (world_in c.replay.new.self) c.in-Ok.ensures.ok
+    replays_are_alone (world_in c.args.self.now.core) c.args.command.now (world_in c.replay.new.core) c.in-Ok.ensures.ok

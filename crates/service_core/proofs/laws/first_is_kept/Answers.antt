@@ -1,5 +1,0 @@
-use Rattle.service_core.proofs.OnceLaws.{first_is_kept}
-use Rattle.service_core.proofs.laws.first_is_kept.Goals as goal
-
-pub returns : goal.returns
-returns c = first_is_kept

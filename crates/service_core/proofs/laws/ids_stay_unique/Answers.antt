@@ -1,5 +1,0 @@
-use Rattle.service_core.proofs.HistoryLaws.{legal_keeps_valid}
-use Rattle.service_core.proofs.laws.ids_stay_unique.Goals as goal
-
-pub returns : goal.returns
-returns c = legal_keeps_valid

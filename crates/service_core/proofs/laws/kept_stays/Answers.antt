@@ -1,5 +1,0 @@
-use Rattle.service_core.proofs.OnceLaws.{kept_stays}
-use Rattle.service_core.proofs.laws.kept_stays.Goals as goal
-
-pub returns : goal.returns
-returns c = kept_stays

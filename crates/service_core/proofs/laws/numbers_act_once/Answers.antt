@@ -1,5 +1,0 @@
-use Rattle.service_core.proofs.OnceLaws.{numbers_act_once}
-use Rattle.service_core.proofs.laws.numbers_act_once.Goals as goal
-
-pub returns : goal.returns
-returns c = numbers_act_once

@@ -1,5 +1,0 @@
-use Rattle.service_core.proofs.TableLaws.{results_stay}
-use Rattle.service_core.proofs.laws.results_stay.Goals as goal
-
-pub returns : goal.returns
-returns c = results_stay

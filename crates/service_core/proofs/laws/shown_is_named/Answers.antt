@@ -1,5 +1,0 @@
-use Rattle.service_core.proofs.StayLaws.{shown_is_named}
-use Rattle.service_core.proofs.laws.shown_is_named.Goals as goal
-
-pub returns : goal.returns
-returns c = shown_is_named

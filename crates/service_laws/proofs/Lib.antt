@@ -1,0 +1,12 @@
+pub mod DecideLaws
+pub mod ThereLaws
+pub mod StepLaws
+pub mod ChangeLaws
+pub mod MoveLaws
+pub mod StayLaws
+pub mod TableLaws
+pub mod KeptLaws
+pub mod ValidLaws
+pub mod FinalLaws
+pub mod FinalityLaws
+pub mod OnceLaws

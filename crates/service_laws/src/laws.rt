@@ -1,0 +1,66 @@
+//! Laws of steps and histories. These functions do nothing: what each of them ensures is the law.
+ghost use Rattle.service_laws.specs.Laws.{ExonerationsStay, FinalInTime, FinalStays, FirstIsKept, HasSteps, KeptStays, LegalKeepsValid, NumbersActOnce, ResultsStay, RowsStay, ShownIsNamed, StepsAreUnique};
+
+/// Each request at a moment leads from each world to some world, with some answer.
+pub fn a_step_is_there()
+    ensures { HasSteps }
+{}
+
+/// A request at a moment leads from a world to one world alone, with one answer.
+pub fn one_step()
+    ensures { StepsAreUnique }
+{}
+
+/// No two invocations ever have one id: a history from a valid world leads to a valid one.
+pub fn ids_stay_unique()
+    ensures { LegalKeepsValid }
+{}
+
+/// A history takes no invocation away, and each stays whose it is, where, and since when.
+pub fn rows_stay()
+    ensures { RowsStay }
+{}
+
+/// It takes no test result away either: those that it adds stand behind the others.
+pub fn results_stay()
+    ensures { ResultsStay }
+{}
+
+/// Nor an exoneration.
+pub fn exonerations_stay()
+    ensures { ExonerationsStay }
+{}
+
+/// An effect leaves each invocation at its place, found by its id, and a new one after the others.
+/// So what is shown by a place is what the request names, or makes.
+pub fn shown_is_named()
+    ensures { ShownIsNamed }
+{}
+
+/// What is final stays as it is, with all that it holds and reaches, in each history from a valid
+/// world.
+pub fn final_stays()
+    ensures { FinalStays }
+{}
+
+/// In such a history each finalizing invocation becomes final with the first change after which it
+/// reaches no active one.
+pub fn final_in_time()
+    ensures { FinalInTime }
+{}
+
+/// An accepted request that has a number is kept under it, with the answer that it got.
+pub fn first_is_kept()
+    ensures { FirstIsKept }
+{}
+
+/// What is kept stays, and stands before what is kept later.
+pub fn kept_stays()
+    ensures { KeptStays }
+{}
+
+/// Each numbered request acts once: sent again, it changes nothing, and it gets the answer that was
+/// kept.
+pub fn numbers_act_once()
+    ensures { NumbersActOnce }
+{}
