@@ -1,5 +1,5 @@
 -- A clock over no calls, and over one call more.
-use Rattle.std.proofs.Common.{◌≡◌, ℕ, ℤ, List, [], ◌∷◌, ◌++◌, length, refl, sym, ap, ◌∙◌, subst, append_assoc, arith, length-append}
+use Rattle.std.proofs.Common.{◌≡◌, ℤ, List, [], ◌∷◌, ◌++◌, length, refl, sym, ap, ◌∙◌, subst, append_assoc, arith, length-append}
 use Rattle.record_desk.specs.Clocked.{IsClocked}
 
 pub clocked_nothing : (tells : List ℤ → Type 0) → IsClocked tells [] tells

@@ -1,5 +1,5 @@
 -- What a part of a call makes of the book.
-use Rattle.std.proofs.Common.{◌≡◌, ◌≢◌, ◌⊎◌, inl, inr, ℕ, ◌≤◌, ℤ, ◌≤ℤ◌, true, false, List, Option, Some, None, [], Result, Ok, Err, refl, sym, ap, subst, ◌∙◌}
+use Rattle.std.proofs.Common.{◌≡◌, ◌≢◌, ◌⊎◌, inl, inr, ℕ, ℤ, ◌≤ℤ◌, true, false, List, Option, Some, None, [], Result, Err, refl, sym, ap, subst, ◌∙◌}
 use Rattle.disks.specs.Moments.{Told as DiskTold}
 use Rattle.result_journal.specs.Journals.{is_settled, prepared}
 use Rattle.result_journal.specs.declared.journal.Journal.{Journal}

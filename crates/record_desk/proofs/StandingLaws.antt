@@ -1,5 +1,5 @@
 -- A service, its clock and its disk go on by one call.
-use Rattle.std.proofs.Common.{◌≡◌, ◌⊎◌, inl, inr, ℕ, ℤ, Bool, true, false, List, [], ◌∷◌, ◌++◌, map, Option, refl, sym, ap, subst, ◌∙◌, append_assoc}
+use Rattle.std.proofs.Common.{◌≡◌, inl, inr, ℕ, ℤ, Bool, true, false, List, [], ◌∷◌, ◌++◌, Option, refl, sym, ap, subst, ◌∙◌, append_assoc}
 use Rattle.std.proofs.lemmas.List.{map-append}
 use Rattle.std.specs.List.{AllByRecursion}
 use Rattle.disks.specs.Moments.{Told as DiskTold}
@@ -19,18 +19,15 @@ use Rattle.service_core.specs.History.{Entry, IsLegal, Leads, Serves, entry_at}
 use Rattle.service_core.specs.Service.{Service}
 use Rattle.service_core.proofs.HistoryLaws.{timed_goes_on, timed_is_legal}
 use Rattle.tellers.specs.Exchange.{Exchange}
-use Rattle.record_desk.specs.Standing.{HasBook, HasLast, HasServed, IsTried, MayStand, Moves, Rises, RoseIf, exchange_of}
+use Rattle.record_desk.specs.Standing.{GoesThrough, HasBook, HasLast, HasRecorded, HasServed, IsTried, MayStand, Rises, RoseIf, exchange_of}
 use Rattle.record_desk.specs.Recording.{KeepsBook}
 use Rattle.record_desk.proofs.ClockedLaws.{clocked_nothing, clocked_more}
 
 -- ---- nothing was asked yet
 
-moves_nowhere : (s : Service) (tells : List ℤ → Type 0) (faults : ℕ) → Moves s tells faults [] s tells faults
-moves_nowhere s tells faults = record {
-  history = [];
+goes_nowhere : (s : Service) (tells : List ℤ → Type 0) (faults : ℕ) → GoesThrough s tells faults [] s tells faults
+goes_nowhere s tells faults = record {
   answers = [];
-  exchanges_are = refl;
-  seats = tt;
   timed = refl;
   settings = refl;
   clocked = clocked_nothing tells;
@@ -38,13 +35,29 @@ moves_nowhere s tells faults = record {
 }
 
 -- a book that was opened, and in which nothing is to settle
+pub recorded_nothing : {D : Type 0} (told : D → Option DiskTold) (faults : D → ℕ) (plays : Play ServiceWorld) (s : Service)
+    (tells : List ℤ → Type 0) (journal : Journal D) (commands : List (List ℕ)) → Stands told plays empty_service s.world journal commands
+    → (is_settled journal ≡ false → ⊥) → HasRecorded told faults plays s tells journal [] s tells journal
+recorded_nothing told faults plays s tells journal commands stands settled = record {
+  goes = goes_nowhere s tells (faults (disk_of journal));
+  book = record { commands = commands; stands = stands; failed = λ unsettled. absurd (settled unsettled) };
+}
+
+pub recorded_opened : {D : Type 0} (told : D → Option DiskTold) (faults : D → ℕ) (plays : Play ServiceWorld) (s : Service)
+    (tells : List ℤ → Type 0) (journal : Journal D) (commands : List (List ℕ)) → Stands told plays empty_service s.world journal commands
+    → is_settled journal ≡ true → HasRecorded told faults plays s tells journal [] s tells journal
+recorded_opened told faults plays s tells journal commands stands settled =
+    recorded_nothing told faults plays s tells journal commands stands (λ unsettled. let no : true ≡ false = sym settled ∙ unsettled in cc)
+
 pub served_nothing : {D : Type 0} (told : D → Option DiskTold) (faults : D → ℕ) (plays : Play ServiceWorld) (s : Service)
     (tells : List ℤ → Type 0) (journal : Journal D) (commands : List (List ℕ)) → Stands told plays empty_service s.world journal commands
     → (is_settled journal ≡ false → ⊥) → HasServed told faults plays s tells journal [] s tells journal
-served_nothing told faults plays s tells journal commands stands settled = record {
-  moves = moves_nowhere s tells (faults (disk_of journal));
-  book = record { commands = commands; stands = stands; failed = λ unsettled. absurd (settled unsettled) };
-}
+served_nothing told faults plays s tells journal commands stands settled =
+    let recorded = recorded_nothing told faults plays s tells journal commands stands settled in
+    record {
+      moves = record { history = []; exchanges_are = refl; seats = tt; goes = recorded.goes };
+      book = recorded.book;
+    }
 
 -- ---- one call more
 
@@ -58,23 +71,20 @@ rises_more before [] between e after rises rose = (after, subst (λ (n : ℕ). R
 rises_more before (x ∷ h) between e after rises rose = (rises.0, rises.1, rises_more rises.0 h between e after rises.2 rose)
 
 -- one call of the clock and one of the core
-moves_more : (first now after : Service) (tf tn ta : List ℤ → Type 0) (ff fn fa : ℕ) (exchanges : List Exchange) (answer : ℤ)
+goes_on : (first now after : Service) (tf tn ta : List ℤ → Type 0) (ff fn fa : ℕ) (history : List Entry) (seat : ℕ) (answer : ℤ)
     (asked : Asked) (told : Told) (rose : Bool)
-    → Moves first tf ff exchanges now tn fn
-    → Serves first.settings now.world 0 answer asked told rose after.world → after.settings ≡ now.settings
+    → GoesThrough first tf ff history now tn fn
+    → Serves first.settings now.world seat answer asked told rose after.world → after.settings ≡ now.settings
     → ((given : ℤ) (others : List ℤ) → tn (given ∷ others) → (answer ≡ given) × ta others) → RoseIf rose fn fa
-    → Moves first tf ff (exchanges ++ record { asked = asked; told = told } ∷ []) after ta fa
-moves_more first now after tf tn ta ff fn fa exchanges answer asked told rose before leads settings clocked rises =
-    let e : Entry = entry_at now.world 0 answer asked told rose in
+    → GoesThrough first tf ff (history ++ entry_at now.world seat answer asked told rose ∷ []) after ta fa
+goes_on first now after tf tn ta ff fn fa history seat answer asked told rose before leads settings clocked rises =
+    let e : Entry = entry_at now.world seat answer asked told rose in
     record {
-      history = before.history ++ e ∷ [];
       answers = before.answers ++ answer ∷ [];
-      exchanges_are = ap (λ (es : List Exchange). es ++ exchange_of e ∷ []) before.exchanges_are ∙ sym (map-append exchange_of before.history (e ∷ []));
-      seats = all_more (λ x. x.seat ≡ 0) before.history e before.seats refl;
-      timed = timed_goes_on first.settings first.world before.history before.answers now.world e answer after.world before.timed leads refl;
+      timed = timed_goes_on first.settings first.world history before.answers now.world e answer after.world before.timed leads refl;
       settings = settings ∙ before.settings;
       clocked = clocked_more tf tn ta before.answers answer before.clocked clocked;
-      rises = rises_more ff before.history fn e fa before.rises rises;
+      rises = rises_more ff history fn e fa before.rises rises;
     }
 
 -- what may stand may stand still where an entry left the world
@@ -122,35 +132,66 @@ failed_more told plays s first h w old e after new book legal leads keeps unsett
       | inr new_one ↦ stands_new s first h w after next e legal leads new_one.0 new_one.1
     ]
 
-pub served_more : {D : Type 0} (told : D → Option DiskTold) (faults : D → ℕ) (plays : Play ServiceWorld) (first now after : Service)
-    (tf tn ta : List ℤ → Type 0) (start old new : Journal D) (exchanges : List Exchange) (answer : ℤ) (asked : Asked) (answered : Told) (rose : Bool)
-    → HasServed told faults plays first tf start exchanges now tn old
-    → Serves now.settings now.world 0 answer asked answered rose after.world → after.settings ≡ now.settings
+-- what was known of a book goes on by the entry of one call
+pub recorded_more : {D : Type 0} (told : D → Option DiskTold) (faults : D → ℕ) (plays : Play ServiceWorld) (first now after : Service)
+    (tf tn ta : List ℤ → Type 0) (start old new : Journal D) (history : List Entry) (seat : ℕ) (answer : ℤ) (asked : Asked) (answered : Told)
+    (rose : Bool) (s : Settings) → s ≡ now.settings
+    → HasRecorded told faults plays first tf start history now tn old
+    → Serves s now.world seat answer asked answered rose after.world → after.settings ≡ now.settings
     → ((given : ℤ) (others : List ℤ) → tn (given ∷ others) → (answer ≡ given) × ta others)
     → RoseIf rose (faults (disk_of old)) (faults (disk_of new))
     → KeepsBook told plays now.world old
-    (λ next. (answered ≡ Instead Unavailable) × IsTried now.settings now.world (entry_at now.world 0 answer asked answered rose) next)
+    (λ next. (answered ≡ Instead Unavailable) × IsTried s now.world (entry_at now.world seat answer asked answered rose) next)
     after.world new
-    → HasServed told faults plays first tf start (exchanges ++ record { asked = asked; told = answered } ∷ []) after ta new
-unfolding moves_more
-served_more {D} told faults plays first now after tf tn ta start old new exchanges answer asked answered rose served serves settings clocked rises keeps =
-    let moves = served.moves in
-    let e : Entry = entry_at now.world 0 answer asked answered rose in
+    → HasRecorded told faults plays first tf start (history ++ entry_at now.world seat answer asked answered rose ∷ []) after ta new
+recorded_more {D} told faults plays first now after tf tn ta start old new history seat answer asked answered rose s here recorded serves settings clocked
+    rises keeps =
+    let goes = recorded.goes in
+    let same : s ≡ first.settings = here ∙ goes.settings in
+    let e : Entry = entry_at now.world seat answer asked answered rose in
     let leads : Leads first.settings now.world e after.world =
-    subst (λ (s : Settings). Leads s now.world e after.world) moves.settings serves in
+    subst (λ (t : Settings). Leads t now.world e after.world) same serves in
     let kept : KeepsBook told plays now.world old (λ next. (answered ≡ Instead Unavailable) × IsTried first.settings now.world e next) after.world new =
-    subst (λ (s : Settings). KeepsBook told plays now.world old (λ next. (answered ≡ Instead Unavailable) × IsTried s now.world e next) after.world new)
-    moves.settings keeps in
-    let legal = timed_is_legal first.settings first.world moves.history moves.answers now.world moves.timed in
-    let stood = kept.stands served.book.commands served.book.stands in
+    subst (λ (t : Settings). KeepsBook told plays now.world old (λ next. (answered ≡ Instead Unavailable) × IsTried t now.world e next) after.world new)
+    same keeps in
+    let legal = timed_is_legal first.settings first.world history goes.answers now.world goes.timed in
+    let stood = kept.stands recorded.book.commands recorded.book.stands in
     record {
-      moves = moves_more first now after tf tn ta (faults (disk_of start)) (faults (disk_of old)) (faults (disk_of new)) exchanges answer asked answered
-          rose moves leads settings clocked rises;
+      goes = goes_on first now after tf tn ta (faults (disk_of start)) (faults (disk_of old)) (faults (disk_of new)) history seat answer asked answered
+          rose goes leads settings clocked rises;
       book = record {
         commands = stood.0;
         stands = stood.1;
-        failed = failed_more told plays first.settings first.world moves.history now.world old e after.world new served.book legal leads kept;
+        failed = failed_more told plays first.settings first.world history now.world old e after.world new recorded.book legal leads kept;
       };
+    }
+
+-- one exchange more of one seat
+pub served_more : {D : Type 0} (told : D → Option DiskTold) (faults : D → ℕ) (plays : Play ServiceWorld) (first now after : Service)
+    (tf tn ta : List ℤ → Type 0) (start old new : Journal D) (exchanges : List Exchange) (answer : ℤ) (asked : Asked) (answered : Told) (rose : Bool)
+    (s : Settings) → s ≡ now.settings
+    → HasServed told faults plays first tf start exchanges now tn old
+    → Serves s now.world 0 answer asked answered rose after.world → after.settings ≡ now.settings
+    → ((given : ℤ) (others : List ℤ) → tn (given ∷ others) → (answer ≡ given) × ta others)
+    → RoseIf rose (faults (disk_of old)) (faults (disk_of new))
+    → KeepsBook told plays now.world old
+    (λ next. (answered ≡ Instead Unavailable) × IsTried s now.world (entry_at now.world 0 answer asked answered rose) next)
+    after.world new
+    → HasServed told faults plays first tf start (exchanges ++ record { asked = asked; told = answered } ∷ []) after ta new
+served_more {D} told faults plays first now after tf tn ta start old new exchanges answer asked answered rose s here served serves settings clocked rises
+    keeps =
+    let moves = served.moves in
+    let e : Entry = entry_at now.world 0 answer asked answered rose in
+    let recorded = recorded_more told faults plays first now after tf tn ta start old new moves.history 0 answer asked answered rose s here
+    (record { goes = moves.goes; book = served.book }) serves settings clocked rises keeps in
+    record {
+      moves = record {
+        history = moves.history ++ e ∷ [];
+        exchanges_are = ap (λ (es : List Exchange). es ++ exchange_of e ∷ []) moves.exchanges_are ∙ sym (map-append exchange_of moves.history (e ∷ []));
+        seats = all_more (λ x. x.seat ≡ 0) moves.history e moves.seats refl;
+        goes = recorded.goes;
+      };
+      book = recorded.book;
     }
 
 -- ---- what a crash leaves

@@ -1,5 +1,5 @@
 -- The answers of a clock over several calls.
-use Rattle.std.specs.Prelude.{◌≡◌, ℕ, ℤ, List, ◌++◌, length}
+use Rattle.std.specs.Prelude.{◌≡◌, ℤ, List, ◌++◌, length}
 
 -- A clock that told these answers at the start gave them, and tells the others now.
 abbrev pub IsClocked : (List ℤ → Type 0) → List ℤ → (List ℤ → Type 0) → Type 0

@@ -16,7 +16,6 @@ use Rattle.call_forms.specs.declared.forms.Told.TheVariants.{Made, Standin as In
 use Rattle.request_rules.specs.Settings.{Settings}
 use Rattle.service_effects.specs.Service.{ServiceWorld, empty_service}
 use Rattle.service_core.specs.Step.{IsTold}
-use Rattle.record_desk.specs.Standing.{RoseIf}
 
 -- What is told where a change couldn't be recorded. That a journal is full can't be told apart from
 -- want of memory yet.

@@ -35,19 +35,25 @@ Rises before [] after = after ≡ before
 Rises before (e ∷ h) after =
     (between : ℕ) × RoseIf e.rose before between × Rises between h after
 
--- From the one to the other led a history of one seat, an entry for each exchange, in order, at the
--- moments that the clock's answers make.
-pub record Moves (before : Service) (tells_before : List ℤ → Type 0) (faults_before : ℕ)
-    (exchanges : List Exchange)
+-- From the one to the other led this history, at the moments that the clock's answers make, one
+-- answer for each entry.
+pub record GoesThrough (before : Service) (tells_before : List ℤ → Type 0) (faults_before : ℕ)
+    (history : List Entry)
     (after : Service) (tells_after : List ℤ → Type 0) (faults_after : ℕ) : Type 0 where
-  pub history : List Entry
   pub answers : List ℤ
-  pub exchanges_are : exchanges ≡ map exchange_of history
-  pub seats : AllByRecursion (λ e. e.seat ≡ 0) history
   pub timed : IsTimed before.settings before.world history answers after.world
   pub settings : after.settings ≡ before.settings
   pub clocked : IsClocked tells_before answers tells_after
   pub rises : Rises faults_before history faults_after
+
+-- From the one to the other led a history of one seat, an entry for each exchange, in order.
+pub record Moves (before : Service) (tells_before : List ℤ → Type 0) (faults_before : ℕ)
+    (exchanges : List Exchange)
+    (after : Service) (tells_after : List ℤ → Type 0) (faults_after : ℕ) : Type 0 where
+  pub history : List Entry
+  pub exchanges_are : exchanges ≡ map exchange_of history
+  pub seats : AllByRecursion (λ e. e.seat ≡ 0) history
+  pub goes : GoesThrough before tells_before faults_before history after tells_after faults_after
 
 -- What there was to record of an entry leads to this world: that due deadlines are carried out, or
 -- all of its step.
@@ -90,7 +96,18 @@ HasLast plays s first history w image =
     ⊎ ((next : ServiceWorld) × HasWorld plays empty_service next image
     × MayStand s first history w next)
 
--- So a service, its clock and its journal went on, the journal having stood at the start.
+-- So a service, its clock and its journal went on by a history of any seats, the journal having
+-- stood at the start.
+pub record HasRecorded {D : Type 0} (told : D → Option Told) (faults : D → ℕ)
+    (plays : Play ServiceWorld)
+    (before : Service) (tells_before : List ℤ → Type 0) (first : Journal D)
+    (history : List Entry)
+    (after : Service) (tells_after : List ℤ → Type 0) (journal : Journal D) : Type 0 where
+  pub goes : GoesThrough before tells_before (faults (disk_of first)) history
+      after tells_after (faults (disk_of journal))
+  pub book : HasBook told plays before.settings before.world history after.world journal
+
+-- So they went on by the exchanges of one seat.
 pub record HasServed {D : Type 0} (told : D → Option Told) (faults : D → ℕ)
     (plays : Play ServiceWorld)
     (before : Service) (tells_before : List ℤ → Type 0) (first : Journal D)

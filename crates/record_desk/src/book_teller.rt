@@ -6,7 +6,7 @@ ghost use Rattle.service_machine.specs.Machines.{Plays};
 ghost use Rattle.service_core.specs.Service.{service_of};
 ghost use Rattle.record_desk.specs.Standing.{HasServed};
 
-use crate::recording::serve;
+use crate::{Inquiry, serve};
 use call_forms::{Asked, Told};
 use disks::Disk;
 use journal_book::Book;
@@ -66,6 +66,7 @@ impl<'a, D: Disk, C: Clock> Teller for BookTeller<'a, D, C> {
 
     fn tell(&mut self, asked: &Asked) -> Told {
         let now = self.clock.now();
-        serve(self.alloc, self.policy, self.book, now, asked)
+        let inquiry = Inquiry::new(self.alloc, self.policy, asked);
+        serve(self.alloc, self.book, now, inquiry)
     }
 }

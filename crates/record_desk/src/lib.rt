@@ -2,6 +2,9 @@
 #![tactic(auto)]
 
 mod book_teller;
+mod inquiry;
 mod recording;
 
 pub use book_teller::BookTeller;
+pub use inquiry::Inquiry;
+pub use recording::serve;

@@ -17,12 +17,13 @@ ghost use Rattle.record_desk.specs.Standing.{IsTried, RoseIf};
 ghost use Rattle.record_desk.specs.Recording.{IsToldBy, KeepsBook, StandsFromNothing};
 ghost use Rattle.record_desk.specs.Recording.{has_failed, is_unavailable, standin_of};
 
-use call_forms::{Answer, Asked, Standin, Told};
+use crate::Inquiry;
+use call_forms::{Answer, Standin, Told};
 use disks::Disk;
 use journal_book::{Book, RecordFault};
 use names_realms::Moment;
 use permissions::Policy;
-use request_rules::{Understood, understand};
+use request_rules::Understood;
 use service_core::{Plan, Prepared};
 use service_machine::{RecordedPlan, ServiceMachine, Wanted};
 use std::alloc::{AllocError, Global};
@@ -185,28 +186,33 @@ fn answer<D: Disk>(
 ///
 /// Where there is no memory for that, or the disk fails, the stand-in for it is told, and nothing
 /// but due deadlines is carried out.
-pub(crate) fn serve<D: Disk>(
+pub fn serve<D: Disk>(
     alloc: Global,
-    policy: &Policy,
     book: &mut Book<ServiceMachine, D>,
     now: i64,
-    asked: &Asked,
+    inquiry: Inquiry,
 ) -> Told
-    requires { StandsFromNothing D.told Plays (world_in book.old.machine.core)
+    requires stands { StandsFromNothing D.told Plays (world_in book.old.machine.core)
         book.old.journal }
-    ensures serves { (seat : ℕ) → Serves (record { policy = policy.now })
-        (world_in book.old.machine.core) seat now asked.now result (is_unavailable result)
-        (world_in book.new.machine.core) }
+    requires understood { IfOk inquiry.understood (IsUnderstood
+        (record { policy = inquiry.policy.now }) inquiry.asked.now) }
+    ensures serves { (seat : ℕ) → Serves (record { policy = inquiry.entry.policy.now })
+        (world_in book.old.machine.core) seat now inquiry.entry.asked.now result
+        (is_unavailable result) (world_in book.new.machine.core) }
     ensures keeps { (seat : ℕ) → KeepsBook D.told Plays (world_in book.old.machine.core)
         book.old.journal (λ next. (result ≡ Told.Standin Standin.Unavailable)
-        × IsTried (record { policy = policy.now }) (world_in book.old.machine.core)
-        (entry_at (world_in book.old.machine.core) seat now asked.now result
+        × IsTried (record { policy = inquiry.entry.policy.now }) (world_in book.old.machine.core)
+        (entry_at (world_in book.old.machine.core) seat now inquiry.entry.asked.now result
         (is_unavailable result)) next)
         (world_in book.new.machine.core) book.new.journal }
     ensures rose { RoseIf (is_unavailable result) (D.faults (disk_of book.old.journal))
         (D.faults (disk_of book.new.journal)) }
 {
-    let understood = understand(alloc, policy, asked);
+    let Inquiry {
+        policy,
+        asked,
+        understood,
+    } = inquiry;
     let moment = book.machine.core.moment_of(now);
     match catch_up(alloc, book, moment) {
         Ok(()) => {

@@ -37,15 +37,18 @@ pub trait Call<T: Held>: Drop {
     /// What the caller is told.
     type Answer;
 
+    // The call fits a value whose history begins with this start.
+    ghost suits: { Self → T.Start → Type 0 };
+
     // The call may add this entry to these entries, with this answer.
     ghost may: { Self → List T.Entry → T.Entry → Self.Answer → Type 0 };
 
     /// Does it, in the turn of the seat with this number.
     fn run(self, held: &mut T, seat_number: u64) -> Self::Answer
         requires { (start : T.Start) × (log : List T.Entry)
-            × T.stands held.old start log × (length log < 2 ^ 63) }
+            × suits self start × T.stands held.old start log × (length log < 2 ^ 63) }
         ensures { (start : T.Start) (log : List T.Entry)
-            → T.stands held.old start log → length log < 2 ^ 63
+            → suits self start → T.stands held.old start log → length log < 2 ^ 63
             → (e : T.Entry) × T.stands held.new start (log ++ e ∷ [])
             × (T.by e ≡ seat_number) × may self log e result };
 }

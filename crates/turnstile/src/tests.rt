@@ -39,6 +39,8 @@ struct Next;
 impl Call<Tally> for Next {
     type Answer = u64;
 
+    ghost suits = { λ call start. Unit {0} };
+
     ghost may = { λ call log e answer. answer ≡ length log };
 
     fn run(self, held: &mut Tally, _seat_number: u64) -> u64 {

@@ -79,6 +79,7 @@ pub(crate) fn serve<T: Held, Q: Call<T>>(
         × (place.old.me ≡ (holding ticket (own_of place.old.me.0), (0, Some v) ∷ []))
         × T.stands v (T.start board.now.shared.key.value) (own_of place.old.me.0).seen }
     requires number { (own_of place.old.me.0).number ≡ number }
+    requires suits { Q.suits call (T.start board.now.shared.key.value) }
     requires room { length (own_of place.old.me.0).seen < 2 ^ 63 }
     ensures table { place.new.table_id ≡ place.old.table_id }
     ensures turn { let own : Known T.Entry = own_of place.old.me.0 in (e : T.Entry)

@@ -66,7 +66,8 @@ impl<T: Held> Turnstile<T> {
         seat: &mut Seat<T>,
         call: Q,
     ) -> Result<Q::Answer, Spent>
-        requires { seat.old.table ≡ self.now.table }
+        requires own { seat.old.table ≡ self.now.table }
+        requires suits { Q.suits call self.now.start }
         ensures own { seat.new.table ≡ seat.old.table }
         ensures seat { SameSeat seat.old.knows seat.new.knows }
         ensures turn { IfOk result (λ a. TakesTurn T.by

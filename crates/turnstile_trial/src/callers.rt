@@ -58,6 +58,8 @@ struct AddOne<'a, R: Clock> {
 impl<R: Clock> Call<Tally> for AddOne<'_, R> {
     type Answer = u64;
 
+    ghost suits = { λ call start. Unit {0} };
+
     ghost may = { λ call log e answer. answer ≡ length log };
 
     fn run(self, held: &mut Tally, _seat_number: u64) -> u64 {

@@ -1,4 +1,4 @@
-use Rattle.std.proofs.Common.{◌≡◌, subst, Ok, Err}
+use Rattle.std.proofs.Common.{◌≡◌, subst}
 use Rattle.call_forms.specs.declared.forms.Answer.{Answer}
 use Rattle.call_forms.specs.declared.forms.Standin.TheVariants.{Unavailable}
 use Rattle.call_forms.specs.declared.forms.Told.TheVariants.{Standin as Instead}

@@ -1,4 +1,4 @@
-use Rattle.std.proofs.Common.{◌≡◌, Option, ap, Ok, Err, rules}
+use Rattle.std.proofs.Common.{Option, ap, rules}
 use Rattle.std.proofs.lemmas.Result.{err_from_is_err_and}
 use Rattle.call_forms.specs.declared.forms.Answer.{Answer}
 use Rattle.invocation_world.specs.Advancing.{IsDueAt}

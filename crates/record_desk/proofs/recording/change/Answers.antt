@@ -1,4 +1,4 @@
-use Rattle.std.proofs.Common.{◌≡◌, ap, subst, ◌∙◌, Option, Ok, Err}
+use Rattle.std.proofs.Common.{ap, subst, ◌∙◌, Option}
 use Rattle.call_forms.specs.declared.forms.Answer.{Answer}
 use Rattle.request_rules.specs.Settings.{Settings}
 use Rattle.service_core.specs.CoreState.{PlanState, world_in}

@@ -1,4 +1,4 @@
-use Rattle.std.proofs.Common.{◌≡◌, Option, ap, sym, ◌∙◌, Ok, Err}
+use Rattle.std.proofs.Common.{Option, ap, ◌∙◌, Err}
 use Rattle.call_forms.specs.declared.forms.Answer.{Answer}
 use Rattle.service_core.specs.CoreState.{world_in}
 use Rattle.service_machine.specs.Machines.{Plays}

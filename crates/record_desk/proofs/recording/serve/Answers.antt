@@ -1,4 +1,4 @@
-use Rattle.std.proofs.Common.{◌≡◌, ℤ, ℕ, FitsSigned, w64, to_z-of_z, sym, subst, Ok, Err}
+use Rattle.std.proofs.Common.{ℕ, FitsSigned, w64, to_z-of_z, subst}
 use Rattle.result_journal.specs.Journals.{disk_of}
 use Rattle.call_forms.specs.declared.forms.Told.TheVariants.{Standin as Instead}
 use Rattle.service_core.specs.CoreState.{world_in}
@@ -9,14 +9,14 @@ use Rattle.record_desk.proofs.RecordingLaws.{kept_both, kept_weaker, not_spent, 
 use Rattle.record_desk.proofs.recording.serve.Goals as goal
 
 pub answer-requires-clause-stands : goal.answer-requires-clause-stands
-answer-requires-clause-stands g c = c.catch_up.ensures.keeps.stands c.requires.0 c.requires.1
+answer-requires-clause-stands g c = c.catch_up.ensures.keeps.stands c.requires.stands.0 c.requires.stands.1
 
 pub returns-in-Ok-clause-serves : goal.returns-in-Ok-clause-serves
 returns-in-Ok-clause-serves g c = λ seat.
     let fits : FitsSigned w64 c.args.now = c.ranges.now in
     let value = simp to_z-of_z at c.moment_of-moment.ensures.value in
-    serves_after (record { policy = c.args.policy.now }) (world_in c.args.book.now.machine.core) (world_in c.catch_up.new.book.machine.core)
-    (world_in c.answer.new.book.machine.core) seat c.args.now c.moment_of-moment.result c.args.asked.now c.answer.result value
+    serves_after (record { policy = c.args.inquiry.policy.now }) (world_in c.args.book.now.machine.core) (world_in c.catch_up.new.book.machine.core)
+    (world_in c.answer.new.book.machine.core) seat c.args.now c.moment_of-moment.result c.args.inquiry.asked.now c.answer.result value
     c.moment_of-moment.ensures.in_range c.moment_of-moment.ensures.later c.in-Ok.ensures.ok c.in-Ok.ensures.due c.answer.ensures.told
 
 pub returns-in-Ok-clause-keeps : goal.returns-in-Ok-clause-keeps
@@ -34,8 +34,8 @@ returns-in-Ok-clause-keeps g c = λ seat.
     (kept_weaker g.D.Disk.told Plays between mid _ _ after new
     (λ next tried. (
       tried.0,
-      tried_step (record { policy = c.args.policy.now }) w between next seat c.args.now c.moment_of-moment.result
-          c.args.asked.now c.answer.result value c.in-Ok.ensures.ok tried.1,
+      tried_step (record { policy = c.args.inquiry.policy.now }) w between next seat c.args.now c.moment_of-moment.result
+          c.args.inquiry.asked.now c.answer.result value c.in-Ok.ensures.ok tried.1,
     )) c.answer.ensures.keeps)
 
 pub returns-in-Ok-clause-rose : goal.returns-in-Ok-clause-rose
@@ -46,8 +46,8 @@ pub returns-in-Err-clause-serves : goal.returns-in-Err-clause-serves
 returns-in-Err-clause-serves g c = λ seat.
     let fits : FitsSigned w64 c.args.now = c.ranges.now in
     let value = simp to_z-of_z at c.moment_of-moment.ensures.value in
-    serves_at_once (record { policy = c.args.policy.now }) (world_in c.args.book.now.machine.core) (world_in c.catch_up.new.book.machine.core) seat
-    c.args.now c.moment_of-moment.result c.args.asked.now c.in-Err.standin value c.moment_of-moment.ensures.in_range
+    serves_at_once (record { policy = c.args.inquiry.policy.now }) (world_in c.args.book.now.machine.core) (world_in c.catch_up.new.book.machine.core) seat
+    c.args.now c.moment_of-moment.result c.args.inquiry.asked.now c.in-Err.standin value c.moment_of-moment.ensures.in_range
     c.moment_of-moment.ensures.later c.in-Err.ensures.same c.in-Err.ensures.was_due (not_spent _ c.in-Err.standin c.in-Err.ensures.unspent)
 
 pub returns-in-Err-clause-keeps : goal.returns-in-Err-clause-keeps
@@ -58,8 +58,8 @@ returns-in-Err-clause-keeps g c = λ seat.
     c.catch_up.new.book.journal
     (λ next tried. (
       same_standin _ c.in-Err.standin tried.0,
-      tried_due (record { policy = c.args.policy.now }) (world_in c.args.book.now.machine.core) next seat
-          c.args.now c.moment_of-moment.result c.args.asked.now (Instead c.in-Err.standin) value tried.1,
+      tried_due (record { policy = c.args.inquiry.policy.now }) (world_in c.args.book.now.machine.core) next seat
+          c.args.now c.moment_of-moment.result c.args.inquiry.asked.now (Instead c.in-Err.standin) value tried.1,
     )) c.in-Err.ensures.keeps
 
 pub returns-in-Err-clause-rose : goal.returns-in-Err-clause-rose
