@@ -2,6 +2,6 @@ mod DocumentLemmas
 mod FaultLemmas
 mod FrontLemmas
 mod MessageLemmas
-mod RunLaws
+pub mod RunLaws
 mod ShrinkLaws
 mod StandingLemmas

@@ -5,7 +5,7 @@ use Rattle.std.specs.Fmt.{decimal}
 use Rattle.toml.specs.Data.{Data, Items, no_items, item, Members, no_members, member, as_str, as_array, as_table, get_member}
 use Rattle.policy_tables.specs.declared.findings.Finding.{Finding}
 use Rattle.policy_document.specs.declared.shape.Shape.{Shape}
-use Rattle.policy_document.specs.declared.shape.Shape.TheVariants.{Document, User, Group, Role, Realm, Binding}
+use Rattle.policy_document.specs.declared.shape.Shape.TheVariants.{Document, User, Group, Role, Realm, Binding, Sink}
 use Rattle.policy_tables.specs.declared.tables.User.{User as UserEntry}
 use Rattle.policy_tables.specs.declared.tables.Group.{Group as GroupEntry}
 use Rattle.policy_tables.specs.declared.tables.Role.{Role as RoleEntry}
@@ -25,6 +25,7 @@ is_known Group k = bytes_eq k (codes "members")
 is_known Role k = bytes_eq k (codes "permissions")
 is_known Realm k = bytes_eq k (codes "extends") || bytes_eq k (codes "bindings")
 is_known Binding k = bytes_eq k (codes "role") || bytes_eq k (codes "principals")
+is_known Sink k = bytes_eq k (codes "token") || bytes_eq k (codes "update_token")
 
 -- each key that a table may not have
 abbrev pub unknown_keys : Shape → List ℕ → Members → List Finding

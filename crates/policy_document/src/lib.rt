@@ -9,3 +9,5 @@ mod shape;
 mod tests;
 
 pub use entries::read_tables;
+pub use read::{note_unknown, read_text};
+pub use shape::Shape;

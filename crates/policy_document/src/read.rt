@@ -62,7 +62,7 @@ fn has_key(table: &Table, key: &str) -> bool
 }
 
 /// Reads the text at a key. Notes where there is none.
-pub(crate) fn read_text(notes: &mut Notes, table: &Table, key: &str) -> Result<Bytes, AllocError>
+pub fn read_text(notes: &mut Notes, table: &Table, key: &str) -> Result<Bytes, AllocError>
     ensures text { IfOk result (λ text. text ≡ text_of key.now (table_view table.now)) }
     ensures path { OnOk result (notes.new.path ≡ notes.old.path) }
     ensures least { OnOk result
@@ -192,11 +192,12 @@ fn may_have(shape: Shape, key: &str) -> bool
         Shape::Role => key == "permissions",
         Shape::Realm => key == "extends" || key == "bindings",
         Shape::Binding => key == "role" || key == "principals",
+        Shape::Sink => key == "token" || key == "update_token",
     }
 }
 
 /// Notes each key that a table of this kind may not have.
-pub(crate) fn note_unknown(notes: &mut Notes, shape: Shape, table: &Table) -> Result<(), AllocError>
+pub fn note_unknown(notes: &mut Notes, shape: Shape, table: &Table) -> Result<(), AllocError>
     ensures path { OnOk result (notes.new.path ≡ notes.old.path) }
     ensures least { OnOk result
         (notes.new.least ≡ least_with notes.old.least

@@ -1,0 +1,4 @@
+pub mod ReportLaws
+pub mod NameLaws
+pub mod TextLaws
+pub mod StatusLaws

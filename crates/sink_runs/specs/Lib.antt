@@ -1,0 +1,6 @@
+pub mod Texts
+pub mod Configs
+pub mod Reports
+pub mod Runs
+pub mod Endings
+pub mod Statuses
