@@ -1,8 +1,11 @@
 -- A command's words, as clap takes them and as the grammar says them.
-use Rattle.std.proofs.Common.{◌≡◌, ◌≢◌, ◌∙◌, refl, sym, ap, subst, ⊎_elim, ◌||◌, Bool, true, false, List, [], ◌∷◌, Some, codes}
+use Rattle.std.proofs.Common.{◌≡◌, ◌≢◌, ◌∙◌, refl, sym, ap, subst, ⊎_elim, ◌||◌, ℕ, ◌<◌, ◌^◌, Bool, true, false, List, [], ◌∷◌, Some, None, if◌then◌else◌, codes, decimal, arith}
+use Rattle.std.proofs.lemmas.Fmt.{decimal_injective}
+use Rattle.std.specs.Option.{ForSome}
 use Rattle.std.proofs.lemmas.Option.{same_Some}
-use Rattle.std.specs.Prelude.{flat_map}
+use Rattle.std.specs.Prelude.{Option, flat_map, option_map, unwrap_or}
 use Rattle.std.specs.List.{list_any}
+use Rattle.std.specs.Str.{bytes_eq}
 use Rattle.clap.specs.Words.{App, Text, HasMatchesOf, fault_of, first_of, first_value, found_of, matches_of, is_simple_and_free, is_simple, kind_of}
 use Rattle.clap.specs.Kinds.{Kinds, HasKind, IsAmong}
 use Rattle.clap.specs.declared.error.Error.{Error}
@@ -10,10 +13,16 @@ use Rattle.clap.specs.declared.error.kind.ErrorKind.TheVariants.{OutOfMemory}
 use Rattle.clap.specs.declared.parser.matches.ArgMatches.{ArgMatches}
 use Rattle.clap.proofs.WalkLemmas.{first_value-rows}
 use Rattle.program_words.specs.Options.{OptionRow, Given, spelled, AreOptions, value_of}
-use Rattle.program_words.specs.Grammar.{AreWordsOf, IsAnswer, IsCheck, Says, answer_options, check_options}
+use Rattle.program_words.specs.Grammar.{AreWordsOf, IsAnswer, IsCheck, IsServe, IsSink, Says, answer_options, check_options, serve_options, sink_options}
+use Rattle.program_words.specs.Serves.{AreServeValues, IsUpTo, most_connections, most_workers}
+use Rattle.program_words.specs.Sinks.{AreSinkValues, format_word}
+use Rattle.program_words.specs.declared.serve_words.ServeWords.{ServeWords}
+use Rattle.program_words.specs.declared.sink_words.ReportFormat.{ReportFormat}
+use Rattle.program_words.specs.declared.sink_words.ReportFormat.TheVariants.{Tap, Junit}
+use Rattle.program_words.specs.declared.sink_words.SinkWords.{SinkWords}
 use Rattle.program_words.specs.Clap.{HasValues, IsPlain, are_names, made_app, is_stray}
 use Rattle.program_words.specs.declared.command.Command.{Command}
-use Rattle.program_words.specs.declared.command.Command.TheVariants.{Answer, Check, Help, Version}
+use Rattle.program_words.specs.declared.command.Command.TheVariants.{Answer, Check, Serve, Sink, Help, Version}
 use Rattle.program_words.proofs.Machine.{rest, after}
 use Rattle.program_words.proofs.ClapRows.{value_made}
 use Rattle.program_words.proofs.Walks.{all_there, taken_reading, read_taken}
@@ -80,6 +89,34 @@ answer_plain = record { word = refl; names = refl; simple = refl; free = refl }
 pub check_plain : IsPlain (codes "check") check_options
 check_plain = record { word = refl; names = refl; simple = refl; free = refl }
 
+pub serve_plain : IsPlain (codes "serve") serve_options
+serve_plain = record { word = refl; names = refl; simple = refl; free = refl }
+
+pub sink_plain : IsPlain (codes "sink") sink_options
+sink_plain = record { word = refl; names = refl; simple = refl; free = refl }
+
+-- values that are the same say the same
+pub serve_through : (f g : Text → Option Text) (s : ServeWords) → ((n : Text) → f n ≡ g n) → AreServeValues f s → AreServeValues g s
+serve_through f g s same v = record {
+  config_is = sym (same (codes "config")) ∙ v.config_is;
+  journal_is = sym (same (codes "journal")) ∙ v.journal_is;
+  listen_is = sym (same (codes "listen")) ∙ v.listen_is;
+  workers_are = sym (same (codes "workers")) ∙ v.workers_are;
+  some_workers = v.some_workers;
+  connections_are = sym (same (codes "connections")) ∙ v.connections_are;
+  some_connections = v.some_connections;
+}
+
+pub values_through : (f g : Text → Option Text) (s : SinkWords) → ((n : Text) → f n ≡ g n) → AreSinkValues f s → AreSinkValues g s
+values_through f g s same v = record {
+  config_is = sym (same (codes "config")) ∙ v.config_is;
+  server_is = sym (same (codes "server")) ∙ v.server_is;
+  invocation_is = sym (same (codes "invocation")) ∙ v.invocation_is;
+  is_id = v.is_id;
+  format_is = sym (same (codes "format")) ∙ v.format_is;
+  prefix_is = ap (λ (o : Option Text). unwrap_or o []) (sym (same (codes "prefix"))) ∙ v.prefix_is;
+}
+
 both_false : (a b : Bool) → (a || b) ≡ false → b ≡ false
 both_false true b h = absurd (let no : true ≡ false = h in cc)
 both_false false b h = h
@@ -117,7 +154,7 @@ same_givens os words a b names p q =
 behind_same : (first second : Text) (a b : List Text) → first ∷ a ≡ second ∷ b → a ≡ b
 behind_same first second a b e = cc
 
-same_words : (name : Text) (table : List OptionRow) (words : List Text) (a b : List Given) → IsPlain name table → AreWordsOf name table words a
+pub same_words : (name : Text) (table : List OptionRow) (words : List Text) (a b : List Given) → IsPlain name table → AreWordsOf name table words a
     → AreWordsOf name table words b → a ≡ b
 same_words name table words a b plain p q =
     let others : q.rest ≡ p.rest = behind_same name name q.rest p.rest (sym q.command ∙ p.command) in
@@ -137,16 +174,71 @@ same_check words j k p q =
     let givens = same_words (codes "check") check_options words p.givens q.givens check_plain p.words_are q.words_are in
     ap Check (same_value (codes "journal") p.givens q.givens j k givens p.journal_is q.journal_is)
 
+same_format : (a b : ReportFormat) → format_word a ≡ format_word b → a ≡ b
+same_format Tap Tap e = refl
+same_format Junit Junit e = refl
+same_format Tap Junit e = cc
+same_format Junit Tap e = cc
+
+same_values : (f : Text → Option Text) (s t : SinkWords) → AreSinkValues f s → AreSinkValues f t → s ≡ t
+same_values f s t p q =
+    let config : s.config ≡ t.config = same_Some s.config t.config (sym p.config_is ∙ q.config_is) in
+    let server : s.server ≡ t.server = same_Some s.server t.server (sym p.server_is ∙ q.server_is) in
+    let invocation : s.invocation ≡ t.invocation = same_Some s.invocation t.invocation (sym p.invocation_is ∙ q.invocation_is) in
+    let format : s.format ≡ t.format = same_format s.format t.format (same_Some (format_word s.format) (format_word t.format) (sym p.format_is ∙ q.format_is)) in
+    let prefix : s.prefix ≡ t.prefix = sym p.prefix_is ∙ q.prefix_is in
+    λ i. record { config = config i; server = server i; invocation = invocation i; format = format i; prefix = prefix i }
+
+same_number : (most m n : ℕ) → most < 2 ^ 64 → IsUpTo most m → IsUpTo most n → decimal m ≡ decimal n → m ≡ n
+same_number most m n few p q same = decimal_injective m n (omega (arith, few, p.1)) (omega (arith, few, q.1)) same
+
+same_option : (most : ℕ) (m n : Option ℕ) → most < 2 ^ 64 → ForSome m (IsUpTo most) → ForSome n (IsUpTo most)
+    → option_map decimal m ≡ option_map decimal n → m ≡ n
+same_option most None None few p q same = refl
+same_option most None (Some n) few p q same = cc
+same_option most (Some m) None few p q same = cc
+same_option most (Some m) (Some n) few p q same =
+    ap Some (same_number most m n few (p m refl) (q n refl) (same_Some (decimal m) (decimal n) same))
+
+same_serve_values : (f : Text → Option Text) (s t : ServeWords) → AreServeValues f s → AreServeValues f t → s ≡ t
+same_serve_values f s t p q =
+    let config : s.config ≡ t.config = same_Some s.config t.config (sym p.config_is ∙ q.config_is) in
+    let journal : s.journal ≡ t.journal = same_Some s.journal t.journal (sym p.journal_is ∙ q.journal_is) in
+    let listen : s.listen ≡ t.listen = same_Some s.listen t.listen (sym p.listen_is ∙ q.listen_is) in
+    let workers : s.workers ≡ t.workers =
+    same_number most_workers s.workers t.workers (omega arith) p.some_workers q.some_workers
+    (same_Some (decimal s.workers) (decimal t.workers) (sym p.workers_are ∙ q.workers_are)) in
+    let connections : s.connections ≡ t.connections =
+    same_option most_connections s.connections t.connections (omega arith) p.some_connections q.some_connections
+    (sym p.connections_are ∙ q.connections_are) in
+    λ i. record { config = config i; journal = journal i; listen = listen i; workers = workers i; connections = connections i }
+
+same_serve : (words : List Text) (s t : ServeWords) → IsServe words s → IsServe words t → Serve s ≡ Serve t
+same_serve words s t p q =
+    let givens = same_words (codes "serve") serve_options words p.givens q.givens serve_plain p.words_are q.words_are in
+    ap Serve (same_serve_values (λ n. value_of n q.givens) s t
+    (serve_through (λ n. value_of n p.givens) (λ n. value_of n q.givens) s (λ n. ap (value_of n) givens) p.values_are) q.values_are)
+
+same_sink : (words : List Text) (s t : SinkWords) → IsSink words s → IsSink words t → Sink s ≡ Sink t
+same_sink words s t p q =
+    let givens = same_words (codes "sink") sink_options words p.givens q.givens sink_plain p.words_are q.words_are in
+    ap Sink (same_values (λ n. value_of n q.givens) s t
+    (values_through (λ n. value_of n p.givens) (λ n. value_of n q.givens) s (λ n. ap (value_of n) givens) p.values_are) q.values_are)
+
 -- the first word of a command
 abbrev first_word_of : Command → Text
 first_word_of (Answer c j) = codes "answer"
 first_word_of (Check j) = codes "check"
+first_word_of (Serve s) = codes "serve"
+first_word_of (Sink s) = codes "sink"
 first_word_of Help = codes "--help"
 first_word_of Version = codes "--version"
 
 begins : (words : List Text) (a : Command) → Says words a → (others : List Text) × (words ≡ first_word_of a ∷ others)
 begins words (Answer c j) p = (p.words_are.rest, p.words_are.command)
 begins words (Check j) p = (p.words_are.rest, p.words_are.command)
+begins words (Serve s) p = (p.words_are.rest, p.words_are.command)
+begins words (Sink s) p = (p.words_are.rest, p.words_are.command)
 begins words Help p = ([], p)
 begins words Version p = ([], p)
 
@@ -159,9 +251,59 @@ same_first words a b p q =
     let two = begins words b q in
     front_same (first_word_of a) (first_word_of b) one.0 two.0 (sym one.1 ∙ two.1)
 
+-- the two are of one kind
+abbrev SameKind : Command → Command → Type 0
+SameKind (Answer c j) (Answer d k) = Unit {0}
+SameKind (Check j) (Check k) = Unit {0}
+SameKind (Serve s) (Serve t) = Unit {0}
+SameKind (Sink s) (Sink t) = Unit {0}
+SameKind Help Help = Unit {0}
+SameKind Version Version = Unit {0}
+SameKind a b = ⊥
+
+-- a number of each command's word
+number_of_word : Text → ℕ
+number_of_word w =
+    if bytes_eq w (codes "answer") then 0
+    else (if bytes_eq w (codes "check") then 1
+    else (if bytes_eq w (codes "serve") then 2
+    else (if bytes_eq w (codes "sink") then 3
+    else (if bytes_eq w (codes "--help") then 4 else 5))))
+
+abbrev number_of : Command → ℕ
+number_of (Answer c j) = 0
+number_of (Check j) = 1
+number_of (Serve s) = 2
+number_of (Sink s) = 3
+number_of Help = 4
+number_of Version = 5
+
+numbered : (a : Command) → number_of_word (first_word_of a) ≡ number_of a
+unfolding number_of_word
+numbered (Answer c j) = refl
+numbered (Check j) = refl
+numbered (Serve s) = refl
+numbered (Sink s) = refl
+numbered Help = refl
+numbered Version = refl
+
+kind_is : (a b : Command) → number_of a ≡ number_of b → SameKind a b
+kind_is (Answer c j) (Answer d k) e = tt
+kind_is (Check j) (Check k) e = tt
+kind_is (Serve s) (Serve t) e = tt
+kind_is (Sink s) (Sink t) e = tt
+kind_is Help Help e = tt
+kind_is Version Version e = tt
+kind_is a b e = cc
+
+same_kind : (a b : Command) → first_word_of a ≡ first_word_of b → SameKind a b
+same_kind a b e = kind_is a b (sym (numbered a) ∙ (ap number_of_word e ∙ numbered b))
+
 pub one_command : (words : List Text) (a b : Command) → Says words a → Says words b → a ≡ b
 one_command words (Answer c j) (Answer d k) p q = same_answer words c j d k p q
 one_command words (Check j) (Check k) p q = same_check words j k p q
+one_command words (Serve s) (Serve t) p q = same_serve words s t p q
+one_command words (Sink s) (Sink t) p q = same_sink words s t p q
 one_command words Help Help p q = refl
 one_command words Version Version p q = refl
-one_command words a b p q = let e : first_word_of a ≡ first_word_of b = same_first words a b p q in cc
+one_command words a b p q = absurd (same_kind a b (same_first words a b p q))

@@ -2,7 +2,7 @@
 use Rattle.std.specs.Prelude.{◌≡◌, ℕ, ◌==◌, ◌&&◌, Bool, true, false, not, List, [], ◌∷◌, Some, map}
 use Rattle.std.specs.List.{list_all}
 use Rattle.clap.specs.Lexer.{has_byte}
-use Rattle.clap.specs.Simple.{App, new_rule, new_shape}
+use Rattle.clap.specs.Simple.{App, new_rule, new_shape, with_rule}
 use Rattle.clap.specs.Walk.{Rule, Text}
 use Rattle.clap.specs.Words.{first_value, found_of, is_simple, is_simple_and_free}
 use Rattle.clap.specs.declared.builder.action.ArgAction.TheVariants.{Set}
@@ -18,6 +18,11 @@ made_rule name is_required = record (new_rule name) {
   action = Some Set;
   parser = Some vp.NonEmptyString;
 }
+
+-- a command with such options more
+abbrev pub with_options : App → List OptionRow → App
+with_options app [] = app
+with_options app (o ∷ os) = with_options (with_rule app (made_rule o.name o.is_required)) os
 
 -- a command with such options, and no help of clap's own
 abbrev pub made_app : List ℕ → List OptionRow → App

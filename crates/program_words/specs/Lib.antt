@@ -1,4 +1,6 @@
 pub mod Options
+pub mod Sinks
+pub mod Serves
 pub mod Grammar
 pub mod Places
 pub mod Texts

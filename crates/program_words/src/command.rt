@@ -1,5 +1,7 @@
 //! What the words of the command line say.
 
+use crate::serve_words::ServeWords;
+use crate::sink_words::SinkWords;
 use lists::Bytes;
 
 /// What the program is to do.
@@ -9,6 +11,10 @@ pub enum Command {
     Answer { config: Bytes, journal: Bytes },
     /// Counts what a journal holds, with its path.
     Check { journal: Bytes },
+    /// Serves every connection that comes in at an address.
+    Serve(ServeWords),
+    /// Uploads a report.
+    Sink(SinkWords),
     /// Tells the commands and their words.
     Help,
     /// Tells the version.
@@ -24,7 +30,8 @@ pub enum WordFault {
     Memory,
 }
 
-/// The values that the words have for whoever makes the program's ends: empty, 0 or `None` where the words have none.
+/// The values that the words have for whoever makes the program's ends: empty, 0 or `None` where
+/// the words have none.
 #[derive(Debug, Drop)]
 pub struct Places {
     /// The path of the configuration.
@@ -37,6 +44,6 @@ pub struct Places {
     pub server: Bytes,
     /// How many workers there are.
     pub workers: u32,
-    /// How many connections are served.
+    /// How many connections each worker serves.
     pub connections: Option<u64>,
 }

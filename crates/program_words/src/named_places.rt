@@ -5,6 +5,8 @@ ghost use Rattle.program_words.specs.Places.{places_of};
 
 use crate::command::{Command, Places, WordFault};
 use crate::reading::read_words;
+use crate::serve_words::ServeWords;
+use crate::sink_words::SinkWords;
 use lists::Bytes;
 use std::alloc::Global;
 
@@ -12,6 +14,46 @@ fn nothing(alloc: Global) -> Bytes
     ensures { result ≡ [] }
 {
     Bytes::new(Vec::new(alloc))
+}
+
+fn of_sink(alloc: Global, words: SinkWords) -> Places
+    ensures { result ≡ places_of (Command.Sink words) }
+{
+    let SinkWords {
+        config,
+        server,
+        invocation: _,
+        format: _,
+        prefix: _,
+    } = words;
+    Places {
+        config,
+        journal: nothing(alloc),
+        listen: nothing(alloc),
+        server,
+        workers: 0,
+        connections: None,
+    }
+}
+
+fn of_serve(alloc: Global, words: ServeWords) -> Places
+    ensures { result ≡ places_of (Command.Serve words) }
+{
+    let ServeWords {
+        config,
+        journal,
+        listen,
+        workers,
+        connections,
+    } = words;
+    Places {
+        config,
+        journal,
+        listen,
+        server: nothing(alloc),
+        workers,
+        connections,
+    }
 }
 
 fn of_paths(alloc: Global, config: Bytes, journal: Bytes) -> Places
@@ -27,7 +69,8 @@ fn of_paths(alloc: Global, config: Bytes, journal: Bytes) -> Places
     }
 }
 
-/// The values of the words, which `read_words` reads: empty, 0 and `None` where the words don't have them.
+/// The values of the words, which `read_words` reads: empty, 0 and `None` where the words don't
+/// have them.
 pub fn places(alloc: Global, words: &[String]) -> Result<Places, WordFault>
     ensures said { IfOk result (λ p. (command : Command)
         × Says (map string_bytes words.now) command × (p ≡ places_of command)) }
@@ -37,6 +80,8 @@ pub fn places(alloc: Global, words: &[String]) -> Result<Places, WordFault>
     match read_words(alloc, words)? {
         Command::Answer { config, journal } => Ok(of_paths(alloc, config, journal)),
         Command::Check { journal } => Ok(of_paths(alloc, nothing(alloc), journal)),
+        Command::Serve(words) => Ok(of_serve(alloc, words)),
+        Command::Sink(words) => Ok(of_sink(alloc, words)),
         Command::Help | Command::Version => Ok(of_paths(alloc, nothing(alloc), nothing(alloc))),
     }
 }

@@ -2,28 +2,30 @@
 ghost use Rattle.std.specs.Prelude.{◌≡◌, ◌≢◌, ℕ, List, ◌∷◌, codes, IfOk, IfErr};
 ghost use Rattle.std.specs.Prelude.{map, string_bytes, true, false};
 ghost use Rattle.std.specs.List.{list_any};
-ghost use Rattle.clap.specs.Words.{app_of, rule_of, kind_of};
+ghost use Rattle.clap.specs.Words.{app_of, new_app, rule_of, kind_of, with_rule};
 ghost use Rattle.program_words.specs.Options.{Given, OptionRow};
-ghost use Rattle.program_words.specs.Grammar.{AreWordsOf, IsAnswer, IsCheck, Says};
-ghost use Rattle.program_words.specs.Grammar.{answer_options, check_options};
+ghost use Rattle.program_words.specs.Grammar.{AreWordsOf, IsAnswer, IsCheck, IsServe, IsSink, Says};
+ghost use Rattle.program_words.specs.Grammar.{answer_options, check_options, serve_options, sink_options};
 ghost use Rattle.program_words.specs.Clap.{HasValues, IsPlain};
-ghost use Rattle.program_words.specs.Clap.{made_app, made_rule, is_named, is_stray};
+ghost use Rattle.program_words.specs.Clap.{made_app, made_rule, with_options, is_named, is_stray};
 
 use crate::command::{Command, WordFault};
+use crate::serve_words::{ServeWords, serve_of};
+use crate::sink_words::{SinkWords, sink_of};
 use clap::builder::ValueParser;
 use clap::error::ErrorKind;
 use clap::{Arg, ArgAction, ArgMatches, Error};
 use lists::Bytes;
 use std::alloc::{AllocError, Global};
 
-/// A required option with one value that isn't empty.
-fn required_option<'a>(alloc: Global, name: &'a str) -> Arg<'a>
-    ensures rule { rule_of result ≡ made_rule name.entry.now true }
+/// An option with one value that isn't empty.
+fn option_with<'a>(alloc: Global, name: &'a str, is_required: bool) -> Arg<'a>
+    ensures rule { rule_of result ≡ made_rule name.entry.now is_required }
     ensures own { result.global ≡ false }
 {
     Arg::new(alloc, name)
         .long(name)
-        .required(true)
+        .required(is_required)
         .action(ArgAction::Set)
         .value_parser(ValueParser::NonEmptyString)
 }
@@ -33,8 +35,8 @@ fn answer_command<'a>(alloc: Global) -> Result<clap::Command<'a>, Error>
     ensures app { IfOk result (λ c. app_of c ≡ made_app (codes "answer") answer_options) }
     ensures err { IfErr result (λ e. kind_of e ≡ ErrorKind.OutOfMemory) }
 {
-    let config = required_option(alloc, "config");
-    let journal = required_option(alloc, "journal");
+    let config = option_with(alloc, "config", true);
+    let journal = option_with(alloc, "journal", true);
     let command = clap::Command::new(alloc, "answer")
         .arg(config)?
         .arg(journal)?;
@@ -46,8 +48,65 @@ fn check_command<'a>(alloc: Global) -> Result<clap::Command<'a>, Error>
     ensures app { IfOk result (λ c. app_of c ≡ made_app (codes "check") check_options) }
     ensures err { IfErr result (λ e. kind_of e ≡ ErrorKind.OutOfMemory) }
 {
-    let journal = required_option(alloc, "journal");
+    let journal = option_with(alloc, "journal", true);
     let command = clap::Command::new(alloc, "check").arg(journal)?;
+    Ok(command.disable_help_flag(true))
+}
+
+/// The command with an option more.
+fn with_option<'a>(
+    alloc: Global,
+    command: clap::Command<'a>,
+    name: &'a str,
+    is_required: bool,
+) -> Result<clap::Command<'a>, AllocError>
+    ensures { IfOk result
+        (λ c. app_of c ≡ with_rule (app_of command.entry) (made_rule name.entry.now is_required)) }
+{
+    command.arg(option_with(alloc, name, is_required))
+}
+
+/// The command `serve`, with its options.
+fn with_serve_options<'a>(alloc: Global) -> Result<clap::Command<'a>, AllocError>
+    ensures { IfOk result
+        (λ c. app_of c ≡ with_options (new_app (codes "serve")) serve_options) }
+{
+    let command = clap::Command::new(alloc, "serve");
+    let command = with_option(alloc, command, "config", true)?;
+    let command = with_option(alloc, command, "journal", true)?;
+    let command = with_option(alloc, command, "listen", true)?;
+    let command = with_option(alloc, command, "workers", true)?;
+    with_option(alloc, command, "connections", false)
+}
+
+/// The command `serve`.
+fn serve_command<'a>(alloc: Global) -> Result<clap::Command<'a>, Error>
+    ensures app { IfOk result (λ c. app_of c ≡ made_app (codes "serve") serve_options) }
+    ensures err { IfErr result (λ e. kind_of e ≡ ErrorKind.OutOfMemory) }
+{
+    let command = with_serve_options(alloc)?;
+    Ok(command.disable_help_flag(true))
+}
+
+/// The command `sink`, with its options.
+fn with_sink_options<'a>(alloc: Global) -> Result<clap::Command<'a>, AllocError>
+    ensures { IfOk result
+        (λ c. app_of c ≡ with_options (new_app (codes "sink")) sink_options) }
+{
+    let command = clap::Command::new(alloc, "sink");
+    let command = with_option(alloc, command, "config", true)?;
+    let command = with_option(alloc, command, "server", true)?;
+    let command = with_option(alloc, command, "invocation", true)?;
+    let command = with_option(alloc, command, "format", true)?;
+    with_option(alloc, command, "prefix", false)
+}
+
+/// The command `sink`.
+fn sink_command<'a>(alloc: Global) -> Result<clap::Command<'a>, Error>
+    ensures app { IfOk result (λ c. app_of c ≡ made_app (codes "sink") sink_options) }
+    ensures err { IfErr result (λ e. kind_of e ≡ ErrorKind.OutOfMemory) }
+{
+    let command = with_sink_options(alloc)?;
     Ok(command.disable_help_flag(true))
 }
 
@@ -169,11 +228,48 @@ fn read_check(alloc: Global, words: &[String]) -> Result<Command, WordFault>
     }
 }
 
+/// The words of `serve`, of which the first is the command's.
+fn read_serve(alloc: Global, words: &[String]) -> Result<Command, WordFault>
+    requires { (rest : List (List ℕ)) × (map string_bytes words.now ≡ codes "serve" ∷ rest) }
+    ensures ok { IfOk result (Says (map string_bytes words.now)) }
+    ensures refused { result ≡ Err WordFault.Refused
+        → (serve : ServeWords) → ¬ IsServe (map string_bytes words.now) serve }
+{
+    let Ok(command) = serve_command(alloc) else {
+        return Err(WordFault::Memory);
+    };
+    let found = read_options(command, words)?;
+    match serve_of(alloc, &found) {
+        Ok(serve) => Ok(Command::Serve(serve)),
+        Err(fault) => Err(fault),
+    }
+}
+
+/// The words of `sink`, of which the first is the command's.
+fn read_sink(alloc: Global, words: &[String]) -> Result<Command, WordFault>
+    requires { (rest : List (List ℕ)) × (map string_bytes words.now ≡ codes "sink" ∷ rest) }
+    ensures ok { IfOk result (Says (map string_bytes words.now)) }
+    ensures refused { result ≡ Err WordFault.Refused
+        → (sink : SinkWords) → ¬ IsSink (map string_bytes words.now) sink }
+{
+    let Ok(command) = sink_command(alloc) else {
+        return Err(WordFault::Memory);
+    };
+    let found = read_options(command, words)?;
+    match sink_of(alloc, &found) {
+        Ok(sink) => Ok(Command::Sink(sink)),
+        Err(fault) => Err(fault),
+    }
+}
+
 /// What the words say, which are those behind the program's name.
 ///
-/// The first word is the command. Behind it each option stands exactly once, in any order, as `--x v` or `--x=v`. A
-/// value isn't empty, and one that begins with `-` stands behind `=`. All else is `Refused`, and `Memory` comes for
-/// want of memory alone.
+/// The first word is the command. Behind it each option stands exactly once, in any order, as
+/// `--x v` or `--x=v`; `--prefix` and `--connections` may be left out. A value isn't empty, and one
+/// that begins with `-` stands behind `=`. That of `--invocation` is the id of one, and that of
+/// `--format` is `tap` or `junit`; those of `--workers` and `--connections` are decimal digits
+/// without a sign or a leading zero, 1 to 64 and 1 to 1,000,000. All else is `Refused`, and
+/// `Memory` comes for want of memory alone.
 pub fn read_words(alloc: Global, words: &[String]) -> Result<Command, WordFault>
     ensures said { IfOk result (Says (map string_bytes words.now)) }
     ensures refused { result ≡ Err WordFault.Refused
@@ -182,6 +278,8 @@ pub fn read_words(alloc: Global, words: &[String]) -> Result<Command, WordFault>
     match words {
         [command, ..] if command.as_str() == "answer" => read_answer(alloc, words),
         [command, ..] if command.as_str() == "check" => read_check(alloc, words),
+        [command, ..] if command.as_str() == "serve" => read_serve(alloc, words),
+        [command, ..] if command.as_str() == "sink" => read_sink(alloc, words),
         [word] if word.as_str() == "--help" => Ok(Command::Help),
         [word] if word.as_str() == "--version" => Ok(Command::Version),
         _ => Err(WordFault::Refused),

@@ -1,8 +1,7 @@
 -- What the exit status of a connection says.
-use Rattle.std.proofs.Common.{◌≡◌, ◌≢◌, ℕ, ℤ, ◌<◌, ◌≤◌, ◌⊎◌, inl, inr, List, ◌++◌, length, map, Option, Some, None, Result, Ok, Err, refl, sym, ap, ◌∙◌, subst, arith, length-append}
-use Rattle.outside.specs.Bytes.{IsEnd}
-use Rattle.outside.specs.Ends.{Outgoing, Ends}
-use Rattle.outside.specs.Whole.{WritesWhole, CountsFault, CountsEnd}
+use Rattle.std.proofs.Common.{◌≡◌, ◌≢◌, ℕ, ◌⊎◌, inl, inr, List, Some, Result, Ok, Err, refl, sym, ◌∙◌, subst, arith}
+use Rattle.outside.specs.Ends.{Ends}
+use Rattle.outside.specs.Whole.{CountsFault, CountsEnd}
 use Rattle.outside.specs.declared.whole.WriteEnd.{WriteEnd}
 use Rattle.outside.specs.declared.whole.WriteEnd.TheVariants as write_ends
 use Rattle.fault_counts.specs.Causes.{Rose}

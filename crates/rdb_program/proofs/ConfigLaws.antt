@@ -1,5 +1,5 @@
 -- What the text of a configuration is: a policy's, or one with a fault, and not both.
-use Rattle.std.proofs.Common.{◌≡◌, ◌≢◌, ℕ, ◌<◌, ◌≤◌, ◌⊎◌, inl, inr, List, [], ◌++◌, length, Option, Some, None, refl, sym, ap, ◌∙◌, subst, append-nil, arith, length-append}
+use Rattle.std.proofs.Common.{◌≡◌, ℕ, ◌<◌, ◌⊎◌, inl, inr, List, [], ◌++◌, length, Option, Some, None, refl, sym, ap, ◌∙◌, subst, append-nil, arith, length-append}
 use Rattle.toml.specs.Data.{Members}
 use Rattle.outside.specs.Bytes.{Gave, IsEnd}
 use Rattle.outside.specs.Ends.{Incoming}
@@ -9,7 +9,7 @@ use Rattle.permissions.specs.Faults.{IsSound}
 use Rattle.policy_reading.specs.Reading.{IsPolicyOf, IsFirstFault, IsTablesFault, size, toml, shape, tables, text, cycle, owners, shape_fault, most_bytes}
 use Rattle.permissions.specs.declared.faults.PolicyFault.{PolicyFault}
 use Rattle.permissions.specs.declared.faults.PolicyFault.TheVariants as faults
-use Rattle.rdb_program.specs.Configured.{Accepts, Refuses, Leaves, most_read}
+use Rattle.rdb_program.specs.Configured.{Accepts, Refuses, most_read}
 use Rattle.rdb_program.specs.Run.{refusal_line}
 
 no_some : {T : Type 0} (o : Option T) (x : T) → o ≡ Some x → o ≡ None → ⊥

@@ -2,3 +2,5 @@ pub mod LineLaws
 pub mod CauseLaws
 pub mod ConfigLaws
 pub mod RunLaws
+pub mod UploadLaws
+pub mod ServiceLaws

@@ -1,8 +1,8 @@
 -- What a run's exit status says.
-use Rattle.std.proofs.Common.{◌≡◌, ◌≢◌, ℕ, ℤ, true, ◌+◌, ◌-◌, ◌<◌, ◌≤◌, ◌⊎◌, inl, inr, List, [], ◌∷◌, ◌++◌, length, length-append, Option, Some, Result, Ok, Err, refl, sym, ap, ◌∙◌, subst, arith}
+use Rattle.std.proofs.Common.{◌≡◌, ◌≢◌, ℕ, ℤ, true, ◌+◌, ◌-◌, ◌≤◌, ◌⊎◌, inl, inr, List, [], ◌∷◌, length, length-append, Option, Some, Result, Ok, Err, refl, sym, ap, ◌∙◌, subst, arith}
 use Rattle.outside.specs.Bytes.{Took}
 use Rattle.outside.specs.Ends.{Incoming, Outgoing, Ends}
-use Rattle.outside.specs.Whole.{WritesWhole, IsWritten}
+use Rattle.outside.specs.Whole.{IsWritten}
 use Rattle.outside.specs.declared.whole.WriteEnd.{WriteEnd}
 use Rattle.outside.specs.declared.whole.WriteEnd.TheVariants as write_ends
 use Rattle.fault_counts.specs.Causes.{Rose}
@@ -25,12 +25,12 @@ use Rattle.tellers.specs.Exchange.{Exchange}
 use Rattle.record_desk.specs.Clocked.{IsClocked}
 use Rattle.record_desk.specs.Standing.{HasServed}
 use Rattle.record_desk.proofs.StandingLaws.{served_leaves, served_nothing}
-use Rattle.http_wire.specs.Stream.{Framed}
 use Rattle.http_wire.specs.declared.message.End.TheVariants as stream_ends
 use Rattle.program_words.specs.Grammar.{Says}
 use Rattle.program_words.specs.declared.command.Command.{Command}
 use Rattle.program_words.specs.declared.command.Command.TheVariants as commands
 use Rattle.program_words.proofs.Answering.{one_command}
+use Rattle.sink_runs.specs.declared.ending.SinkEnding.{SinkEnding}
 use Rattle.http_workers.specs.Framing as served
 use Rattle.http_workers.specs.Ended.{ServesLink}
 use Rattle.http_workers.specs.declared.ended.Ended.{Ended}
@@ -40,14 +40,14 @@ use Rattle.service_core.specs.declared.counting.Counts.{Counts}
 use Rattle.result_journal.proofs.JournalLaws.{settled_leaves}
 use Rattle.rdb_program.specs.Counted.{counts_text, world_text}
 use Rattle.rdb_program.specs.Lines.{fixed_line}
-use Rattle.rdb_program.specs.Opening.{IsUnopened, OpensBook}
+use Rattle.rdb_program.specs.Opening.{OpensBook}
 use Rattle.rdb_program.specs.Words.{SayNothing, IsAnswerWords, IsCheckWords, AskForText}
 use Rattle.rdb_program.specs.Configured.{Accepts, Leaves}
-use Rattle.rdb_program.specs.Run.{CountsJournal, DiskEnd, Work, Outside, outside, disk_end, IsReported, status_of, line_of, refusal_line, IsHistory, ReachesDisk, Shows, ShowsText, StopsAtConfig, StopsAtDisk, Serves, IsRun, ProgramRun}
-use Rattle.rdb_program.specs.Statuses.{IsCounted, IsJournalRefused, IsShown, IsWorkDone, EndsFailed, HasFailed, HasStalled, ConfigSays, StatusSays}
+use Rattle.rdb_program.specs.Run.{CountsJournal, DiskEnd, Work, Outside, disk_end, IsReported, status_of, line_of, refusal_line, IsHistory, IsUnopened, ReachesDisk, Shows, ShowsText, StopsAtDisk, IsRun}
+use Rattle.rdb_program.specs.Statuses.{IsJournalRefused, IsShown, IsWorkDone, HasFailed, HasStalled, ConfigSays, StatusSays}
 use Rattle.http_workers.specs.declared.ended.Cause.{Cause}
 use Rattle.rdb_program.specs.declared.ending.Ending.{Ending}
-use Rattle.rdb_program.specs.declared.ending.Ending.TheVariants.{WordsRefused, Shown, ConfigFault, ConfigRefused, Unstarted, Unopened, Counted, Served}
+use Rattle.rdb_program.specs.declared.ending.Ending.TheVariants.{WordsRefused, Shown, ConfigFault, ConfigRefused, Unstarted, Unopened, Counted, Served, DoorsServed, Uploaded}
 use Rattle.rdb_program.proofs.CauseLaws.{status_at, not_one, not_two, not_three, faults_of, stalls_of, no_fault, no_stall, done_at, broken_at, failed_at, stalled_at, no_read_fault_at, not_fault_at, not_stall_at, ends_at, fault_there, stall_there}
 use Rattle.rdb_program.proofs.ConfigLaws.{policy_apart, accepted_told, refused_told}
 
@@ -276,7 +276,7 @@ says_config_refused words before after are same disk faults config = says_still 
 
 -- ---- the journal wasn't opened
 
-opening_range : (fault : OpenFault) → (3 ≤ (opening_row fault).status) × ((opening_row fault).status ≤ 7)
+pub opening_range : (fault : OpenFault) → (3 ≤ (opening_row fault).status) × ((opening_row fault).status ≤ 7)
 opening_range (openings.NotAJournal at) = (omega arith, omega arith)
 opening_range (openings.Damaged at byte) = (omega arith, omega arith)
 opening_range (openings.NewerVersion found) = (omega arith, omega arith)
@@ -519,7 +519,7 @@ says_ended words before after asked ended tables are config (inl unbegun) =
 says_ended words before after asked ended tables are config (inr s) = says_served words before after asked ended.calls ended.cause tables are config s
 
 -- What the status of a run says, with the line that the errors got.
-says : (words : List (List ℕ)) (before after : Outside) (tb ta : List ℤ → Type 0) (ending : Ending)
+pub says : (words : List (List ℕ)) (before after : Outside) (tb ta : List ℤ → Type 0) (ending : Ending)
     → IsRun ending words before.work tb after.work ta → IsReported (line_of ending) before.errors after.errors
     → StatusSays (status_of ending) words before after
 says words before after tb ta WordsRefused run line = says_words_refused words before after run.0 run.1
@@ -538,21 +538,22 @@ says words before after tb ta Unstarted (inr run) line =
     says_unstarted words before after run.ends run.config.faults (λ other. absurd (other run.words_are)) (λ other also. run.disk)
 says words before after tb ta (Unopened fault) run line = says_unopened words before after tb ta fault run line
 says words before after tb ta (Counted result) run line = says_count words before after result tb ta run
+says words before after tb ta (DoorsServed ending) run line = absurd run
+says words before after tb ta (Uploaded ending) run line = absurd run
 says words before after tb ta (Served ended) run line = says_ended words before after _ ended run.tables run.words_are run.config run.served
 
 abbrev pub work_at : Incoming → Incoming → Outgoing → DiskEnd → Work
 work_at config input output disk = record { config = config; ends = record { incoming = input; outgoing = output }; disk = disk }
 
--- The same of the ends that a link reads and writes through.
-pub says_through : (words : List (List ℕ)) (cb ca ib i ia j : Incoming) (ob o oa p eb ea : Outgoing) (db da : DiskEnd) (tb ta : List ℤ → Type 0)
+-- A run goes over the ends that a link reads and writes through.
+pub run_through : (words : List (List ℕ)) (cb ca ib i ia j : Incoming) (ob o oa p : Outgoing) (db da : DiskEnd) (tb ta : List ℤ → Type 0)
     (ending : Ending) → ib ≡ i → ia ≡ j → ob ≡ o → oa ≡ p → IsRun ending words (work_at cb ib ob db) tb (work_at ca ia oa da) ta
-    → IsReported (line_of ending) eb ea → StatusSays (status_of ending) words (outside cb i o eb db) (outside ca j p ea da)
-says_through words cb ca ib i ia j ob o oa p eb ea db da tb ta ending one two three four run line =
-    says words (outside cb i o eb db) (outside ca j p ea da) tb ta ending
-    (subst (λ (x : Incoming). IsRun ending words (work_at cb x o db) tb (work_at ca j p da) ta) one
+    → IsRun ending words (work_at cb i o db) tb (work_at ca j p da) ta
+run_through words cb ca ib i ia j ob o oa p db da tb ta ending one two three four run =
+    subst (λ (x : Incoming). IsRun ending words (work_at cb x o db) tb (work_at ca j p da) ta) one
     (subst (λ (x : Incoming). IsRun ending words (work_at cb ib o db) tb (work_at ca x p da) ta) two
     (subst (λ (x : Outgoing). IsRun ending words (work_at cb ib x db) tb (work_at ca ia p da) ta) three
-    (subst (λ (x : Outgoing). IsRun ending words (work_at cb ib ob db) tb (work_at ca ia x da) ta) four run)))) line
+    (subst (λ (x : Outgoing). IsRun ending words (work_at cb ib ob db) tb (work_at ca ia x da) ta) four run)))
 
 -- ---- the history of a connection over an opened journal
 
@@ -649,6 +650,8 @@ unopened_run ConfigFault words before after tables ends db da tells are accepts 
 unopened_run (ConfigRefused fault) words before after tables ends db da tells are accepts never = absurd never
 unopened_run (Counted result) words before after tables ends db da tells are accepts never = absurd never
 unopened_run (Served ended) words before after tables ends db da tells are accepts never = absurd never
+unopened_run (DoorsServed ending) words before after tables ends db da tells are accepts never = absurd never
+unopened_run (Uploaded ending) words before after tables ends db da tells are accepts never = absurd never
 
 -- a journal that was counted
 pub counted_run : {D : Type 0} (told : D → Option Told) (faults : D → ℕ) (words : List (List ℕ)) (config : Incoming) (before after : Ends)
@@ -676,12 +679,15 @@ counted_run {D} told faults words config before after disk w journal left tells 
     })
 
 -- a line that isn't put together is the line of its ending
-pub fixed_is : (ending : Ending) → ((fault : OpenFault) → ending ≢ Unopened fault) → fixed_line ending ≡ line_of ending
-fixed_is WordsRefused other = refl
-fixed_is (Shown result) other = refl
-fixed_is ConfigFault other = refl
-fixed_is (ConfigRefused fault) other = refl
-fixed_is Unstarted other = refl
-fixed_is (Unopened fault) other = absurd (other fault refl)
-fixed_is (Counted result) other = refl
-fixed_is (Served ended) other = refl
+pub fixed_is : (ending : Ending) → ((fault : OpenFault) → ending ≢ Unopened fault) → ((upload : SinkEnding) → ending ≢ Uploaded upload)
+    → fixed_line ending ≡ line_of ending
+fixed_is WordsRefused other also = refl
+fixed_is (Shown result) other also = refl
+fixed_is ConfigFault other also = refl
+fixed_is (ConfigRefused fault) other also = refl
+fixed_is Unstarted other also = refl
+fixed_is (Unopened fault) other also = absurd (other fault refl)
+fixed_is (Counted result) other also = refl
+fixed_is (Served ended) other also = refl
+fixed_is (DoorsServed ending) other also = refl
+fixed_is (Uploaded upload) other also = absurd (also upload refl)

@@ -1,14 +1,12 @@
 -- What each cause of a connection's end comes to, and each fault of opening a journal: one row for
 -- each.
 use Rattle.std.specs.Prelude.{ℕ, List, [], ◌++◌, codes, decimal}
+use Rattle.error_lines.specs.Lines.{error_line}
 use Rattle.result_journal.specs.declared.opening.OpenFault.{OpenFault}
 use Rattle.result_journal.specs.declared.opening.OpenFault.TheVariants as openings
 use Rattle.http_wire.specs.Out.{fault_number, fault_name}
 use Rattle.http_workers.specs.declared.ended.Cause.{Cause}
 use Rattle.http_workers.specs.declared.ended.Cause.TheVariants as causes
-
-abbrev pub error_line : List ℕ → List ℕ
-error_line text = codes "rdb: " ++ (text ++ codes "\n")
 
 -- A cause's row: the exit status, and the line on the errors.
 pub record Row : Type 0 where

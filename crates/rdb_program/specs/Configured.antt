@@ -9,7 +9,7 @@ use Rattle.permissions.specs.declared.faults.PolicyFault.{PolicyFault}
 use Rattle.rdb_program.specs.declared.ending.Ending.{Ending}
 use Rattle.rdb_program.specs.declared.ending.Ending.TheVariants.{WordsRefused, Shown, ConfigFault}
 use Rattle.rdb_program.specs.declared.ending.Ending.TheVariants.{ConfigRefused, Unstarted, Unopened}
-use Rattle.rdb_program.specs.declared.ending.Ending.TheVariants.{Counted, Served}
+use Rattle.rdb_program.specs.declared.ending.Ending.TheVariants.{Counted, Served, DoorsServed, Uploaded}
 
 -- the most that is read of a configuration: one byte more than it may have
 abbrev pub most_read : ℕ
@@ -58,3 +58,5 @@ IsUnserved (Shown result) before after = ⊥
 IsUnserved (Unopened fault) before after = ⊥
 IsUnserved (Counted result) before after = ⊥
 IsUnserved (Served ended) before after = ⊥
+IsUnserved (DoorsServed ending) before after = ⊥
+IsUnserved (Uploaded ending) before after = ⊥

@@ -1,4 +1,4 @@
--- The code's own words: a journal that was opened, or not, by a core.
+-- The code's own word: a journal that was opened by a core.
 use Rattle.std.specs.Prelude.{◌≡◌, ℕ, true, List, Option}
 use Rattle.disks.specs.Moments.{Told}
 use Rattle.result_journal.specs.Journals.{is_settled}
@@ -6,11 +6,7 @@ use Rattle.result_journal.specs.declared.journal.Journal.{Journal}
 use Rattle.journal_book.specs.Worlds.{Play}
 use Rattle.journal_book.specs.Books.{Stands}
 use Rattle.service_effects.specs.Service.{ServiceWorld, empty_service}
-use Rattle.rdb_program.specs.Run.{DiskEnd, Opens, RefusesDisk}
-use Rattle.rdb_program.specs.declared.ending.Ending.{Ending}
-use Rattle.rdb_program.specs.declared.ending.Ending.TheVariants.{WordsRefused, Shown, ConfigFault}
-use Rattle.rdb_program.specs.declared.ending.Ending.TheVariants.{ConfigRefused, Unstarted, Unopened}
-use Rattle.rdb_program.specs.declared.ending.Ending.TheVariants.{Counted, Served}
+use Rattle.rdb_program.specs.Run.{DiskEnd, Opens}
 
 -- The journal was opened, its commands lead to this world, and nothing is to settle.
 pub record OpensBook {D : Type 0} (told : D → Option Told) (plays : Play ServiceWorld)
@@ -19,14 +15,3 @@ pub record OpensBook {D : Type 0} (told : D → Option Told) (plays : Play Servi
   pub commands : List (List ℕ)
   pub stands : Stands told plays empty_service w journal commands
   pub settled : is_settled journal ≡ true
-
--- It wasn't, by how the run ended: for want of memory before the disk was touched, or by its fault.
-abbrev pub IsUnopened : Ending → DiskEnd → DiskEnd → Type 0
-IsUnopened Unstarted before after = after ≡ before
-IsUnopened (Unopened fault) before after = RefusesDisk before fault after
-IsUnopened WordsRefused before after = ⊥
-IsUnopened (Shown result) before after = ⊥
-IsUnopened ConfigFault before after = ⊥
-IsUnopened (ConfigRefused fault) before after = ⊥
-IsUnopened (Counted result) before after = ⊥
-IsUnopened (Served ended) before after = ⊥

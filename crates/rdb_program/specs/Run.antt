@@ -1,5 +1,7 @@
 -- A run of the program.
 use Rattle.std.specs.Prelude.{◌≡◌, ℕ, ℤ, ◌⊎◌, List, [], ◌++◌, length, Option, Result, Ok, Err, codes, decimal}
+use Rattle.std.specs.Borrow.{GName}
+use Rattle.dialers.specs.Dials.{Dials}
 use Rattle.disks.specs.Moments.{AtEachMoment, Told}
 use Rattle.outside.specs.Ends.{Incoming, Outgoing, Ends}
 use Rattle.outside.specs.Whole.{WritesWhole}
@@ -19,17 +21,29 @@ use Rattle.service_core.specs.Service.{Service, service_of}
 use Rattle.tellers.specs.Exchange.{Exchange}
 use Rattle.record_desk.specs.Clocked.{IsClocked}
 use Rattle.record_desk.specs.Standing.{HasLast, Moves}
-use Rattle.rdb_program.specs.Words.{SayNothing, IsAnswerWords, IsCheckWords, AskForText}
+use Rattle.rdb_program.specs.Words.{SayNothing, IsAnswerWords, IsCheckWords, IsServeWords, AskForText}
+use Rattle.program_words.specs.Grammar.{Says}
+use Rattle.program_words.specs.declared.command.Command.TheVariants.{Sink}
+use Rattle.program_words.specs.declared.sink_words.SinkWords.{SinkWords}
+use Rattle.serve_runs.specs.Endings.{serve_line, serve_status}
+use Rattle.serve_runs.specs.Runs.{IsServing, Premises}
+use Rattle.serve_runs.specs.declared.ending.ServeEnding.{ServeEnding}
+use Rattle.sink_runs.specs.Endings.{Tells, sink_line, sink_status}
+use Rattle.sink_runs.specs.Runs.{IsSending, Sending}
+use Rattle.sink_runs.specs.declared.ending.SinkEnd.{SinkEnd}
+use Rattle.sink_runs.specs.declared.ending.SinkEnding.{SinkEnding}
+use Rattle.sink_uploads.specs.declared.course.Sent.{Sent}
 use Rattle.http_workers.specs.Causes.{cause_of}
 use Rattle.http_workers.specs.Ended.{ServesLink}
 use Rattle.http_workers.specs.declared.ended.Ended.{Ended}
-use Rattle.rdb_program.specs.Causes.{opening_row, row_of, error_line}
+use Rattle.error_lines.specs.Lines.{error_line}
+use Rattle.rdb_program.specs.Causes.{opening_row, row_of}
 use Rattle.rdb_program.specs.Configured.{Accepts, IsUnserved}
 use Rattle.rdb_program.specs.Counted.{world_text}
 use Rattle.rdb_program.specs.declared.ending.Ending.{Ending}
 use Rattle.rdb_program.specs.declared.ending.Ending.TheVariants.{WordsRefused, Shown, ConfigFault}
 use Rattle.rdb_program.specs.declared.ending.Ending.TheVariants.{ConfigRefused, Unstarted, Unopened}
-use Rattle.rdb_program.specs.declared.ending.Ending.TheVariants.{Counted, Served}
+use Rattle.rdb_program.specs.declared.ending.Ending.TheVariants.{Counted, Served, DoorsServed, Uploaded}
 
 -- The disk at one moment, as far as it tells, with its count of faults.
 pub record DiskEnd : Type 0 where
@@ -78,6 +92,8 @@ status_of (Unopened fault) = (opening_row fault).status
 status_of (Counted (Ok done)) = 0
 status_of (Counted (Err end)) = (row_of (cause_of end)).status
 status_of (Served ended) = (row_of ended.cause).status
+status_of (DoorsServed ending) = serve_status ending
+status_of (Uploaded ending) = sink_status ending
 
 abbrev pub line_of : Ending → List ℕ
 line_of WordsRefused = error_line (codes "words refused")
@@ -90,6 +106,8 @@ line_of (Unopened fault) = (opening_row fault).line
 line_of (Counted (Ok done)) = []
 line_of (Counted (Err end)) = (row_of (cause_of end)).line
 line_of (Served ended) = (row_of ended.cause).line
+line_of (DoorsServed ending) = serve_line ending
+line_of (Uploaded ending) = sink_line ending
 
 -- The journal on the disk was opened: its commands lead from the empty world to this one. Other
 -- bytes than a journal's were begun anew only where they are nine at most.
@@ -109,6 +127,20 @@ pub record RefusesDisk (before : DiskEnd) (fault : OpenFault) (after : DiskEnd) 
   pub moments : AtEachMoment before.told after.told (LeftBeforeOrAlike before.told)
   pub synced : AlikeOnceSynced before.told after.told
   pub cause : FaultCause before.faults fault after.faults
+
+-- The journal wasn't opened, by how the run ended: for want of memory before the disk was touched,
+-- or by its fault.
+abbrev pub IsUnopened : Ending → DiskEnd → DiskEnd → Type 0
+IsUnopened Unstarted before after = after ≡ before
+IsUnopened (Unopened fault) before after = RefusesDisk before fault after
+IsUnopened WordsRefused before after = ⊥
+IsUnopened (Shown result) before after = ⊥
+IsUnopened ConfigFault before after = ⊥
+IsUnopened (ConfigRefused fault) before after = ⊥
+IsUnopened (Counted result) before after = ⊥
+IsUnopened (Served ended) before after = ⊥
+IsUnopened (DoorsServed ending) before after = ⊥
+IsUnopened (Uploaded ending) before after = ⊥
 
 -- These were asked and told in one legal history from the world of the opened journal, under this
 -- policy, of one seat, at the moments that the clock's answers make. Each image of the disk has the
@@ -198,8 +230,8 @@ pub record Serves (ended : Ended) (words : List (List ℕ))
       (λ exchanges. IsHistory tables opened tells_before disk exchanges tells_after after.disk)
       before.ends ended after.ends
 
--- What a run did that ended so. For want of memory it may have ended at its words, of which nothing
--- is said then.
+-- What a run did that dialled nothing, served no doors and ended so. For want of memory it may have
+-- ended at its words, of which nothing is said then.
 abbrev pub IsRun : Ending → List (List ℕ)
     → Work → (List ℤ → Type 0) → Work → (List ℤ → Type 0) → Type 0
 IsRun WordsRefused words before tells_before after tells_after =
@@ -219,6 +251,105 @@ IsRun (Counted result) words before tells_before after tells_after =
     CountsJournal result words before tells_before after tells_after
 IsRun (Served ended) words before tells_before after tells_after =
     Serves ended words before tells_before after tells_after
+IsRun (DoorsServed ending) words before tells_before after tells_after = ⊥
+IsRun (Uploaded ending) words before tells_before after tells_after = ⊥
+
+-- what an upload goes over: the configuration, the input as its report, and the dialer
+abbrev pub sending : {L : Type 0} → Work → Dials L → Sending L
+sending work dials = record { config = work.config; input = work.ends.incoming; dials = dials }
+
+-- A run whose words ask for an upload. The plan of what the input had left was uploaded, or nothing
+-- was dialled, and the output got what was sent; the disk wasn't touched, and the clock wasn't
+-- asked.
+pub record UploadsReport {L : Type 0} (ends : L → Ends) (ending : SinkEnding)
+    (words : List (List ℕ))
+    (before : Work) (tells_before : List ℤ → Type 0) (dials_before : Dials L)
+    (after : Work) (tells_after : List ℤ → Type 0) (dials_after : Dials L) : Type 0 where
+  pub sink : SinkWords
+  pub words_are : Says words (Sink sink)
+  pub sent : Result Sent SinkEnd
+  pub sends : IsSending ends sink (sending before dials_before) sent (sending after dials_after)
+  pub tells : Tells sent before.ends.outgoing ending after.ends.outgoing
+  pub disk : after.disk ≡ before.disk
+  pub clocked : IsClocked tells_before [] tells_after
+
+-- What doors tell of their links, and what their links tell.
+pub record Telling (A L : Type 0) : Type 0 where
+  pub tells : A → Dials L
+  pub ends : L → Ends
+  pub holds : L → List GName
+
+-- what a service goes over: the disk, the doors, and the output
+abbrev pub premises : {A : Type 0} → Work → List A → Premises A
+premises work doors = record {
+  disk = work.disk.told;
+  faults = work.disk.faults;
+  doors = doors;
+  output = work.ends.outgoing;
+}
+
+-- A run whose words ask for a service, whose configuration is that of a policy, whose journal was
+-- opened, and that served the doors, or had no memory for it.
+pub record ServesService {A L : Type 0} (telling : Telling A L) (ending : ServeEnding)
+    (words : List (List ℕ))
+    (before : Work) (tells_before : List ℤ → Type 0) (doors_before : List A)
+    (after : Work) (tells_after : List ℤ → Type 0) (doors_after : List A) : Type 0 where
+  pub words_are : IsServeWords words
+  pub tables : PolicyTables
+  pub config : Accepts before.config tables after.config
+  pub opened : ServiceWorld
+  pub disk : DiskEnd
+  pub opens : Opens before.disk opened disk
+  pub serves : IsServing telling.tells telling.ends telling.holds ending tables opened
+      tells_before (premises (record before { disk = disk }) doors_before)
+      tells_after (premises after doors_after)
+  pub unread : after.ends.incoming ≡ before.ends.incoming
+
+-- Why a service didn't begin: its configuration gave no policy, and the disk wasn't touched; or it
+-- did, and the journal wasn't opened.
+abbrev pub IsNoService : Ending → Work → Work → Type 0
+IsNoService ending before after =
+    (IsUnserved ending before.config after.config × (after.disk ≡ before.disk))
+    ⊎ (((tables : PolicyTables) × Accepts before.config tables after.config)
+    × IsUnopened ending before.disk after.disk)
+
+-- A run whose words ask for a service that didn't begin: nothing was read of the input, nothing was
+-- written to the output, and the clock wasn't asked.
+pub record StopsService (ending : Ending) (words : List (List ℕ))
+    (before : Work) (tells_before : List ℤ → Type 0)
+    (after : Work) (tells_after : List ℤ → Type 0) : Type 0 where
+  pub words_are : IsServeWords words
+  pub why : IsNoService ending before after
+  pub ends : after.ends ≡ before.ends
+  pub clocked : IsClocked tells_before [] tells_after
+
+-- What a run did that ended so and uploaded nothing: it served the doors, or asked none of them.
+abbrev pub DoesHere : {A L : Type 0} → Telling A L → Ending → List (List ℕ)
+    → Work → (List ℤ → Type 0) → List A → Work → (List ℤ → Type 0) → List A → Type 0
+DoesHere telling (DoorsServed ending) words before tells_before doors_before
+    after tells_after doors_after =
+    ServesService telling ending words before tells_before doors_before
+    after tells_after doors_after
+DoesHere telling other words before tells_before doors_before after tells_after doors_after =
+    (IsRun other words before tells_before after tells_after
+    ⊎ StopsService other words before tells_before after tells_after)
+    × (doors_after ≡ doors_before)
+
+-- The doors and the dialer at one moment.
+pub record Links (A X : Type 0) : Type 0 where
+  pub doors : List A
+  pub dials : Dials X
+
+-- What a run did that ended so: it uploaded a report, and asked no door; or it dialled nothing.
+abbrev pub Does : {A L X : Type 0} → Telling A L → (X → Ends) → Ending → List (List ℕ)
+    → Work → (List ℤ → Type 0) → Links A X → Work → (List ℤ → Type 0) → Links A X → Type 0
+Does telling ends (Uploaded ending) words before tells_before links_before
+    after tells_after links_after =
+    UploadsReport ends ending words before tells_before links_before.dials
+    after tells_after links_after.dials × (links_after.doors ≡ links_before.doors)
+Does telling ends other words before tells_before links_before after tells_after links_after =
+    DoesHere telling other words before tells_before links_before.doors
+    after tells_after links_after.doors × (links_after.dials ≡ links_before.dials)
 
 -- The line was written, or a front of it where a write of it failed or took nothing.
 abbrev pub IsReported : List ℕ → Outgoing → Outgoing → Type 0
@@ -226,10 +357,12 @@ IsReported line before after =
     (result : Result (Unit {0}) WriteEnd) × WritesWhole before line result after
 
 -- The status is that of how the run ended, and so is the line on the errors.
-pub record ProgramRun (status : ℕ) (words : List (List ℕ))
-    (before : Outside) (tells_before : List ℤ → Type 0)
-    (after : Outside) (tells_after : List ℤ → Type 0) : Type 0 where
+pub record ProgramRun {A L X : Type 0} (telling : Telling A L) (ends : X → Ends) (status : ℕ)
+    (words : List (List ℕ))
+    (before : Outside) (tells_before : List ℤ → Type 0) (links_before : Links A X)
+    (after : Outside) (tells_after : List ℤ → Type 0) (links_after : Links A X) : Type 0 where
   pub ending : Ending
   pub status_is : status ≡ status_of ending
-  pub run : IsRun ending words before.work tells_before after.work tells_after
+  pub run : Does telling ends ending words before.work tells_before links_before
+      after.work tells_after links_after
   pub line : IsReported (line_of ending) before.errors after.errors

@@ -21,7 +21,7 @@ use Rattle.service_effects.specs.Service.{ServiceWorld, empty_service}
 use Rattle.service_machine.specs.Machines.{Plays}
 use Rattle.rdb_program.specs.Causes.{opening_row}
 use Rattle.rdb_program.specs.Counted.{world_text}
-use Rattle.rdb_program.specs.Words.{SayNothing, IsAnswerWords, IsCheckWords, AskForText}
+use Rattle.rdb_program.specs.Words.{SayNothing, IsAnswerWords, IsCheckWords, IsServeWords, IsSinkWords, AskForText}
 use Rattle.rdb_program.specs.Run.{Opens, Outside, Work, IsReported, refusal_line}
 
 -- The stream that was to be read, where it is told, is messages to its end.
@@ -182,3 +182,9 @@ pub record StatusSays (status : ℕ) (words : List (List ℕ)) (before after : O
       → EndsIn Closed 0 status before.work after.work
   pub broken_stream : IsAnswerWords words → status ≢ 2 → status ≢ 3 → (fault : WireFault)
       → EndsIn (Fault fault) 8 status before.work after.work
+
+-- What an exit status says: of words that ask for no service and no upload what stands here. Of
+-- those that do, the run's own record says it by its ending.
+pub record ExitSays (status : ℕ) (words : List (List ℕ)) (before after : Outside) : Type 0 where
+  pub words_refused : status ≡ 1 → SayNothing words
+  pub others : ¬ IsServeWords words → ¬ IsSinkWords words → StatusSays status words before after

@@ -9,6 +9,8 @@ use http_workers::{Cause, Ended};
 use outside::WriteEnd;
 use permissions::PolicyFault;
 use result_journal::OpenFault;
+use serve_runs::ServeEnding;
+use sink_runs::SinkEnding;
 
 /// How a run ended. A fault of the configuration may hold a token, so nothing prints an ending
 /// whole.
@@ -30,6 +32,10 @@ pub enum Ending {
     Counted(Result<(), WriteEnd>),
     /// The connection was served, and ended so.
     Served(Ended),
+    /// The doors of a service were served, or weren't for want of memory, and that ended so.
+    DoorsServed(ServeEnding),
+    /// The upload of a report ended so.
+    Uploaded(SinkEnding),
 }
 
 impl Ending {
@@ -46,22 +52,26 @@ impl Ending {
             Ending::Unstarted => 7,
             Ending::Unopened(fault) => opening_status(fault),
             Ending::Served(ended) => status(&ended.cause),
+            Ending::DoorsServed(ending) => ending.status(),
+            Ending::Uploaded(ending) => ending.status(),
         }
     }
 
     /// The line on standard error: none where the work is done, nor where the journal wasn't
-    /// opened, of which `opening_line` tells.
+    /// opened, of which `opening_line` tells, nor of an upload, which has its own.
     pub fn line(&self) -> &'static str
         ensures { result.now ≡ fixed_line self.now }
     {
         match self {
             Ending::WordsRefused => "rdb: words refused\n",
-            Ending::Shown(Ok(())) | Ending::Counted(Ok(())) | Ending::Unopened(_) => "",
+            Ending::Shown(Ok(())) | Ending::Counted(Ok(())) => "",
+            Ending::Unopened(_) | Ending::Uploaded(_) => "",
             Ending::Shown(Err(end)) | Ending::Counted(Err(end)) => line(&Cause::from(*end)),
             Ending::ConfigFault => "rdb: fault of config\n",
             Ending::ConfigRefused(fault) => refusal_line(fault),
             Ending::Unstarted => "rdb: want of memory\n",
             Ending::Served(ended) => line(&ended.cause),
+            Ending::DoorsServed(ending) => ending.line(),
         }
     }
 }

@@ -1,41 +1,16 @@
 //! Lines that are put together on the stack.
-ghost use Rattle.std.specs.Prelude.{◌≡◌, ◌+◌, ◌≤◌, ◌++◌, codes, decimal, length};
+ghost use Rattle.std.specs.Prelude.{◌≡◌, ◌+◌, ◌≤◌, ◌++◌, codes, length};
 ghost use Rattle.rdb_program.specs.Causes.{opening_row};
 ghost use Rattle.rdb_program.specs.Counted.{counts_text};
 ghost use Rattle.rdb_program.specs.Lines.{fault_text};
 
-use arrayvec::ArrayVec;
-use itoa::Buffer;
+use error_lines::{Line, put, put_number};
 use result_journal::OpenFault;
 use service_core::Counts;
 
-/// More than the longest line has.
-const ROOM: usize = 320;
-
-/// A line, or the front of one.
-pub type Line = ArrayVec<u8, ROOM>;
-
-/// Puts a text behind a line.
-fn put(line: &mut Line, text: &str)
-    requires { length line.old.items + length text.now ≤ ROOM }
-    ensures { line.new.items ≡ line.old.items ++ text.now }
-{
-    let _ = line.try_extend_from_slice(text.as_bytes());
-}
-
-/// Puts a text and a number behind a line.
-fn put_number(line: &mut Line, text: &str, number: u64)
-    requires { length line.old.items + length text.now + 20 ≤ ROOM }
-    ensures items { line.new.items ≡ line.old.items ++ (text.now ++ decimal number) }
-    ensures len { length line.new.items ≤ length line.old.items + length text.now + 20 }
-{
-    put(line, text);
-    put(line, Buffer::new().format(number));
-}
-
 /// Puts why a journal isn't opened.
 fn put_fault(line: &mut Line, fault: OpenFault)
-    requires { length line.old.items + 60 ≤ ROOM }
+    requires { length line.old.items + 60 ≤ 320 }
     ensures items { line.new.items ≡ line.old.items ++ fault_text fault }
     ensures len { length line.new.items ≤ length line.old.items + 60 }
 {

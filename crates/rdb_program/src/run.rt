@@ -1,29 +1,37 @@
 //! The top call: all that the program does, over ends that are handed in.
-ghost use Rattle.std.specs.Prelude.{◌≡◌, ◌≢◌, ℕ, List, map, string_bytes, IfErr, IfOk, MatchResult};
+ghost use Rattle.std.specs.Prelude.{◌≡◌, ◌≢◌, ◌≤◌, ℕ, List, map, string_bytes, Ok, IfErr, IfOk, MatchResult, vec_len};
 ghost use Rattle.outside.specs.Ends.{Incoming};
 ghost use Rattle.result_journal.specs.Journals.{disk_of};
 ghost use Rattle.service_core.specs.CoreState.{world_in};
 ghost use Rattle.service_machine.specs.Machines.{Plays};
-ghost use Rattle.rdb_program.specs.Words.{IsAnswerWords, IsCheckWords, AskForText};
+ghost use Rattle.rdb_program.specs.Words.{IsAnswerWords, IsCheckWords, IsSaid, AskForText};
 ghost use Rattle.rdb_program.specs.Configured.{Accepts, IsUnserved};
-ghost use Rattle.rdb_program.specs.Run.{outside, line_of, IsRun, Shows, StopsAtConfig, IsReported};
-ghost use Rattle.rdb_program.specs.Run.{ProgramRun, disk_end};
-ghost use Rattle.rdb_program.specs.Opening.{IsUnopened, OpensBook};
-ghost use Rattle.rdb_program.specs.Statuses.{StatusSays};
+ghost use Rattle.rdb_program.specs.Run.{outside, line_of, status_of, IsRun, Shows, StopsAtConfig, IsReported};
+ghost use Rattle.rdb_program.specs.Run.{IsUnopened, ProgramRun, disk_end};
+ghost use Rattle.rdb_program.specs.Opening.{OpensBook};
+ghost use Rattle.rdb_program.specs.Statuses.{ExitSays};
 
 use crate::ending::Ending;
 use crate::lines::{counts_line, opening_line};
+use crate::service::{Service, serve_doors};
+use dialers::Dialer;
 use disks::Disk;
+use doors::Door;
 use http_workers::serve_connection;
 use journal_book::Book;
 use outside::{Clock, Link, PairLink, Sink, Source, put_whole, write_whole};
 use permissions::{Policy, PolicyFault};
 use policy_reading::from_toml;
-use program_words::{Command, WordFault, help_text, read_words, version_text};
+use program_words::{
+    Command, ServeWords, SinkWords, WordFault, help_text, read_words, version_text,
+};
 use record_desk::BookTeller;
 use service_core::Core;
 use service_machine::ServiceMachine;
+use sink_runs::{send_report, tell};
 use std::alloc::Global;
+use std::sync::Wait;
+use std::thread::Threads;
 use whole_reads::{ReadEnd, read_front};
 
 /// The most that is read of a configuration: one byte more than it may have.
@@ -32,23 +40,24 @@ const MOST_READ: usize = 4_194_305;
 /// How many bytes stand before the first record of a journal.
 const HEAD: u64 = 8;
 
-/// What a run leaves: its exit status, and the disk and the clock that it was given.
+/// What a run leaves: its exit status, and the disk, the clock and the doors that it was given.
 #[derive(Drop)]
-pub struct Outcome<D, C> {
+pub struct Outcome<A, D, C> {
     pub status: u8,
     pub disk: D,
     pub clock: C,
+    pub doors: Vec<A>,
 }
 
 /// What a run is lent, and gives back.
 #[derive(Drop)]
-struct Lent<D, C> {
-    disk: D,
-    clock: C,
+pub(crate) struct Lent<D, C> {
+    pub(crate) disk: D,
+    pub(crate) clock: C,
 }
 
 /// Reads the configuration: its policy, or how the run ends without one.
-fn read_policy<I: Source>(alloc: Global, config: &mut I) -> Result<Policy, Ending>
+pub(crate) fn read_policy<I: Source>(alloc: Global, config: &mut I) -> Result<Policy, Ending>
     ensures { MatchResult result
         (λ policy. Accepts (I.ends config.old) policy (I.ends config.new))
         (λ ending. IsUnserved ending (I.ends config.old) (I.ends config.new)) }
@@ -66,7 +75,10 @@ fn read_policy<I: Source>(alloc: Global, config: &mut I) -> Result<Policy, Endin
 }
 
 /// Opens the journal: an empty core replays its commands.
-fn open_journal<D: Disk>(alloc: Global, disk: D) -> Result<Book<ServiceMachine, D>, (Ending, D)>
+pub(crate) fn open_journal<D: Disk>(
+    alloc: Global,
+    disk: D,
+) -> Result<Book<ServiceMachine, D>, (Ending, D)>
     ensures ok { IfOk result (λ book. OpensBook D.told Plays (disk_end D.told D.faults disk)
         (world_in book.machine.core) book.journal
         (disk_end D.told D.faults (disk_of book.journal))) }
@@ -189,15 +201,18 @@ fn serve<I: Source, L: Link, D: Disk, C: Clock>(
     }
 }
 
-/// Runs the command that the words say, and says how it ended.
+/// Runs the command that the words say, which asks for no service and no upload, and says how it
+/// ended.
 fn run_words<I: Source, L: Link, D: Disk, C: Clock>(
     alloc: Global,
-    words: &[String],
+    said: Result<Command, WordFault>,
     config: &mut I,
     link: &mut L,
     lent: Lent<D, C>,
 ) -> (Ending, Lent<D, C>)
-    ensures run { IsRun result.0 (map string_bytes words.now)
+    requires sink { (sink : SinkWords) → said ≢ Ok (Command.Sink sink) }
+    requires serve { (serve : ServeWords) → said ≢ Ok (Command.Serve serve) }
+    ensures run { (words : List (List ℕ)) → IsSaid words said → IsRun result.0 words
         (record {
           config = I.ends config.old;
           ends = L.ends link.old;
@@ -212,9 +227,10 @@ fn run_words<I: Source, L: Link, D: Disk, C: Clock>(
         (C.tells (C.state result.1.clock)) }
     ensures holds { L.holds link.new ≡ L.holds link.old }
 {
-    match read_words(alloc, words) {
+    match said {
         Ok(Command::Answer { .. }) => serve(alloc, config, link, lent),
         Ok(Command::Check { .. }) => check(alloc, link, lent),
+        Ok(Command::Serve(_) | Command::Sink(_)) => unreachable!(),
         Ok(Command::Help) => (
             Ending::Shown(write_whole(link, help_text().as_bytes())),
             lent,
@@ -234,8 +250,32 @@ pub fn report<O: Sink>(ending: &Ending, errors: &mut O)
 {
     let _ = match ending {
         Ending::Unopened(fault) => put_whole(errors, opening_line(*fault).as_slice()),
+        Ending::Uploaded(ending) => put_whole(errors, ending.line().as_slice()),
         _ => put_whole(errors, ending.line().as_bytes()),
     };
+}
+
+/// Says on `errors` how the run ended, and gives back what it was lent.
+fn finish<O: Sink, A, D, C>(
+    ending: Ending,
+    errors: &mut O,
+    lent: Lent<D, C>,
+    doors: Vec<A>,
+) -> Outcome<A, D, C>
+    ensures status { result.status ≡ status_of ending }
+    ensures disk { result.disk ≡ lent.disk }
+    ensures clock { result.clock ≡ lent.clock }
+    ensures doors { result.doors ≡ doors }
+    ensures line { IsReported (line_of ending) (O.ends errors.old) (O.ends errors.new) }
+{
+    report(&ending, errors);
+    let Lent { disk, clock } = lent;
+    Outcome {
+        status: ending.status(),
+        disk,
+        clock,
+        doors,
+    }
 }
 
 /// Runs the command that the words say, and says on `errors` how it ended, unless the work is done.
@@ -243,24 +283,33 @@ pub fn report<O: Sink>(ending: &Ending, errors: &mut O)
 ///
 /// `answer` reads the configuration, opens the journal on `disk`, and then reads requests from
 /// `input`, and writes their replies to `output`. What a request changes is recorded in the journal
-/// before it is answered. `check` opens the journal, and writes to `output` how much it holds.
-/// `--help` and `--version` write a text to `output`.
+/// before it is answered. `serve` reads the configuration, opens the journal, and then serves every
+/// link that comes in at the doors, each door in a thread of its own, and writes to `output` how
+/// many there were. `check` opens the journal, and writes to `output` how much it holds. `sink`
+/// reads the configuration, and then a report from `input`, uploads its cases over links of
+/// `dialer`, and writes to `output` how many were sent. `--help` and `--version` write a text to
+/// `output`.
 ///
 /// | Status | |
 /// |---|---|
 /// | 0 | each message was answered, to the end or the reply that closes; or the text was written |
+/// | 0 | all doors were served to their ends, and that was told |
 /// | 1 | the words are outside the grammar |
 /// | 2 | the configuration is refused |
 /// | 3 | the journal is refused |
 /// | 4 | a read of configuration or input failed, a write to output, or the disk at its opening |
+/// | 4 | a door failed, or the upload gave up, since too many links failed |
+/// | 5 | the report is refused |
+/// | 6 | a batch was refused, or what came is no reply |
 /// | 7 | memory was wanting outside a reply |
 /// | 8 | the input isn't messages to its end: it has a message with a fault, or ends inside one |
 /// | 9 | the output took nothing of bytes that it was given |
 ///
-/// Nothing is read from `input` and nothing is written to `output` before the words, the
-/// configuration and the journal are accepted.
-pub fn run_program<R, I: Source, O: Sink, D: Disk, C: Clock>(
-    _rt: &R,
+/// Nothing is read from `input`, nothing is written to `output` and no door is asked before the
+/// words, the configuration and the journal are accepted. Nothing is dialled but for an upload
+/// whose configuration and report are accepted.
+pub fn run_program<R: Threads + Wait + Sync, I: Source, O: Sink, A, D, C, X: Dialer>(
+    rt: &R,
     alloc: Global,
     words: &[String],
     config: &mut I,
@@ -269,31 +318,55 @@ pub fn run_program<R, I: Source, O: Sink, D: Disk, C: Clock>(
     errors: &mut O,
     disk: D,
     clock: C,
-) -> Outcome<D, C>
+    doors: Vec<A>,
+    dialer: &mut X,
+) -> Outcome<A, D, C>
+where
+    A: Door + Drop + Send,
+    A::L: Send,
+    D: Disk + Drop + Send,
+    C: Clock + Drop + Send,
+    requires { vec_len doors ≤ 64 }
+
     // The whole run: the policy, the world of the opened journal, which messages were answered, the
-    // history that they made, the bytes that were written, and what a crash leaves of the disk.
-    ensures run { ProgramRun result.status (map string_bytes words.now)
+    // history that they made, the bytes that were written, and what a crash leaves of the disk; or
+    // the plan of the report, and what each link took and gave.
+    ensures run { ProgramRun
+        (record { tells = A.tells; ends = A.L.ends; holds = A.L.holds })
+        X.L.ends result.status (map string_bytes words.now)
         (outside (I.ends config.old) (I.ends input.old) (O.ends output.old) (O.ends errors.old)
         (disk_end D.told D.faults disk))
         (C.tells (C.state clock))
+        (record { doors = doors.items; dials = X.dials dialer.old })
         (outside (I.ends config.new) (I.ends input.new) (O.ends output.new) (O.ends errors.new)
         (disk_end D.told D.faults result.disk))
-        (C.tells (C.state result.clock)) }
+        (C.tells (C.state result.clock))
+        (record { doors = result.doors.items; dials = X.dials dialer.new }) }
 
     // What the exit status says.
-    ensures status { StatusSays result.status (map string_bytes words.now)
+    ensures status { ExitSays result.status (map string_bytes words.now)
         (outside (I.ends config.old) (I.ends input.old) (O.ends output.old) (O.ends errors.old)
         (disk_end D.told D.faults disk))
         (outside (I.ends config.new) (I.ends input.new) (O.ends output.new) (O.ends errors.new)
         (disk_end D.told D.faults result.disk)) }
 {
-    let mut link = PairLink::new(input, output);
-    let (ending, lent) = run_words(alloc, words, config, &mut link, Lent { disk, clock });
-    report(&ending, errors);
-    let Lent { disk, clock } = lent;
-    Outcome {
-        status: ending.status(),
-        disk,
-        clock,
+    let lent = Lent { disk, clock };
+    match read_words(alloc, words) {
+        Ok(Command::Sink(sink)) => {
+            let sent = send_report(alloc, sink, config, input, dialer);
+            let ending = Ending::Uploaded(tell(output, sent));
+            finish(ending, errors, lent, doors)
+        }
+        Ok(Command::Serve(_)) => {
+            let service = Service { doors, lent };
+            let (ending, service) = serve_doors(rt, alloc, config, output, service);
+            let Service { doors, lent } = service;
+            finish(ending, errors, lent, doors)
+        }
+        said => {
+            let mut link = PairLink::new(input, output);
+            let (ending, lent) = run_words(alloc, said, config, &mut link, lent);
+            finish(ending, errors, lent, doors)
+        }
     }
 }

@@ -1,10 +1,16 @@
 //! Runs over ends in memory: what goes in, what comes out, and how it ends.
+ghost use Rattle.std.specs.Prelude.{◌≤◌, IfOk, vec_len};
+
 use crate::run::run_program;
+use dialers::MemoryDialer;
 use disks::MemoryDisk;
-use outside::{ListClock, MemorySink, MemorySource, Source};
+use doors::MemoryDoor;
+use outside::{ListClock, MemoryLink, MemorySink, MemorySource, Source};
 use std::alloc::{AllocError, Global};
 use std::process::Abort;
+use std::sync::Wait;
 use std::test::Fail;
+use std::thread::Threads;
 
 /// A user who may do all that is asked here, in one realm.
 const CONFIG: &str = "\
@@ -147,12 +153,16 @@ const FAREWELL: &str = "HTTP/1.1 400 Bad Request\r\nContent-Type: text/plain; ch
     X-Prpc-Grpc-Code: 3\r\nConnection: close\r\nContent-Length: 16\r\n\r\n\
     wire 4 NoLength\n";
 
-const HELP: &str = "answer --config PATH --journal PATH\ncheck --journal PATH\n--help\n--version\n";
+const HELP: &str = "answer --config PATH --journal PATH\ncheck --journal PATH\n\
+    serve --config PATH --journal PATH --listen ADDR --workers K [--connections N]\n\
+    sink --config PATH --server ADDR --invocation ID --format tap|junit [--prefix TEXT]\n\
+    --help\n--version\n";
 
 /// A run: its words, parted by blanks, the configuration, the input, and the journal; by their
 /// numbers the reads of the configuration, the reads of the input, the writes to the output that
 /// fail, of which one whose number stands twice takes nothing, and the calls on the disk that fail;
-/// the output, the status, the line on the errors, and how many bytes the journal has afterwards.
+/// what comes over each link that is dialled; the output, the status, the line on the errors, and
+/// how many bytes the journal has afterwards.
 #[derive(Clone, Copy)]
 struct Run<'a> {
     words: &'a str,
@@ -163,6 +173,7 @@ struct Run<'a> {
     input_fails: &'a [u64],
     output_fails: &'a [u64],
     disk_fails: &'a [u64],
+    links: &'a [&'a str],
     output: &'a [&'a str],
     status: u8,
     line: &'a str,
@@ -284,6 +295,69 @@ const OPENED: [Opened; 6] = [
     (ANSWER, b"", &[1], &[], 4, "rdb: fault of disk\n", 0),
 ];
 
+/// Runs that upload a report: configuration, report, what comes over each link, output, status and
+/// line.
+type Uploaded = (
+    &'static str,
+    &'static str,
+    &'static [&'static str],
+    &'static [&'static str],
+    u8,
+    &'static str,
+);
+
+const SINK: &str = "sink --config sink.toml --server s --invocation u-a --format tap";
+
+const SINK_CONFIG: &str = "token = \"tok-a\"\nupdate_token = \
+    \"3f2f1bb18f734f22cd9d2ed809e69a8bf5d841332e29a79572c3c0a2f8f94d18\"\n";
+
+const REPORT: &str = "TAP version 14\nok 1 - a\n1..1\n";
+
+const TAKEN: &str = "HTTP/1.1 200 OK\r\nContent-Length: 2\r\n\r\n{}";
+
+const UPLOADED: [Uploaded; 5] = [
+    (
+        SINK_CONFIG,
+        REPORT,
+        &["", TAKEN],
+        &["sent 1 cases in 1 batches\n"],
+        0,
+        "",
+    ),
+    (
+        CONFIG,
+        REPORT,
+        &[],
+        &[],
+        2,
+        "rdb: configuration refused: 8 BadShape\n",
+    ),
+    (
+        SINK_CONFIG,
+        "1..1\n",
+        &[],
+        &[],
+        5,
+        "rdb: report refused: 1 NoVersion\n",
+    ),
+    (
+        SINK_CONFIG,
+        REPORT,
+        &[],
+        &[],
+        4,
+        "rdb: gave up on batch 1\n",
+    ),
+    (
+        SINK_CONFIG,
+        REPORT,
+        &["HTTP/1.1 403 Forbidden\r\nContent-Length: 0\r\n\r\n"],
+        &[],
+        6,
+        "rdb: batch 1 refused: 403\n",
+    ),
+];
+
 const CHECK: &str = "check --journal farm.journal";
 
 const ANSWER: &str = "answer --config farm.toml --journal farm.journal";
@@ -347,15 +421,39 @@ fn ends_of(alloc: Global, run: &Run) -> Result<Ends, AllocError> {
     })
 }
 
+/// A dialer of links each of which gives a text and ends.
+fn dialer(alloc: Global, links: &[&str]) -> Result<MemoryDialer<MemoryLink>, AllocError> {
+    let mut made = Vec::new(alloc);
+    for text in links {
+        let pieces = vec![in alloc; joined(alloc, &[*text])?]?;
+        made.push(MemoryLink::new(alloc, pieces, Vec::new(alloc))?)?;
+    }
+    MemoryDialer::new(alloc, made, Vec::new(alloc))
+}
+
 /// A disk whose part 0 has these bytes.
 fn disk(alloc: Global, bytes: &[u8], fails: &[u64]) -> Result<MemoryDisk, AllocError> {
     let first = bytes.to_vec(alloc)?;
     MemoryDisk::new(alloc, first, Vec::new(alloc), fails.to_vec(alloc)?, None)
 }
 
+/// A door with a link, on which a call comes in. Some calls for a link fail.
+fn door(alloc: Global, fails: &[u64]) -> Result<MemoryDoor<MemoryLink>, AllocError> {
+    let pieces = vec![in alloc; joined(alloc, &[ONE])?]?;
+    let link = MemoryLink::new(alloc, pieces, Vec::new(alloc))?;
+    MemoryDoor::new(alloc, vec![in alloc; link]?, fails.to_vec(alloc)?)
+}
+
+/// Two such doors.
+fn doors(alloc: Global, fails: &[u64]) -> Result<Vec<MemoryDoor<MemoryLink>>, AllocError>
+    ensures { IfOk result (λ all. vec_len all ≤ 64) }
+{
+    Ok(vec![in alloc; door(alloc, fails)?, door(alloc, fails)?]?)
+}
+
 /// The exit status of a run, and what the journal has afterwards.
 fn outcome_of(
-    rt: &impl Abort,
+    rt: &(impl Abort + Threads + Wait + Sync),
     alloc: Global,
     run: &Run,
     ends: &mut Ends,
@@ -371,13 +469,15 @@ fn outcome_of(
         &mut ends.errors,
         disk(alloc, run.journal, run.disk_fails)?,
         clock(alloc)?,
+        doors(alloc, &[])?,
+        &mut dialer(alloc, run.links)?,
     );
     Ok((outcome.status, outcome.disk.bytes(0).to_vec(alloc)?))
 }
 
 /// Whether a run ends as it says.
 fn is_right(
-    rt: &impl Abort,
+    rt: &(impl Abort + Threads + Wait + Sync),
     alloc: Global,
     run: &Run,
     ends: &mut Ends,
@@ -393,7 +493,11 @@ fn is_right(
 }
 
 /// Whether a run whose words and configuration are accepted ends as it says.
-fn is_served(rt: &impl Abort, alloc: Global, row: &Served) -> Result<bool, AllocError> {
+fn is_served(
+    rt: &(impl Abort + Threads + Wait + Sync),
+    alloc: Global,
+    row: &Served,
+) -> Result<bool, AllocError> {
     let (input, input_fails, output_fails, output, status, line, size) = *row;
     let run = Run {
         words: ANSWER,
@@ -404,10 +508,37 @@ fn is_served(rt: &impl Abort, alloc: Global, row: &Served) -> Result<bool, Alloc
         input_fails,
         output_fails,
         disk_fails: &[],
+        links: &[],
         output,
         status,
         line,
         size,
+    };
+    let mut ends = ends_of(alloc, &run)?;
+    is_right(rt, alloc, &run, &mut ends)
+}
+
+/// Whether a run that uploads a report ends as it says, and leaves the journal alone.
+fn is_uploaded(
+    rt: &(impl Abort + Threads + Wait + Sync),
+    alloc: Global,
+    row: &Uploaded,
+) -> Result<bool, AllocError> {
+    let (config, report, links, output, status, line) = *row;
+    let run = Run {
+        words: SINK,
+        config,
+        input: &[report],
+        journal: b"hello world",
+        config_fails: &[],
+        input_fails: &[],
+        output_fails: &[],
+        disk_fails: &[],
+        links,
+        output,
+        status,
+        line,
+        size: 11,
     };
     let mut ends = ends_of(alloc, &run)?;
     is_right(rt, alloc, &run, &mut ends)
@@ -421,7 +552,7 @@ fn is_unread(input: &mut MemorySource) -> bool {
 
 /// Whether a run ends as it says, and reads nothing of its input.
 fn is_right_unread(
-    rt: &impl Abort,
+    rt: &(impl Abort + Threads + Wait + Sync),
     alloc: Global,
     run: &Run,
     ends: &mut Ends,
@@ -430,7 +561,11 @@ fn is_right_unread(
 }
 
 /// Whether a run that leaves its input alone ends as it says.
-fn is_unserved(rt: &impl Abort, alloc: Global, row: &Unserved) -> Result<bool, AllocError> {
+fn is_unserved(
+    rt: &(impl Abort + Threads + Wait + Sync),
+    alloc: Global,
+    row: &Unserved,
+) -> Result<bool, AllocError> {
     let (words, config, config_fails, output_fails, output, status, line) = *row;
     let run = Run {
         words,
@@ -441,6 +576,7 @@ fn is_unserved(rt: &impl Abort, alloc: Global, row: &Unserved) -> Result<bool, A
         input_fails: &[],
         output_fails,
         disk_fails: &[],
+        links: &[],
         output,
         status,
         line,
@@ -451,7 +587,11 @@ fn is_unserved(rt: &impl Abort, alloc: Global, row: &Unserved) -> Result<bool, A
 }
 
 /// Whether a run that ends by its journal, or counts it, ends as it says.
-fn is_opened(rt: &impl Abort, alloc: Global, row: &Opened) -> Result<bool, AllocError> {
+fn is_opened(
+    rt: &(impl Abort + Threads + Wait + Sync),
+    alloc: Global,
+    row: &Opened,
+) -> Result<bool, AllocError> {
     let (words, journal, disk_fails, output, status, line, size) = *row;
     let run = Run {
         words,
@@ -462,6 +602,7 @@ fn is_opened(rt: &impl Abort, alloc: Global, row: &Opened) -> Result<bool, Alloc
         input_fails: &[],
         output_fails: &[],
         disk_fails,
+        links: &[],
         output,
         status,
         line,
@@ -482,6 +623,54 @@ fn runs_give_their_bytes_and_statuses(rt: HostRuntime) -> Result<(), Fail> {
     for row in &OPENED {
         assert!(rt; is_opened(&rt, rt.alloc(), row)?);
     }
+    for row in &UPLOADED {
+        assert!(rt; is_uploaded(&rt, rt.alloc(), row)?);
+    }
     assert!(rt; is_served(&rt, rt.alloc(), &(CALLS, &[], &[], REPLIES, 0, "", 491))?);
+    Ok(())
+}
+
+const SERVE: &str = "serve --config farm.toml --journal farm.journal --listen a:1 --workers 2";
+
+/// Which call for a link of each door fails, and how a service ends: its output, status and line,
+/// and how many links were given back.
+const ATTENDED: [(u64, &str, u8, &str, usize); 3] = [
+    (0, "connections 2, calls 2\n", 0, "", 1),
+    (2, "connections 2, calls 2\n", 4, "rdb: fault of door\n", 1),
+    (1, "connections 0, calls 0\n", 4, "rdb: fault of door\n", 0),
+];
+
+#[test]
+fn doors_are_served(rt: HostRuntime) -> Result<(), Fail> {
+    let alloc = rt.alloc();
+    for (fails, output, status, line, returned) in ATTENDED {
+        let mut ends = Ends {
+            config: source(alloc, &[CONFIG], &[])?,
+            input: source(alloc, &[ONE], &[])?,
+            output: sink(alloc, &[])?,
+            errors: sink(alloc, &[])?,
+        };
+        let words = words_of(alloc, SERVE)?;
+        let outcome = run_program(
+            &rt,
+            alloc,
+            words.as_slice(),
+            &mut ends.config,
+            &mut ends.input,
+            &mut ends.output,
+            &mut ends.errors,
+            disk(alloc, b"", &[])?,
+            clock(alloc)?,
+            doors(alloc, &[fails])?,
+            &mut dialer(alloc, &[])?,
+        );
+        assert_eq!(rt; outcome.status, status);
+        assert_eq!(rt; ends.output.written(), output.as_bytes());
+        assert_eq!(rt; ends.errors.written(), line.as_bytes());
+        for door in &outcome.doors {
+            assert_eq!(rt; (door.returned().len(), door.out()), (returned, 0));
+        }
+        assert!(rt; is_unread(&mut ends.input));
+    }
     Ok(())
 }

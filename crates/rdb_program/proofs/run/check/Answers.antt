@@ -1,4 +1,4 @@
-use Rattle.std.proofs.Common.{◌≡◌, subst, sym, ◌∙◌}
+use Rattle.std.proofs.Common.{subst}
 use Rattle.outside.specs.Whole.{WritesWhole}
 use Rattle.service_core.specs.CoreState.{world_in}
 use Rattle.rdb_program.proofs.RunLaws.{counted_run}

@@ -1,0 +1,35 @@
+-- A history that a book has recorded, as a run tells it.
+use Rattle.std.proofs.Common.{◌≡◌, ℕ, ℤ, List, Option, sym, subst}
+use Rattle.disks.specs.Moments.{Told}
+use Rattle.policy_tables.specs.declared.tables.PolicyTables.{PolicyTables}
+use Rattle.outside.specs.Ends.{Outgoing}
+use Rattle.result_journal.specs.Journals.{disk_of}
+use Rattle.result_journal.specs.declared.journal.Journal.{Journal}
+use Rattle.record_desk.specs.Standing.{HasRecorded}
+use Rattle.record_desk.proofs.StandingLaws.{served_leaves}
+use Rattle.service_core.specs.History.{Entry}
+use Rattle.service_core.specs.Service.{service_of}
+use Rattle.service_effects.specs.Service.{ServiceWorld}
+use Rattle.service_machine.specs.Machines.{Plays}
+use Rattle.serve_runs.specs.Runs.{IsServedHistory, Premises}
+
+abbrev pub premises_of : {A D : Type 0} → (D → Option Told) → (D → ℕ) → D → List A → Outgoing → Premises A
+premises_of told faults disk doors output = record { disk = told disk; faults = faults disk; doors = doors; output = output }
+
+pub history_of : {A D T : Type 0} (told : D → Option Told) (faults : D → ℕ) (tells : T → List ℤ → Type 0) (tables : PolicyTables) (opened world : ServiceWorld)
+    (start end clock : T) (first journal : Journal D) (disk : D) (log : List Entry) (doors now : List A) (output after : Outgoing)
+    → disk ≡ disk_of journal → clock ≡ end
+    → HasRecorded told faults Plays (service_of (record { policy = tables }) opened) (tells start) first log
+    (service_of (record { policy = tables }) world) (tells end) journal
+    → IsServedHistory tables opened (tells start) (premises_of told faults (disk_of first) doors output) log (tells clock)
+    (premises_of told faults disk now after)
+history_of {A} {D} {T} told faults tells tables opened world start end clock first journal disk log doors now output after disk_is clock_is recorded =
+    subst (λ (d : D). IsServedHistory tables opened (tells start) (premises_of told faults (disk_of first) doors output) log (tells clock)
+    (premises_of told faults d now after)) (sym disk_is)
+    (subst (λ (t : T). IsServedHistory tables opened (tells start) (premises_of told faults (disk_of first) doors output) log (tells t)
+    (premises_of told faults (disk_of journal) now after)) (sym clock_is)
+    (record {
+      last = service_of (record { policy = tables }) world;
+      goes = recorded.goes;
+      leaves = served_leaves told Plays (record { policy = tables }) opened log world journal recorded.book;
+    }))
