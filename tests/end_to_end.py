@@ -14,6 +14,9 @@ import command_line
 import harness
 import journals
 import lives
+import package
+import serve
+import sink
 import stored_replies
 import streams
 import verdicts
@@ -26,6 +29,9 @@ AREAS = {
     "command_line": command_line,
     "streams": streams,
     "clients": clients,
+    "sink": sink,
+    "package": package,
+    "serve": serve,
 }
 
 

@@ -68,7 +68,8 @@ def token(name):
 
 
 def route(method):
-    return f"/prpc/luci.resultdb.v1.{'ResultDB' if method == 'GetInvocation' else 'Recorder'}/{method}"
+    service = "Recorder" if method.startswith(("Create", "Update", "Finalize", "Batch")) else "ResultDB"
+    return f"/prpc/luci.resultdb.v1.{service}/{method}"
 
 
 def request(method, body, *headers):

@@ -25,7 +25,7 @@ HEADLINE = "**The headline.**"
 STATUSES = "The command line, the exit status and the line on errors"
 README_LINES = 90
 FAILED = 70  # the status of ./rdb and build, which the program never has
-ENDINGS = "crates/rdb_program/src/ending.rt"
+ENDINGS = ("crates/rdb_program/src/ending.rt", "crates/sink_runs/src/ending.rt")
 MAP = "docs/architecture.md"
 KIT = "docs/audit.md"
 TOP_CALL = ("rdb_program", "src/run.rt", "run_program")
@@ -411,13 +411,14 @@ def limits(tree):
 
 def statuses(tree):
     """The exit statuses of docs/formats.md are those that the program has; that of a failed build is another one."""
-    page, code = tree.top / "docs/formats.md", tree.top / ENDINGS
+    page = tree.top / "docs/formats.md"
     table = sorted(int(cells[0]) for _, cells in rows(tree.text(page), STATUSES))
-    there = sorted({int(number) for number in re.findall(r"=> (\d+),", tree.text(code))})
+    code = "".join(tree.text(tree.top / file) for file in ENDINGS)
+    there = sorted({int(number) for number in re.findall(r"=> (\d+),", code)})
     if table != there:
-        yield page, 0, f"the exit statuses are {table}, and {ENDINGS} has {there}"
+        yield page, 0, f"the exit statuses are {table}, and {' and '.join(ENDINGS)} have {there}"
     if FAILED in there:
-        yield code, 0, f"the program has the status {FAILED}, which says that it wasn't built"
+        yield page, 0, f"the program has the status {FAILED}, which says that it wasn't built"
     for file, wanted in ((tree.top / "rdb", f"exit {FAILED}"), (tree.top / "build", f"FAILED = {FAILED}")):
         if wanted not in tree.text(file):
             yield file, 0, f"a failed build isn't told by {FAILED}"

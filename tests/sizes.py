@@ -49,7 +49,7 @@ LISTED = {
         "outside": 38,
         "permissions": 3,
         "policy_trial": 5,
-        "program_words": 12,
+        "program_words": 8,
         "request_rules": 1,
         "result_journal": 28,
         "tellers": 1,
