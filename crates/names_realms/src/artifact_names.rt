@@ -1,11 +1,16 @@
 //! Names of artifacts.
-ghost use Rattle.std.specs.Prelude.{◌≡◌, ◌≢◌, ◌≤◌, ◌++◌, List, ℕ, codes, length, take, IfOk, IfErr, OnOk, OnErr, None, Some};
+ghost use Rattle.std.specs.Prelude.{◌≡◌, ◌≢◌, ◌≤◌, ◌++◌, List, ℕ, codes, length, take, IfOk, IfErr, OnOk, OnErr, None};
+ghost use Rattle.std.specs.Prelude.{Some};
 ghost use Rattle.name_parts.specs.Parts.{place_of};
 ghost use Rattle.name_parts.specs.Escapes.{escaped};
 ghost use Rattle.names_realms.specs.Names.{IsArtifactId, IsInvocationId, IsResultId, IsTestId, result_id_fault};
 ghost use Rattle.names_realms.specs.ResultNames.{result_name};
 ghost use Rattle.names_realms.specs.declared.artifact_names.ArtifactName.{ArtifactName};
-ghost use Rattle.names_realms.specs.ArtifactNames.{IsArtifactName, artifact_name, artifact_name_fault, artifact_named_fault, artifact_parts_fault, artifact_tail, artifact_tail_fault, behind_id_fault, goes_to_tests, result_and_artifact_fault, result_artifact_tail_fault, test_and_rest_fault, test_artifact_tail_fault};
+ghost use Rattle.names_realms.specs.ArtifactNames.{IsArtifactName, artifact_name, artifact_name_fault};
+ghost use Rattle.names_realms.specs.ArtifactNames.{artifact_named_fault, artifact_parts_fault, artifact_tail};
+ghost use Rattle.names_realms.specs.ArtifactNames.{artifact_tail_fault, behind_id_fault, goes_to_tests};
+ghost use Rattle.names_realms.specs.ArtifactNames.{result_and_artifact_fault, result_artifact_tail_fault};
+ghost use Rattle.names_realms.specs.ArtifactNames.{test_and_rest_fault, test_artifact_tail_fault};
 
 use crate::ids::{ArtifactId, InvocationId, ResultId, TestId};
 use crate::parents::{Parent, parent_name_len, push_parent_name};

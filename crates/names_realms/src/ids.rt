@@ -1,6 +1,8 @@
 //! Ids of invocations, tests, results and artifacts.
 ghost use Rattle.std.specs.Prelude.{◌≡◌, ◌≢◌, ◌++◌, ◌↔◌, IfOk, IfErr, OnOk, OnErr, IsTrue, Some, ℕ, List};
-ghost use Rattle.names_realms.specs.Names.{IsArtifactId, IsInvocationId, IsInvocationName, IsResultId, IsTestId, artifact_id_fault, invocation_id_fault, invocation_name_fault, result_id_fault, test_id_fault};
+ghost use Rattle.names_realms.specs.Names.{IsArtifactId, IsInvocationId, IsInvocationName, IsResultId, IsTestId};
+ghost use Rattle.names_realms.specs.Names.{artifact_id_fault, invocation_id_fault, invocation_name_fault};
+ghost use Rattle.names_realms.specs.Names.{result_id_fault, test_id_fault};
 
 use name_parts::{Alphabet, NameFault, PartForm, append, read_name, read_part, same};
 use std::alloc::{AllocError, Global};

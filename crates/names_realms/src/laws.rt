@@ -1,6 +1,9 @@
 //! Laws of the definitions that the contracts cite. These functions do nothing: what each of them
 //! ensures is the law.
-ghost use Rattle.names_realms.specs.Laws.{ArtifactNameHasNoFault, IdHasNoFault, InvocationNameHasNoFault, OneArtifactNamed, OneInvocationNamed, OneParentNamed, OneResultNamed, PairHasNoFault, ParentNameHasNoFault, RealmBreaksFirst, RealmHasNoFault, ResultNameHasNoFault};
+ghost use Rattle.names_realms.specs.Laws.{ArtifactNameHasNoFault, IdHasNoFault, InvocationNameHasNoFault};
+ghost use Rattle.names_realms.specs.Laws.{OneArtifactNamed, OneInvocationNamed, OneParentNamed, OneResultNamed};
+ghost use Rattle.names_realms.specs.Laws.{PairHasNoFault, ParentNameHasNoFault, RealmBreaksFirst, RealmHasNoFault};
+ghost use Rattle.names_realms.specs.Laws.{ResultNameHasNoFault};
 
 /// One text names at most one invocation.
 pub fn one_invocation_named()

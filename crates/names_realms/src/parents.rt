@@ -2,7 +2,8 @@
 ghost use Rattle.std.specs.Prelude.{◌≡◌, ◌≢◌, ◌≤◌, ◌++◌, List, ℕ, codes, length, take, IfOk, IfErr, OnOk, OnErr, Some};
 ghost use Rattle.name_parts.specs.Parts.{place_of};
 ghost use Rattle.names_realms.specs.declared.parents.Parent.{Parent};
-ghost use Rattle.names_realms.specs.Parents.{IsParentName, parent_fault, parent_name, parent_named_fault, parent_parts_fault};
+ghost use Rattle.names_realms.specs.Parents.{IsParentName, parent_fault, parent_name, parent_named_fault};
+ghost use Rattle.names_realms.specs.Parents.{parent_parts_fault};
 
 use crate::ids::InvocationId;
 use crate::result_names::{

@@ -1,5 +1,6 @@
 //! Realms: a project, and what is asked for in it.
-ghost use Rattle.std.specs.Prelude.{◌≡◌, ◌≢◌, ◌+◌, ◌^◌, ◌<◌, ◌≤◌, ◌++◌, ◌↔◌, length, IfOk, IfErr, IfSome, OnOk, OnErr, IsTrue, Some};
+ghost use Rattle.std.specs.Prelude.{◌≡◌, ◌≢◌, ◌+◌, ◌^◌, ◌<◌, ◌≤◌, ◌++◌, ◌↔◌, length, IfOk, IfErr, IfSome, OnOk, OnErr};
+ghost use Rattle.std.specs.Prelude.{IsTrue, Some};
 ghost use Rattle.names_realms.specs.Realms.{IsRealm, bad_subrealm_place, colon_fault, realm_fault};
 
 use name_parts::{

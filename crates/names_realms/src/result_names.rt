@@ -1,10 +1,13 @@
 //! Names of results.
-ghost use Rattle.std.specs.Prelude.{◌≡◌, ◌≢◌, ◌≤◌, ◌++◌, ℕ, List, codes, length, take, IfOk, IfErr, OnOk, OnErr, None, Some};
+ghost use Rattle.std.specs.Prelude.{◌≡◌, ◌≢◌, ◌≤◌, ◌++◌, ℕ, List, codes, length, take, IfOk, IfErr, OnOk, OnErr, None};
+ghost use Rattle.std.specs.Prelude.{Some};
 ghost use Rattle.name_parts.specs.Parts.{place_of};
 ghost use Rattle.name_parts.specs.Escapes.{escaped, escaped_fault};
 ghost use Rattle.names_realms.specs.Names.{IsInvocationId, IsResultId, IsTestId, invocation_id_fault};
 ghost use Rattle.names_realms.specs.declared.result_names.ResultName.{ResultName};
-ghost use Rattle.names_realms.specs.ResultNames.{IsResultName, all_parts_fault, named_fault, result_name, result_name_fault, result_tail, result_tail_fault, test_and_result_fault, test_tail, test_tail_fault};
+ghost use Rattle.names_realms.specs.ResultNames.{IsResultName, all_parts_fault, named_fault, result_name};
+ghost use Rattle.names_realms.specs.ResultNames.{result_name_fault, result_tail, result_tail_fault};
+ghost use Rattle.names_realms.specs.ResultNames.{test_and_result_fault, test_tail, test_tail_fault};
 
 use crate::ids::{InvocationId, ResultId, TestId};
 use name_parts::{

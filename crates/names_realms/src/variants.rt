@@ -1,5 +1,6 @@
 //! Variants of tests, and their labels.
-ghost use Rattle.std.specs.Prelude.{◌≡◌, ◌≢◌, ◌++◌, ◌≤◌, ◌<◌, ℕ, List, ◌∷◌, [], take, drop, length, slice_get, IsPermutation, IfOk, IfErr, Some, map};
+ghost use Rattle.std.specs.Prelude.{◌≡◌, ◌≢◌, ◌++◌, ◌≤◌, ◌<◌, ℕ, List, ◌∷◌, [], take, drop, length, slice_get};
+ghost use Rattle.std.specs.Prelude.{IsPermutation, IfOk, IfErr, Some, map};
 ghost use Rattle.std.specs.List.{flat_map};
 ghost use Rattle.sha2.specs.Sha256.{sha256};
 ghost use Rattle.sha2.specs.Hashers.{Holds256};
@@ -13,22 +14,25 @@ use std::alloc::{AllocError, Global};
 use std::collections::BTreeMap;
 use std::marker::Model;
 
-/// The pairs of a variant, in the order of their keys as bytes. No key stands twice.
+/// The pairs of a variant, in the order of their keys as bytes. No key stands twice. Its label is
+/// kept with it, since each page that shows or orders it asks for it.
 #[derive(Debug, Drop)]
 pub struct Variant {
     pairs: Vec<Pair>,
+    label: [u8; 16],
 }
 
 impl Model for Variant {
     ghost use Rattle.std.specs.Prelude.{List};
     ghost use Rattle.names_realms.specs.declared.pairs.Pair.{Pair};
-    ghost use Rattle.names_realms.specs.Variants.{IsAscending};
+    ghost use Rattle.std.specs.Prelude.{◌≡◌};
+    ghost use Rattle.names_realms.specs.Variants.{IsAscending, label_of};
 
     ghost Value = { List Pair };
 
     ghost view = { λ v. v.pairs.items };
 
-    ghost invariant = { λ v. IsAscending v.pairs.items };
+    ghost invariant = { λ v. IsAscending v.pairs.items × (v.label ≡ label_of v.pairs.items) };
 }
 
 /// Keys with their values, in the order of the keys, as pairs.
@@ -104,7 +108,8 @@ impl Variant {
             }
         }
         let pairs = in_order(alloc, sorted)?;
-        Ok(Variant { pairs })
+        let label = label_text(pairs.as_slice());
+        Ok(Variant { pairs, label })
     }
 
     /// The pairs, in the order of their keys.
@@ -120,6 +125,6 @@ impl Variant {
     pub fn label(&self) -> [u8; 16]
         ensures { result ≡ label_of self.now }
     {
-        label_text(self.pairs.as_slice())
+        self.label
     }
 }

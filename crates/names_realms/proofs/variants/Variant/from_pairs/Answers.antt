@@ -4,7 +4,7 @@ use Rattle.std.proofs.lemmas.List.{length-map, nil_from_length}
 use Rattle.std.proofs.lemmas.List.Sorted.{length_permutation}
 use Rattle.name_parts.specs.declared.faults.NameFault.TheVariants.{NotCanonical}
 use Rattle.names_realms.specs.declared.pairs.Pair.{Pair}
-use Rattle.names_realms.specs.Variants.{IsAscending, pair_of}
+use Rattle.names_realms.specs.Variants.{IsAscending, label_of, pair_of}
 use Rattle.names_realms.proofs.VariantLemmas.{ascending_entries, first_repeat, none_of, one_more, some_of}
 use Rattle.names_realms.proofs.variants.Variant.from_pairs.Goals as goal
 
@@ -36,7 +36,8 @@ returns-then-is_some-clause-fault c _ =
     )
 
 pub invariant_of-result : goal.invariant_of-result
-invariant_of-result c = subst (λ (ps : List Pair). IsAscending ps) (sym c.in_ok-pairs.ensures) (ascending_entries c.loop-pair.sorted.entries c.loop-pair.invariant.ordered)
+invariant_of-result c =
+    (subst (λ (ps : List Pair). IsAscending ps) (sym c.in_ok-pairs.ensures) (ascending_entries c.loop-pair.sorted.entries c.loop-pair.invariant.ordered), c.label_text-label.ensures ∙ ap label_of c.as_slice.ensures.value)
 
 pub returns-clause-ok : goal.returns-clause-ok
 returns-clause-ok c =
