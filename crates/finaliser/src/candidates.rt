@@ -1,9 +1,11 @@
 //! The nodes that may become final with one that is retired, and those of them that are held up.
-ghost use Rattle.std.specs.Prelude.{◌≡◌, ◌≤◌, ◌<◌, ◌+◌, ◌++◌, ◌⊎◌, ◌↔◌, ◌∷◌, [], ℕ, true, false, IsTrue, List, All, Contains, length, slice_set, vec_len, vec_capacity};
+ghost use Rattle.std.specs.Prelude.{◌≡◌, ◌≤◌, ◌<◌, ◌+◌, ◌++◌, ◌⊎◌, ◌↔◌, ◌∷◌, [], ℕ, true, false, IsTrue, List, All};
+ghost use Rattle.std.specs.Prelude.{Contains, length, slice_set, vec_len, vec_capacity};
 ghost use Rattle.std.specs.List.Sorted.{IsStrictlyIncreasing};
 ghost use Rattle.std.specs.List.{filter};
 ghost use Rattle.inclusion_graph.specs.Edges.{HasEdge, has};
-ghost use Rattle.finaliser.specs.Holding.{AreFound, AreFreed, AreHeld, Comes, Holds, IsClosed, IsGrown, IsHeldUp, IsOutOfSame, IsSource, is_free};
+ghost use Rattle.finaliser.specs.Holding.{AreFound, AreFreed, AreHeld, Comes, Holds, IsClosed, IsGrown, IsHeldUp};
+ghost use Rattle.finaliser.specs.Holding.{IsOutOfSame, IsSource, is_free};
 ghost use Rattle.finaliser.specs.Marks.{unfinal};
 ghost use Rattle.finaliser.specs.Settling.{IsIn, ReachesActive};
 ghost use Rattle.finaliser.specs.Watching.{AreWatched};

@@ -1,7 +1,9 @@
 //! The finaliser.
-ghost use Rattle.std.specs.Prelude.{◌≡◌, ◌≤◌, ◌<◌, ◌+◌, ◌++◌, ◌∷◌, ◌↔◌, [], ℕ, List, All, IsTrue, IfOk, IfErr, OnOk, length, slice_set};
+ghost use Rattle.std.specs.Prelude.{◌≡◌, ◌≤◌, ◌<◌, ◌+◌, ◌++◌, ◌∷◌, ◌↔◌, [], ℕ, List, All, IsTrue, IfOk, IfErr, OnOk};
+ghost use Rattle.std.specs.Prelude.{length, slice_set};
 ghost use Rattle.inclusion_graph.specs.Plans.{Fits, IsEdgeFault, IsElsewhere, new_targets};
-ghost use Rattle.finaliser.specs.Settling.{IsIn, IsRoomier, IsSettled, ReachesActive, Settles, Stays, with_edges, with_node};
+ghost use Rattle.finaliser.specs.Settling.{IsIn, IsRoomier, IsSettled, ReachesActive, Settles, Stays, with_edges};
+ghost use Rattle.finaliser.specs.Settling.{with_node};
 
 use crate::aims::aim_at;
 use crate::candidates::{begins_waiting, find, hold, settle_free};

@@ -6,8 +6,6 @@ mod candidates;
 mod finaliser;
 mod laws;
 mod node_set;
-#[cfg(test)]
-mod tests;
 mod watches;
 
 pub use finaliser::Finaliser;

@@ -1,5 +1,6 @@
 //! Edges in order of arrival, each linked to the next one to the same node.
-ghost use Rattle.std.specs.Prelude.{◌≡◌, ◌+◌, ◌<◌, ◌≤◌, ◌++◌, ◌∷◌, [], Some, OnOk, IfOk, MatchOption, length, slice_get, slice_set, vec_capacity};
+ghost use Rattle.std.specs.Prelude.{◌≡◌, ◌+◌, ◌<◌, ◌≤◌, ◌++◌, ◌∷◌, [], Some, OnOk, IfOk, MatchOption, length};
+ghost use Rattle.std.specs.Prelude.{slice_get, slice_set, vec_capacity};
 ghost use Rattle.std.specs.Option.{ForSome};
 ghost use Rattle.inclusion_graph.specs.declared.edge.Edge.{Edge};
 ghost use Rattle.inclusion_graph.specs.Edges.{IsFirstTo, IsRoomier, with_edges, with_node};

@@ -1,5 +1,6 @@
 //! The targets that a node hasn't yet, found by the edges at the node and at the targets alone.
-ghost use Rattle.std.specs.Prelude.{◌≡◌, ◌+◌, ◌<◌, ◌≤◌, ◌↔◌, ◌⊎◌, ◌++◌, ◌∷◌, [], true, false, IsTrue, IfSome, All, Contains, length, slice_index_or, slice_set, vec_len, vec_capacity};
+ghost use Rattle.std.specs.Prelude.{◌≡◌, ◌+◌, ◌<◌, ◌≤◌, ◌↔◌, ◌⊎◌, ◌++◌, ◌∷◌, [], true, false, IsTrue, IfSome, All};
+ghost use Rattle.std.specs.Prelude.{Contains, length, slice_index_or, slice_set, vec_len, vec_capacity};
 ghost use Rattle.inclusion_graph.specs.Edges.{HasEdge, fresh, targets_of};
 ghost use Rattle.inclusion_graph.specs.Searches.{HasMarks};
 

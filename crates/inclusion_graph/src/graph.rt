@@ -1,5 +1,6 @@
 //! The graph of inclusions.
-ghost use Rattle.std.specs.Prelude.{◌≡◌, ◌+◌, ◌-◌, ◌<◌, ◌≤◌, ◌^◌, ◌++◌, ◌↔◌, ℕ, ◌∷◌, [], Some, List, IfOk, IfErr, OnOk, MatchOption, All, Contains, length, slice_get, vec_len, vec_capacity};
+ghost use Rattle.std.specs.Prelude.{◌≡◌, ◌+◌, ◌-◌, ◌<◌, ◌≤◌, ◌^◌, ◌++◌, ◌↔◌, ℕ, ◌∷◌, [], Some, List, IfOk, IfErr, OnOk};
+ghost use Rattle.std.specs.Prelude.{MatchOption, All, Contains, length, slice_get, vec_len, vec_capacity};
 ghost use Rattle.std.specs.List.Sorted.{IsStrictlyIncreasing};
 ghost use Rattle.inclusion_graph.specs.declared.edge.Edge.{Edge};
 ghost use Rattle.inclusion_graph.specs.Edges.{IsFirstTo, IsRoomier, targets_of, with_edges, with_node};

@@ -8,8 +8,6 @@ mod graph;
 mod laws;
 mod plan;
 mod search;
-#[cfg(test)]
-mod tests;
 
 pub use edge::Edge;
 pub use graph::Graph;

@@ -29,8 +29,14 @@ fn main(rt: HostRuntime) -> io::Result<ExitCode> {
     };
     let disk = FileDisk::new(&rt, alloc, path.as_str())?;
     let is_done = match command.as_str() {
-        "append" => append_records(&rt, alloc, disk, number(words.get(3)), number(words.get(4))),
-        "read" => read_records(&rt, alloc, disk),
+        "append" => {
+            let (count, size) = (number(words.get(3)), number(words.get(4)));
+            append_records(&rt, alloc, disk, count, size).is_some()
+        }
+        "read" => match read_records(alloc, disk) {
+            Some(book) => rt.println(book.machine.count()).is_ok(),
+            None => false,
+        },
         _ => false,
     };
     Ok(ExitCode::from(if is_done { 0 } else { 1 }))

@@ -77,6 +77,13 @@ impl Machine for Records {
 }
 
 impl Records {
+    /// How many records there are.
+    pub fn count(&self) -> u64
+        ensures { result ≡ self.now.count }
+    {
+        self.count
+    }
+
     /// The next record, of so many bytes, or a few more; none where it can't be one, or there is no
     /// memory.
     fn next(&self, alloc: Global, size: u64) -> Option<Next>
@@ -102,46 +109,30 @@ fn numbered(alloc: Global, front: &str, size: u64) -> Result<Vec<u8>, AllocError
     Ok(body)
 }
 
-/// Opens a journal, and counts its records. None where a call failed, or a record has another
+/// Opens a journal, and reads all of its records. None where a call failed, or a record has another
 /// number than its place.
-fn open<D: Disk + Drop>(alloc: Global, disk: D) -> Option<Book<Records, D>>
+pub fn read_records<D: Disk + Drop>(alloc: Global, disk: D) -> Option<Book<Records, D>>
     ensures { IfSome result (λ book. StandsForSome D.told Counts book.machine.count book.journal) }
 {
     Book::open(alloc, Records { count: 0 }, disk).ok()
 }
 
 /// Appends records behind those that are there, and prints each number once it is acknowledged.
+/// None where a call failed.
 pub fn append_records<D: Disk + Drop, R: Print>(
     rt: &R,
     alloc: Global,
     disk: D,
     count: u64,
     size: u64,
-) -> bool {
-    let Some(mut book) = open(alloc, disk) else {
-        return false;
-    };
+) -> Option<Book<Records, D>>
+    ensures { IfSome result (λ book. StandsForSome D.told Counts book.machine.count book.journal) }
+{
+    let mut book = read_records(alloc, disk)?;
     for _ in 0..count {
-        let Some(next) = book.machine.next(alloc, size) else {
-            return false;
-        };
-        match book.record(alloc, next) {
-            Ok(number) => {
-                if rt.println(number).is_err() {
-                    return false;
-                }
-            }
-            Err(_) => return false,
-        }
+        let next = book.machine.next(alloc, size)?;
+        let number = book.record(alloc, next).ok()?;
+        rt.println(number).ok()?;
     }
-    true
-}
-
-/// Reads all records, and prints how many there are. False where one has another number than its
-/// place.
-pub fn read_records<D: Disk + Drop, R: Print>(rt: &R, alloc: Global, disk: D) -> bool {
-    match open(alloc, disk) {
-        Some(book) => rt.println(book.machine.count).is_ok(),
-        None => false,
-    }
+    Some(book)
 }

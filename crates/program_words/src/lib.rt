@@ -15,6 +15,3 @@ pub use reading::{read_words, words_say_one_command};
 pub use serve_words::ServeWords;
 pub use sink_words::{Prefix, ReportFormat, SinkWords};
 pub use texts::{help_text, version_text};
-
-#[cfg(test)]
-mod tests;

@@ -1,5 +1,6 @@
 //! What the words of an upload say.
-ghost use Rattle.std.specs.Prelude.{◌≡◌, ◌≢◌, ℕ, List, [], Some, codes, IfOk, IfErr, option_map, string_bytes, unwrap_or};
+ghost use Rattle.std.specs.Prelude.{◌≡◌, ◌≢◌, ℕ, List, [], Some, codes, IfOk, IfErr, option_map, string_bytes};
+ghost use Rattle.std.specs.Prelude.{unwrap_or};
 ghost use Rattle.clap.specs.Words.{first_value, found_of};
 ghost use Rattle.names_realms.specs.Names.{IsInvocationId};
 ghost use Rattle.program_words.specs.Sinks.{AreSinkValues, format_word};

@@ -1,5 +1,6 @@
 //! Values of options.
-ghost use Rattle.std.specs.Prelude.{◌≡◌, ◌≢◌, ◌↔◌, ℕ, Option, Some, Err, IfOk, IfErr, IfSome, IfNone, IsTrue, decimal, option_map};
+ghost use Rattle.std.specs.Prelude.{◌≡◌, ◌≢◌, ◌↔◌, ℕ, Option, Some, Err, IfOk, IfErr, IfSome, IfNone, IsTrue, decimal};
+ghost use Rattle.std.specs.Prelude.{option_map};
 ghost use Rattle.std.specs.Option.{ForSome};
 ghost use Rattle.clap.specs.Words.{first_value, found_of};
 ghost use Rattle.program_words.specs.Serves.{IsUpTo};

@@ -1,5 +1,5 @@
 use Rattle.std.proofs.Common.{ℕ, ◌<◌, get_or}
-use Rattle.inclusion_graph.proofs.tests.are_below.Given as goal
+use Rattle.graphs_table.proofs.numbers.are_below.Given as goal
 
 abbrev pub invariant-loop-number : goal.invariant-loop-number
 invariant-loop-number l = (k d : ℕ) → k < l.number-index → get_or l.numbers k d < l.below
