@@ -17,7 +17,7 @@ use Rattle.sink_replies.specs.declared.reads.ReplyEnd.{ReplyEnd}
 use Rattle.sink_replies.specs.declared.reads.ReplyEnd.TheVariants.{BadReply, Ended, ReadFault}
 
 begun : (bytes : List ℕ) → IsBegun bytes → IsUnfinished bytes
-begun bytes x = in_head x.may_become x.none x.short
+begun bytes x = in_head x.may_become x.none
 
 -- nothing is read where what is held is no reply that goes on
 head_needed : {A : Type 0} (held : List ℕ) → (¬ (IsBegun held) → A) → ¬ (IsUnfinished held) → A

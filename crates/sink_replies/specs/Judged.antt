@@ -1,8 +1,8 @@
 -- The code's own word, which private contracts alone cite: what bytes are so far.
 use Rattle.std.specs.Prelude.{◌≡◌, ◌≤◌, ◌<◌, ℕ, List, ◌++◌, length, take}
 use Rattle.httparse.specs.Grammar.{ResponseHead, print_response, status_code}
-use Rattle.httparse.specs.Grammar.{HasNoResponse, MayBecomeResponse}
-use Rattle.sink_replies.specs.Replies.{IsReplyHead, BeginsNoReply}
+use Rattle.httparse.specs.Grammar.{HasNoResponse}
+use Rattle.sink_replies.specs.Replies.{IsReplyHead, MayBecomeHead, BeginsNoReply}
 use Rattle.sink_replies.specs.declared.heads.Judged.{Judged}
 use Rattle.sink_replies.specs.declared.heads.Judged.TheVariants.{Head, Unfinished, NoReply}
 use Rattle.sink_replies.specs.declared.heads.ReplyHead.{ReplyHead}
@@ -18,7 +18,7 @@ pub record IsInFront (bytes : List ℕ) (head : ReplyHead) : Type 0 where
 
 -- They begin a head that isn't whole yet.
 pub record IsBegun (bytes : List ℕ) : Type 0 where
-  pub may_become : MayBecomeResponse bytes
+  pub may_become : MayBecomeHead bytes
   pub none : HasNoResponse bytes
   pub short : length bytes < 16384
 

@@ -3,7 +3,7 @@
 use Rattle.std.specs.Prelude.{◌≡◌, ℕ, ◌<◌, ◌≤◌, true, List, [], ◌∷◌, ◌++◌, length, map, codes}
 use Rattle.std.specs.Str.Parse.{digits_value}
 use Rattle.httparse.specs.Grammar.{ResponseHead, IsResponseHead, print_response, status_code}
-use Rattle.httparse.specs.Grammar.{HasNoResponse, MayBecomeResponse}
+use Rattle.httparse.specs.Grammar.{HasNoResponse}
 use Rattle.httparse.specs.Spans.{name_and_value}
 use Rattle.http_wire.specs.Form.{values_of, is_length}
 
@@ -45,10 +45,15 @@ abbrev pub BeginsNoReply : List ℕ → Type 0
 BeginsNoReply bytes =
     (more rest : List ℕ) (status : ℕ) → ¬ (HasReply (bytes ++ more) status rest)
 
--- No reply stands in front of the bytes yet: they are fewer than a head may have, and can go on as
--- a head; or a reply's head stands in front, and less than its body behind it.
+-- Some bytes can follow that make these a reply's head.
+abbrev pub MayBecomeHead : List ℕ → Type 0
+MayBecomeHead bytes =
+    (more : List ℕ) × (h : ResponseHead) × (len : ℕ) × IsReplyHead h len
+    × (bytes ++ more ≡ print_response h)
+
+-- No reply stands in front of the bytes yet, and one can: they can go on as a reply's head; or a
+-- reply's head stands in front, and less than its body behind it.
 pub data IsUnfinished (bytes : List ℕ) : Type 0 where
-  in_head : MayBecomeResponse bytes → HasNoResponse bytes → length bytes < 16384
-      → IsUnfinished bytes
+  in_head : MayBecomeHead bytes → HasNoResponse bytes → IsUnfinished bytes
   in_body : (h : ResponseHead) (len : ℕ) (part : List ℕ) → IsReplyHead h len
       → bytes ≡ print_response h ++ part → length part < len → IsUnfinished bytes

@@ -1,8 +1,9 @@
-//! What bytes are so far: a reply's head in front, the beginning of a head, or of no reply.
+//! What bytes are so far: a reply's head in front, the beginning of one, or of no reply.
 ghost use Rattle.std.specs.Prelude.{◌≡◌, ◌≤◌, length, take};
 ghost use Rattle.httparse.specs.Spans.{IsResponseOf, IsResponseWithin};
 ghost use Rattle.sink_replies.specs.Judged.{IsJudged};
 
+use crate::ends::may_go_on;
 use crate::lengths::one_length;
 use httparse::Status;
 use httparse::spans::{EMPTY_HEADER_SPAN, HeaderSpan, ResponseSpans, parse_response};
@@ -11,7 +12,7 @@ use httparse::spans::{EMPTY_HEADER_SPAN, HeaderSpan, ResponseSpans, parse_respon
 pub const HEAD_LIMIT: usize = 16384;
 
 /// The most headers that a head has.
-const HEADER_LIMIT: usize = 64;
+pub const HEADER_LIMIT: usize = 64;
 
 /// A reply's head.
 #[derive(Clone, Copy)]
@@ -28,7 +29,7 @@ pub struct ReplyHead {
 pub enum Judged {
     /// A reply's head stands in front.
     Head(ReplyHead),
-    /// They begin a head that isn't whole yet.
+    /// They begin a reply's head that isn't whole yet.
     Unfinished,
     /// The first `end` of them begin no reply.
     NoReply { end: usize },
@@ -42,7 +43,7 @@ pub fn judge(bytes: &[u8]) -> Judged
     let mut headers = [EMPTY_HEADER_SPAN; HEADER_LIMIT];
     match parse_response(bytes, &mut headers) {
         Ok(Status::Complete(spans)) => judge_head(bytes, &headers, spans),
-        Ok(Status::Partial) if bytes.len() < HEAD_LIMIT => Judged::Unfinished,
+        Ok(Status::Partial) if may_go_on(bytes) => Judged::Unfinished,
         Ok(Status::Partial) => Judged::NoReply { end: bytes.len() },
         Err(_) => Judged::NoReply { end: bytes.len() },
     }

@@ -2,6 +2,7 @@
 #![tactic(auto)]
 
 mod body;
+mod ends;
 mod heads;
 mod lengths;
 mod reader;

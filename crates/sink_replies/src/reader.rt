@@ -41,10 +41,9 @@ impl ReplyReader {
     /// Reads the next reply whole, and answers its status. What was read past it is held for the
     /// next one.
     ///
-    /// `BadReply` comes where the bytes begin no reply: as soon as they can't go on as a head of at
-    /// most 64 headers, and for a whole head that is none of a reply, or 16,384 bytes without one.
-    /// `Ended` where the input ended before the reply did, and `ReadFault` where a read failed.
-    /// After each of them nothing is held.
+    /// `BadReply` comes where the bytes begin no reply, as soon as they do: no other answer without
+    /// a reply comes but where some bytes that follow make one. `Ended` comes where the input ended
+    /// before the reply did, and `ReadFault` where a read failed. After each nothing is held.
     pub fn next<L: Link>(&mut self, link: &mut L) -> Result<u16, ReplyEnd>
         ensures reply { ReadsReply self.old (L.ends link.old).incoming result self.new
             (L.ends link.new).incoming }

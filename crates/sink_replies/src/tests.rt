@@ -76,3 +76,50 @@ fn a_read_that_fails_is_told(rt: HostRuntime) -> Result<(), Fail> {
     assert_eq!(rt; reader.next(&mut link), Err(ReplyEnd::ReadFault));
     Ok(())
 }
+
+/// Heads that aren't whole, and go on as no reply's.
+const NO_HEADS: [&[u8]; 9] = [
+    b"HTTP/9",
+    b"HTTP/1.1 20x",
+    b"HTTP/1.1 200 O\x00",
+    b"HTTP/1.1 200 OK\r\nA name",
+    b"HTTP/1.1 200 OK\r\nContent-Length: 1x",
+    b"HTTP/1.1 200 OK\r\nContent-Length: 4194305",
+    b"HTTP/1.1 200 OK\r\nContent-Length: 12345678901",
+    b"HTTP/1.1 200 OK\r\nContent-Length:\r\n",
+    b"HTTP/1.1 200 OK\nContent-Length: 1\ncontent-length:",
+];
+
+#[test]
+fn no_head_is_told_before_its_end(rt: HostRuntime) -> Result<(), Fail> {
+    for bytes in &NO_HEADS {
+        let mut link = link_of(rt.alloc(), &[*bytes], &[2])?;
+        let mut reader = ReplyReader::new(rt.alloc())?;
+        let end = bytes.len();
+        assert_eq!(rt; reader.next(&mut link), Err(ReplyEnd::BadReply { end }));
+    }
+    Ok(())
+}
+
+/// Heads that aren't whole, and can go on as a reply's.
+const HEADS: [&[u8]; 9] = [
+    b"\r",
+    b"HTTP/1.",
+    b"HTTP/1.1 2",
+    b"HTTP/1.1 200 Ok, so\r",
+    b"HTTP/1.1 200\r\ncontent-len",
+    b"HTTP/1.1 200\r\nContent-Length: \t",
+    b"HTTP/1.1 200\r\nContent-Length: 4194304 ",
+    b"HTTP/1.1 200\r\nContent-Length: 1\r\nContent-Length",
+    b"HTTP/1.1 200\r\nContent-Type: a\r",
+];
+
+#[test]
+fn a_head_goes_on(rt: HostRuntime) -> Result<(), Fail> {
+    for bytes in &HEADS {
+        let mut link = link_of(rt.alloc(), &[*bytes], &[2])?;
+        let mut reader = ReplyReader::new(rt.alloc())?;
+        assert_eq!(rt; reader.next(&mut link), Err(ReplyEnd::ReadFault));
+    }
+    Ok(())
+}

@@ -13,7 +13,7 @@ use Rattle.sink_uploads.specs.declared.course.SinkFault.{SinkFault}
 use Rattle.sink_uploads.specs.declared.course.SinkFault.TheVariants as sink_faults
 use Rattle.sink_runs.specs.Endings.{Tells, end_status, fault_status, sent_text, sink_status, write_status}
 use Rattle.sink_runs.specs.Runs.{Sending, IsSending, Uploads, StopsAtConfig, StopsAtReport, LeavesEarly}
-use Rattle.sink_runs.specs.Statuses.{HasFailed, HasGivenUp, IsFaultyConfig, IsFaultyReport, IsSent, SinkSays, WasRefused}
+use Rattle.sink_runs.specs.Statuses.{EachStatusSays, IsSinkStatus, HasFailed, HasGivenUp, IsFaultyConfig, IsFaultyReport, IsSent, SinkSays, WasRefused}
 use Rattle.sink_runs.specs.declared.ending.SinkEnd.{SinkEnd}
 use Rattle.sink_runs.specs.declared.ending.SinkEnd.TheVariants as sink_ends
 use Rattle.sink_runs.specs.declared.ending.SinkEnding.{SinkEnding}
@@ -27,11 +27,12 @@ no_two_or_five status (inr five) n2 n5 = n5 five
 -- ---- a report that was planned
 
 planned : {L : Type 0} (ends : L → Ends) (words : SinkWords) (status : ℕ) (result : Result Sent SinkFault) (before after : Sending L) (out now : Outgoing)
-    → Uploads ends words before result after → status ≢ 2 → status ≢ 5 → (status ≡ 0 → IsSent ends words before after out now)
+    → Uploads ends words before result after → IsSinkStatus status → (status ≢ 0 → status ≢ 4 → status ≢ 9 → now ≡ out) → status ≢ 2 → status ≢ 5 → (status ≡ 0 → IsSent ends words before after out now)
     → (status ≡ 4 → HasFailed before after out now ⊎ HasGivenUp ends words before after) → (status ≡ 6 → WasRefused ends words before after)
     → (status ≡ 9 → Rose out.stalls now.stalls) → (status ≢ 4 → now.faults ≡ out.faults) → (status ≢ 9 → now.stalls ≡ out.stalls)
     → SinkSays ends words status before after out now
-planned ends words status result before after out now u n2 n5 done failed refused stalled kept flowed = record {
+planned ends words status result before after out now u known untold n2 n5 done failed refused stalled kept flowed = record {
+  known = known;
   done = done;
   failed = failed;
   refused = refused;
@@ -42,6 +43,8 @@ planned ends words status result before after out now u n2 n5 done failed refuse
   report_faulty = λ text told f first m2 fine also.
       absurd (report_has words.format before.input after.input u.report text u.cases f u.input u.gives told first);
   undialled = λ is. absurd (no_two_or_five status is n2 n5);
+  unread = λ is. absurd (n2 is);
+  untold = untold;
   no_config_fault = λ n4. u.config.1.faults;
   no_read_fault = λ n4. u.input.faults;
   no_write_fault = kept;
@@ -52,31 +55,31 @@ says_told : {L : Type 0} (ends : L → Ends) (words : SinkWords) (sent : Sent) (
     (out now : Outgoing) → Uploads ends words before (Ok sent) after → WritesWhole out (sent_text sent) written now
     → SinkSays ends words (write_status written) before after out now
 says_told ends words sent (Ok done) before after out now u w =
-    planned ends words 0 (Ok sent) before after out now u (λ e. omega (arith, e)) (λ e. omega (arith, e)) (λ is. (sent, u, w.written))
+    planned ends words 0 (Ok sent) before after out now u (inl refl) (λ n0 n4 n9. absurd (n0 refl)) (λ e. omega (arith, e)) (λ e. omega (arith, e)) (λ is. (sent, u, w.written))
     (λ is. absurd (omega (arith, is))) (λ is. absurd (omega (arith, is))) (λ is. absurd (omega (arith, is))) (λ n4. w.faults) (λ n9. w.stalls)
 says_told ends words sent (Err write_ends.WriteFault) before after out now u w =
-    planned ends words 4 (Ok sent) before after out now u (λ e. omega (arith, e)) (λ e. omega (arith, e)) (λ is. absurd (omega (arith, is)))
+    planned ends words 4 (Ok sent) before after out now u (inr (inr (inl refl))) (λ n0 n4 n9. absurd (n4 refl)) (λ e. omega (arith, e)) (λ e. omega (arith, e)) (λ is. absurd (omega (arith, is)))
     (λ is. inl (inr (inr w.faults.1))) (λ is. absurd (omega (arith, is))) (λ is. absurd (omega (arith, is))) (λ n4. absurd (n4 refl)) (λ n9. w.stalls)
 says_told ends words sent (Err write_ends.SinkTakesNothing) before after out now u w =
-    planned ends words 9 (Ok sent) before after out now u (λ e. omega (arith, e)) (λ e. omega (arith, e)) (λ is. absurd (omega (arith, is)))
+    planned ends words 9 (Ok sent) before after out now u (inr (inr (inr (inr (inr (inr refl)))))) (λ n0 n4 n9. absurd (n9 refl)) (λ e. omega (arith, e)) (λ e. omega (arith, e)) (λ is. absurd (omega (arith, is)))
     (λ is. absurd (omega (arith, is))) (λ is. absurd (omega (arith, is))) (λ is. w.stalls.1) (λ n4. w.faults) (λ n9. absurd (n9 refl))
 
 says_unsent : {L : Type 0} (ends : L → Ends) (words : SinkWords) (why : SinkFault) (before after : Sending L) (out now : Outgoing)
     → Uploads ends words before (Err why) after → now ≡ out → SinkSays ends words (fault_status why) before after out now
 says_unsent ends words (sink_faults.GaveUp batch faults ended) before after out now u same =
-    planned ends words 4 (Err (sink_faults.GaveUp batch faults ended)) before after out now u (λ e. omega (arith, e)) (λ e. omega (arith, e))
+    planned ends words 4 (Err (sink_faults.GaveUp batch faults ended)) before after out now u (inr (inr (inl refl))) (λ n0 n4 n9. absurd (n4 refl)) (λ e. omega (arith, e)) (λ e. omega (arith, e))
     (λ is. absurd (omega (arith, is))) (λ is. inr (batch, faults, ended, u)) (λ is. absurd (omega (arith, is))) (λ is. absurd (omega (arith, is)))
     (λ n4. ap (λ (o : Outgoing). o.faults) same) (λ n9. ap (λ (o : Outgoing). o.stalls) same)
 says_unsent ends words (sink_faults.Refused batch status) before after out now u same =
-    planned ends words 6 (Err (sink_faults.Refused batch status)) before after out now u (λ e. omega (arith, e)) (λ e. omega (arith, e))
+    planned ends words 6 (Err (sink_faults.Refused batch status)) before after out now u (inr (inr (inr (inr (inl refl))))) (λ n0 n4 n9. same) (λ e. omega (arith, e)) (λ e. omega (arith, e))
     (λ is. absurd (omega (arith, is))) (λ is. absurd (omega (arith, is))) (λ is. inl (batch, status, u)) (λ is. absurd (omega (arith, is)))
     (λ n4. ap (λ (o : Outgoing). o.faults) same) (λ n9. ap (λ (o : Outgoing). o.stalls) same)
 says_unsent ends words (sink_faults.BadReply batch end) before after out now u same =
-    planned ends words 6 (Err (sink_faults.BadReply batch end)) before after out now u (λ e. omega (arith, e)) (λ e. omega (arith, e))
+    planned ends words 6 (Err (sink_faults.BadReply batch end)) before after out now u (inr (inr (inr (inr (inl refl))))) (λ n0 n4 n9. same) (λ e. omega (arith, e)) (λ e. omega (arith, e))
     (λ is. absurd (omega (arith, is))) (λ is. absurd (omega (arith, is))) (λ is. inr (batch, end, u)) (λ is. absurd (omega (arith, is)))
     (λ n4. ap (λ (o : Outgoing). o.faults) same) (λ n9. ap (λ (o : Outgoing). o.stalls) same)
 says_unsent ends words sink_faults.Memory before after out now u same =
-    planned ends words 7 (Err sink_faults.Memory) before after out now u (λ e. omega (arith, e)) (λ e. omega (arith, e))
+    planned ends words 7 (Err sink_faults.Memory) before after out now u (inr (inr (inr (inr (inr (inl refl)))))) (λ n0 n4 n9. same) (λ e. omega (arith, e)) (λ e. omega (arith, e))
     (λ is. absurd (omega (arith, is))) (λ is. absurd (omega (arith, is))) (λ is. absurd (omega (arith, is))) (λ is. absurd (omega (arith, is)))
     (λ n4. ap (λ (o : Outgoing). o.faults) same) (λ n9. ap (λ (o : Outgoing). o.stalls) same)
 
@@ -87,7 +90,9 @@ record IsStopped {L : Type 0} (words : SinkWords) (status : ℕ) (before after :
   not_done : status ≢ 0
   not_refused : status ≢ 6
   not_stalled : status ≢ 9
-  failed : status ≡ 4 → Rose before.config.faults after.config.faults ⊎ Rose before.input.faults after.input.faults
+  known : IsSinkStatus status
+  failed : status ≡ 4 → (Rose before.config.faults after.config.faults × (after.input ≡ before.input)) ⊎ Rose before.input.faults after.input.faults
+  unread : status ≡ 2 → after.input ≡ before.input
   config_refused : status ≡ 2 → IsFaultyConfig before.config
   config_faulty : (text : List ℕ) → before.config.left ≡ Some text → (f : SettingsFault) → IsFirstFault text f
       → ¬ Rose before.config.faults after.config.faults → (status ≡ 2) ⊎ (status ≡ 7)
@@ -101,6 +106,7 @@ record IsStopped {L : Type 0} (words : SinkWords) (status : ℕ) (before after :
 stopped : {L : Type 0} (ends : L → Ends) (words : SinkWords) (status : ℕ) (before after : Sending L) (out now : Outgoing)
     → IsStopped words status before after → now ≡ out → SinkSays ends words status before after out now
 stopped ends words status before after out now s same = record {
+  known = s.known;
   done = λ is. absurd (s.not_done is);
   failed = λ is. inl (wider (s.failed is));
   refused = λ is. absurd (s.not_refused is);
@@ -110,23 +116,28 @@ stopped ends words status before after out now s same = record {
   report_refused = s.report_refused;
   report_faulty = λ text told f first n2 fine also. s.report_faulty n2 fine also;
   undialled = λ is. s.dials;
+  unread = s.unread;
+  untold = λ n0 n4 n9. same;
   no_config_fault = s.config;
   no_read_fault = s.input;
   no_write_fault = λ n4. ap (λ (o : Outgoing). o.faults) same;
   no_stall = λ n9. ap (λ (o : Outgoing). o.stalls) same;
 }
   where
-    wider : Rose before.config.faults after.config.faults ⊎ Rose before.input.faults after.input.faults → HasFailed before after out now
-    wider (inl rose) = inl rose
-    wider (inr rose) = inr (inl rose)
+    wider : (Rose before.config.faults after.config.faults × (after.input ≡ before.input)) ⊎ Rose before.input.faults after.input.faults
+        → HasFailed before after out now
+    wider (inl x) = inl (record { rose = x.0; input = x.1; dials = s.dials; output = same })
+    wider (inr rose) = inr (inl (record { rose = rose; dials = s.dials; output = same }))
 
 config_failed : {L : Type 0} (words : SinkWords) (before after : Sending L) → StopsAtConfig before sink_ends.ConfigFault after
     → IsStopped words 4 before after
 config_failed words before after s = record {
+  known = inr (inr (inl refl));
+  unread = λ is. absurd (omega (arith, is));
   not_done = λ e. omega (arith, e);
   not_refused = λ e. omega (arith, e);
   not_stalled = λ e. omega (arith, e);
-  failed = λ is. inl s.config.faults;
+  failed = λ is. inl (s.config.faults, s.input);
   config_refused = λ is. absurd (omega (arith, is));
   config_faulty = λ text told f first fine. absurd (fine s.config.faults);
   report_refused = λ is. absurd (omega (arith, is));
@@ -139,6 +150,8 @@ config_failed words before after s = record {
 config_wrong : {L : Type 0} (words : SinkWords) (fault : SettingsFault) (before after : Sending L) → StopsAtConfig before (sink_ends.ConfigRefused fault) after
     → IsStopped words 2 before after
 config_wrong words fault before after s = record {
+  known = inr (inl refl);
+  unread = λ is. s.input;
   not_done = λ e. omega (arith, e);
   not_refused = λ e. omega (arith, e);
   not_stalled = λ e. omega (arith, e);
@@ -155,6 +168,8 @@ config_wrong words fault before after s = record {
 report_failed : {L : Type 0} (words : SinkWords) (before after : Sending L) → StopsAtReport words before sink_ends.InputFault after
     → IsStopped words 4 before after
 report_failed words before after s = record {
+  known = inr (inr (inl refl));
+  unread = λ is. absurd (omega (arith, is));
   not_done = λ e. omega (arith, e);
   not_refused = λ e. omega (arith, e);
   not_stalled = λ e. omega (arith, e);
@@ -171,6 +186,8 @@ report_failed words before after s = record {
 report_wrong : {L : Type 0} (words : SinkWords) (fault : ReportFault) (before after : Sending L)
     → StopsAtReport words before (sink_ends.ReportRefused fault) after → IsStopped words 5 before after
 report_wrong words fault before after s = record {
+  known = inr (inr (inr (inl refl)));
+  unread = λ is. absurd (omega (arith, is));
   not_done = λ e. omega (arith, e);
   not_refused = λ e. omega (arith, e);
   not_stalled = λ e. omega (arith, e);
@@ -186,6 +203,8 @@ report_wrong words fault before after s = record {
 
 left_early : {L : Type 0} (words : SinkWords) (before after : Sending L) → LeavesEarly before after → IsStopped words 7 before after
 left_early words before after s = record {
+  known = inr (inr (inr (inr (inr (inl refl)))));
+  unread = λ is. absurd (omega (arith, is));
   not_done = λ e. omega (arith, e);
   not_refused = λ e. omega (arith, e);
   not_stalled = λ e. omega (arith, e);
@@ -221,3 +240,7 @@ sink_says ends words (Ok sent) ending before after out now s told =
 sink_says ends words (Err end) ending before after out now s told =
     subst (λ (e : SinkEnding). SinkSays ends words (sink_status e) before after out now) (sym told.0)
     (ended ends words end before after out now s told.1)
+
+pub each_status_says : {L : Type 0} (ends : L → Ends) (words : SinkWords) (sent : Result Sent SinkEnd) (before after : Sending L)
+    → IsSending ends words before sent after → EachStatusSays ends words before sent after
+each_status_says ends words sent before after s ending out now told = sink_says ends words sent ending before after out now s told

@@ -26,6 +26,9 @@ pub record Sending (L : Type 0) : Type 0 where
   pub input : Incoming
   pub dials : Dials L
 
+abbrev pub sending_at : {L : Type 0} → Incoming → Incoming → Dials L → Sending L
+sending_at config input dials = record { config = config; input = input; dials = dials }
+
 -- the invocation of the words, and the two tokens of the configuration
 abbrev pub destination : SinkWords → SinkSettings → Destination
 destination words settings = record {

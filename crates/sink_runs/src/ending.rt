@@ -1,6 +1,7 @@
 //! How a run of the sink ends: its exit status, and its line.
 ghost use Rattle.std.specs.Prelude.{◌≡◌, ◌+◌, ◌≤◌, ◌++◌, codes, decimal, length};
-ghost use Rattle.sink_runs.specs.Endings.{end_status, end_text, fault_text, sent_text, sink_line, sink_status, write_line, write_status, Tells};
+ghost use Rattle.sink_runs.specs.Endings.{end_status, end_text, fault_text, sent_text, sink_line, sink_status};
+ghost use Rattle.sink_runs.specs.Endings.{write_line, write_status, Tells};
 ghost use Rattle.error_lines.specs.Lines.{error_line};
 
 use crate::report::ReportFault;

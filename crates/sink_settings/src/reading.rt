@@ -1,9 +1,11 @@
 //! The configuration of a sink, read and checked in stages.
-ghost use Rattle.std.specs.Prelude.{◌≡◌, ◌≢◌, ◌<◌, ◌≤◌, [], ◌∷◌, None, length, IfOk, IfErr, OnOk, option_map, if◌then◌else◌};
+ghost use Rattle.std.specs.Prelude.{◌≡◌, ◌≢◌, ◌<◌, ◌≤◌, [], ◌∷◌, None, length, IfOk, IfErr, OnOk, option_map};
+ghost use Rattle.std.specs.Prelude.{if◌then◌else◌};
 ghost use Rattle.toml.specs.Data.{Members};
 ghost use Rattle.toml.specs.View.{table_view};
 ghost use Rattle.policy_tables.specs.Findings.{at, least_with};
-ghost use Rattle.sink_settings.specs.Settings.{most_bytes, IsDocument, settings_of, shape_fault, form_fault, IsSettingsOf, IsFirstFault, Answers};
+ghost use Rattle.sink_settings.specs.Settings.{most_bytes, IsDocument, settings_of, shape_fault, form_fault};
+ghost use Rattle.sink_settings.specs.Settings.{IsSettingsOf, IsFirstFault, Answers};
 
 use crate::fault::SettingsFault;
 use crate::forms::{is_token, is_update_token};

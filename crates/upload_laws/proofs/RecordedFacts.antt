@@ -22,11 +22,12 @@ use Rattle.call_forms.specs.Rules.{Rule, refusal_answer, rule, rule_of, rules}
 use Rattle.call_forms.specs.declared.forms.Refusal.{Refusal}
 use Rattle.invocation_world.specs.World as worlds
 use Rattle.request_rules.specs.Broken.{IsAbsent, NotFound, Sought, invocation_with, of_invocation, sought}
-use Rattle.request_rules.specs.Demands.{Demand, demand_of}
+use Rattle.request_demands.specs.Demands.{Demand, demand_of}
+use Rattle.request_rules.specs.Held.{Held}
 use Rattle.request_rules.specs.Named.{place_named}
-use Rattle.request_rules.specs.Numbered.{digest_of, kept_at}
-use Rattle.request_rules.specs.Order.{FirstOf, IsUnbroken}
-use Rattle.request_rules.specs.Settings.{Settings, caller_name}
+use Rattle.request_demands.specs.Numbered.{digest_of, kept_at}
+use Rattle.request_demands.specs.Order.{FirstOf, IsUnbroken}
+use Rattle.request_demands.specs.Settings.{Settings, caller_name}
 use Rattle.request_rules.proofs.PlaceLaws.{place_holds, placed, slice_get-Contains}
 use Rattle.service_effects.specs.declared.effect.Effect.TheVariants as does
 use Rattle.service_effects.specs.Effects.{Makes}
@@ -34,6 +35,7 @@ use Rattle.service_effects.specs.Service.{Recorded, ServiceWorld, recorded}
 use Rattle.service_effects.proofs.IdFacts.{id_at}
 use Rattle.request_effects.specs.Effects.{results_at}
 use Rattle.request_effects.specs.Keeps.{numbered_of, with_kept}
+use Rattle.request_effects.specs.Places.{held_in}
 use Rattle.request_effects.proofs.KeepLaws.{kept_is, numbered_is}
 use Rattle.request_effects.proofs.PlaceFacts.{row_placed}
 use Rattle.service_core.specs.History.{DoesNoMore, Entry, Leads, Tells}
@@ -93,7 +95,7 @@ added w after moment invocation results (Some holder) e there valid made = recor
 }
 
 -- what a request names is there where it breaks no rule
-named_found : (rows : List Invocation) (held : List TestResult) (d : Demand) (id : List ℕ) → IsUnbroken (NotFound rows held d)
+named_found : (rows : List Invocation) (held : Held) (d : Demand) (id : List ℕ) → IsUnbroken (NotFound rows held d)
     → sought d ≡ invocation_with id ∷ [] → place_named rows id ≡ None → ⊥
 named_found rows held d id found names missing =
     found (of_invocation 8 id) (record {
@@ -104,11 +106,11 @@ named_found rows held d id found names missing =
 
 -- results that a request adds without breaking a rule are recorded
 pub added_recorded : (w after : Recorded) (moment : ℤ) (invocation : List ℕ) (results : List TestResult) (d : Demand)
-    → IsUnbroken (NotFound w.rows.invocations w.results d) → sought d ≡ invocation_with invocation ∷ [] → worlds.IsValid after.rows
+    → IsUnbroken (NotFound w.rows.invocations (held_in w) d) → sought d ≡ invocation_with invocation ∷ [] → worlds.IsValid after.rows
     → Makes moment (results_at (place_named w.rows.invocations invocation) results) w after → AreRecorded after invocation results
 added_recorded w after moment invocation results d found names valid made =
     added w after moment invocation results (place_named w.rows.invocations invocation) refl
-    (named_found w.rows.invocations w.results d invocation found names) valid made
+    (named_found w.rows.invocations (held_in w) d invocation found names) valid made
 
 -- ---- what is kept
 
@@ -135,11 +137,11 @@ kept_digest s w moment asked after answer p reply is =
     let k = kept_is (recorded w) (caller_name s p.caller) (numbered_of asked (demand_of p.request)) (effect_for s w moment p.caller p.request) reply is in
     k.digest ∙ (numbered_is asked (demand_of p.request) k.n k.numbered_is).1
 
-abbrev Held : Settings → ServiceWorld → Entry → ServiceWorld → KeptReply → Type 0
-Held s w e after reply = Contains w.kept reply ⊎ IsNewlyKept s e after reply
+abbrev IsHeld : Settings → ServiceWorld → Entry → ServiceWorld → KeptReply → Type 0
+IsHeld s w e after reply = Contains w.kept reply ⊎ IsNewlyKept s e after reply
 
 told_held : (s : Settings) (w between : ServiceWorld) (e : Entry) (after : ServiceWorld) (answer : Answer) → between.kept ≡ w.kept
-    → IsTold s between e.moment e.asked after answer → (reply : KeptReply) → Contains after.kept reply → Held s w e after reply
+    → IsTold s between e.moment e.asked after answer → (reply : KeptReply) → Contains after.kept reply → IsHeld s w e after reply
 told_held s w between e after answer same (refused r) reply at =
     inl (subst (λ (k : List KeptReply). Contains k reply) (ap (λ (v : ServiceWorld). v.kept) r.same ∙ same) at)
 told_held s w between e after answer same (repeated r) reply at =
@@ -162,7 +164,7 @@ no_more_held w moment after (inl same) reply at = subst (λ (v : ServiceWorld). 
 no_more_held w moment after (inr due) reply at = subst (λ (k : List KeptReply). Contains k reply) due.kept at
 
 tells_held : (s : Settings) (w : ServiceWorld) (e : Entry) (told : Told) (after : ServiceWorld) → Tells s w e told after
-    → (reply : KeptReply) → Contains after.kept reply → Held s w e after reply
+    → (reply : KeptReply) → Contains after.kept reply → IsHeld s w e after reply
 tells_held s w e (Made answer) after step reply at =
     told_held s w step.between e after answer step.advances.kept step.judged reply at
 tells_held s w e (Instead Memory) after no_more reply at = inl (no_more_held w e.moment after no_more reply at)

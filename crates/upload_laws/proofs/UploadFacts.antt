@@ -18,15 +18,16 @@ use Rattle.message_forms.specs.Reading.{Asks}
 use Rattle.message_forms.specs.declared.requests.Request.{Request}
 use Rattle.message_forms.proofs.RequestLaws.{one_request_asked}
 use Rattle.request_rules.specs.Broken.{NotFound}
-use Rattle.request_rules.specs.Demands.{demand_of}
+use Rattle.request_demands.specs.Demands.{demand_of}
 use Rattle.request_rules.specs.Named.{place_named}
-use Rattle.request_rules.specs.Numbered.{digest_of, kept_for}
-use Rattle.request_rules.specs.Order.{IsUnbroken}
-use Rattle.request_rules.specs.Settings.{HasNames, Settings, caller_name, caller_of}
+use Rattle.request_demands.specs.Numbered.{digest_of, kept_for}
+use Rattle.request_demands.specs.Order.{IsUnbroken}
+use Rattle.request_demands.specs.Settings.{HasNames, Settings, caller_name, caller_of}
+use Rattle.request_effects.specs.Places.{held_in}
 use Rattle.service_effects.specs.Effects.{Makes}
 use Rattle.service_effects.specs.Service.{ServiceWorld, recorded}
 use Rattle.service_core.specs.History.{Entry, IsLegal, Leads, Tells}
-use Rattle.service_core.specs.Service.{IsValid}
+use Rattle.service_laws.specs.Validity.{IsValid}
 use Rattle.service_core.specs.Step.{IsTold, Performs, effect_for, performed, refused, repeated}
 use Rattle.service_core.proofs.ClearedLaws.{accepted_found}
 use Rattle.service_laws.proofs.TableLaws.{legal_lasts}
@@ -77,7 +78,7 @@ module _ (s : Settings) (names : HasNames s) (caller : ℕ) (asked : Asked) (inv
   performed_there w moment e after answer p same valid =
       let is = wanted_is e p.request same p.accepted.new.wants.asks in
       added_recorded (recorded w) (recorded after) moment invocation batch.results (demand_of (batch_request invocation batch))
-      (subst (λ (q : Request). IsUnbroken (NotFound w.rows.invocations w.results (demand_of q))) is (accepted_found s w moment e p.caller p.request p.accepted))
+      (subst (λ (q : Request). IsUnbroken (NotFound w.rows.invocations (held_in (recorded w)) (demand_of q))) is (accepted_found s w moment e p.caller p.request p.accepted))
       refl valid.sound.rows
       (subst (λ (q : Request). Makes moment (effect_for s w moment p.caller q) (recorded w) (recorded after)) is p.acts.made)
 
