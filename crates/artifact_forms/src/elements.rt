@@ -5,7 +5,7 @@ ghost use Rattle.artifact_forms.specs.Files.{file_of};
 use crate::files::File;
 use crate::names::artifact;
 use crate::parents::read_parent;
-use artifacts::NewArtifact;
+use artifacts::{HashedBytes, NewArtifact};
 use field_kinds::FormBeside;
 use json_fields::{ReadFault, object, required};
 use names_realms::{ArtifactName, Parent};
@@ -29,7 +29,7 @@ fn artifact_of(parent: Parent, file: File) -> NewArtifact
             artifact: file.id,
         },
         content_type: file.content_type,
-        contents: file.contents,
+        contents: HashedBytes::of(file.contents),
         said_size: file.said_size,
         said_hash: file.said_hash,
     }

@@ -1,6 +1,7 @@
 //! The names of the members of requests for artifacts.
 ghost use Rattle.std.specs.Prelude.{◌≡◌};
-ghost use Rattle.artifact_forms.specs.Names.{request_id, requests, parent, artifact, artifact_id, content_type, contents, size_bytes, hash, name, page_size, page_token};
+ghost use Rattle.artifact_forms.specs.Names.{request_id, requests, parent, artifact, artifact_id, content_type};
+ghost use Rattle.artifact_forms.specs.Names.{contents, size_bytes, hash, name, page_size, page_token};
 
 use json_fields::Name;
 

@@ -6,7 +6,8 @@ ghost use Rattle.json_fields.specs.Fields.{required, filled_at, set_at, Holds};
 ghost use Rattle.json_fields.specs.Kinds.{empty_text};
 ghost use Rattle.result_forms.specs.Fields.{text_in};
 ghost use Rattle.artifact_forms.specs.Names.{parent};
-ghost use Rattle.artifact_forms.specs.Parents.{IsParentOf, behind_front, invocation_part, a_same_invocation, a_parent_beside, first_in, leader_of};
+ghost use Rattle.artifact_forms.specs.Parents.{IsParentOf, behind_front, invocation_part, a_same_invocation};
+ghost use Rattle.artifact_forms.specs.Parents.{a_parent_beside, first_in, leader_of};
 
 use crate::names::{parent, requests};
 use json_fields::{FaultKind, ReadFault, Step, Why, filled_at, read_text, set_at};

@@ -1,4 +1,4 @@
--- Each table and question has one page.
+-- Each question has one page.
 use Rattle.std.proofs.Common.{◌≡◌, ◌<◌, ℕ, Bool, true, false, nat_lt, List, [], ◌∷◌, map, length, take, get_or, Option, Some, refl, sym, ap, ◌∙◌, subst, arith}
 use Rattle.std.specs.Prelude.{slice_get}
 use Rattle.std.specs.List.{All}
@@ -7,11 +7,10 @@ use Rattle.std.proofs.lemmas.List.Elements.{All-head, All-tail}
 use Rattle.std.proofs.lemmas.Option.{slice_get-get_or}
 use Rattle.artifacts.specs.declared.artifact.Artifact.{Artifact}
 use Rattle.artifacts.specs.Pages.{IsPage}
-use Rattle.artifacts.proofs.FollowLemmas.{has_one_listing}
-use Rattle.artifacts.proofs.PageLemmas.{page_within}
-use Rattle.artifact_pages.specs.Pages.{Asked, next_token, IsShownPage}
+use Rattle.artifact_pages.specs.declared.queries.ArtifactQuery.{ArtifactQuery}
+use Rattle.artifact_pages.specs.Pages.{next_token, IsShownPage}
 use Rattle.artifact_pages.specs.Laws.{OnePage, APageIsThere}
-use Rattle.artifact_pages.proofs.ListingLaws.{a_listing}
+use Rattle.artifact_pages.proofs.ListingLaws.{a_listing, listing_from, one_listing, places_within}
 
 same_bool : (b c : Bool) → (b ≡ true → c ≡ true) → (c ≡ true → b ≡ true) → b ≡ c
 same_bool true c f g = sym (f refl)
@@ -30,12 +29,12 @@ same_rows (x ∷ xs) (y ∷ ys) e =
 
 pub one_page : OnePage
 one_page rows asked shown other h k =
-    let all : h.page.all ≡ k.page.all = has_one_listing rows asked.holder asked.parent asked.after h.page.all k.page.all h.page.listing k.page.listing in
-    let places : h.places ≡ k.places = h.page.first ∙ ap (take asked.size) all ∙ sym k.page.first in
+    let all : h.all ≡ k.all = one_listing rows asked h.all k.all h.listing k.listing in
+    let places : h.places ≡ k.places = h.first ∙ ap (take asked.size) all ∙ sym k.first in
     let more : h.more ≡ k.more =
     same_bool h.more k.more
-    (λ t. k.page.left.1 (subst (λ (ps : List ℕ). asked.size < length ps) all (h.page.left.0 t)))
-    (λ t. h.page.left.1 (subst (λ (ps : List ℕ). asked.size < length ps) (sym all) (k.page.left.0 t))) in
+    (λ t. k.left.1 (subst (λ (ps : List ℕ). asked.size < length ps) all (h.left.0 t)))
+    (λ t. h.left.1 (subst (λ (ps : List ℕ). asked.size < length ps) (sym all) (k.left.0 t))) in
     let listed : map Some shown.rows ≡ map Some other.rows = sym h.rows_are ∙ ap (λ (ps : List ℕ). map (slice_get rows) ps) places ∙ k.rows_are in
     let same : shown.rows ≡ other.rows = same_rows shown.rows other.rows listed in
     let next : shown.next ≡ other.next =
@@ -53,17 +52,20 @@ picked (r ∷ rows) (p ∷ places) all =
     (get_or (r ∷ rows) p r ∷ rest.0, λ i. this i ∷ rest.1 i)
 
 pub a_page_is_there : APageIsThere
-a_page_is_there rows asked table =
-    let listing = a_listing rows asked.holder asked.parent asked.after table.unique in
+a_page_is_there rows asked =
+    let listing = a_listing rows asked in
     let all : List ℕ = listing.0 in
     let places : List ℕ = take asked.size all in
     let more : Bool = nat_lt asked.size (length all) in
-    let shown = picked rows places (page_within rows asked.holder asked.parent asked.after all asked.size listing.1) in (
+    let shown = picked rows places (places_within rows asked all asked.size listing.1) in (
       record { rows = shown.0; next = next_token rows asked.query places more },
       record {
+        all = all;
+        listing = listing.1;
         places = places;
+        first = refl;
         more = more;
-        page = record { all = all; listing = listing.1; first = refl; left = (ltb-true asked.size (length all), lt-ltb asked.size (length all)) };
+        left = (ltb-true asked.size (length all), lt-ltb asked.size (length all));
         rows_are = shown.1;
         next_is = refl;
       },
@@ -74,8 +76,17 @@ mapped : {B : Type 0} (f : B → Artifact) (xs : List B) → map (λ x. Some (f 
 mapped f [] = refl
 mapped f (x ∷ xs) = ap (λ (os : List (Option Artifact)). Some (f x) ∷ os) (mapped f xs)
 
-pub shown_page : {B : Type 0} (f : B → Artifact) (rows : List Artifact) (asked : Asked) (items : List B) (next : Option (List ℕ)) (places : List ℕ) (more : Bool)
+pub shown_page : {B : Type 0} (f : B → Artifact) (rows : List Artifact) (asked : ArtifactQuery) (items : List B) (next : Option (List ℕ)) (places : List ℕ) (more : Bool)
     → IsPage rows asked.holder asked.parent asked.after asked.size places more → map (λ x. Some (f x)) items ≡ map (slice_get rows) places
     → next ≡ next_token rows asked.query places more → IsShownPage rows asked (record { rows = map f items; next = next })
 shown_page f rows asked items next places more page found is =
-    record { places = places; more = more; page = page; rows_are = sym found ∙ mapped f items; next_is = is }
+    record {
+      all = page.all;
+      listing = listing_from rows asked page.all page.listing;
+      places = places;
+      first = page.first;
+      more = more;
+      left = page.left;
+      rows_are = sym found ∙ mapped f items;
+      next_is = is;
+    }

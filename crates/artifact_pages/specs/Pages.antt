@@ -1,21 +1,29 @@
 -- Pages of the artifacts of a parent, as a caller is shown them.
-use Rattle.std.specs.Prelude.{◌≡◌, ℕ, Bool, if◌then◌else◌, List, [], ◌∷◌, Option, Some, None, map, slice_get}
-use Rattle.names_realms.specs.declared.parents.Parent.{Parent}
+use Rattle.std.specs.Prelude.{◌≡◌, ◌↔◌, ◌<◌, ℕ, Bool, true, if◌then◌else◌, List, [], ◌∷◌, Option, Some, None, Contains, length, map, option_map, slice_get, take}
+use Rattle.std.specs.Cmp.Lexicographic.{slice_cmp}
+use Rattle.std.specs.Ordering.{nat_cmp, ordering_then}
+use Rattle.std.specs.declared.cmp.Ordering.{Ordering}
 use Rattle.page_tokens.specs.declared.kinds.ArtifactCursor.{ArtifactCursor}
 use Rattle.artifacts.specs.declared.artifact.Artifact.{Artifact}
 use Rattle.artifacts.specs.Laws.{last_id}
-use Rattle.artifacts.specs.Pages.{IsPage}
+use Rattle.artifacts.specs.Artifacts.{keys_of}
+use Rattle.artifacts.specs.Orders.{IsRising, id_at}
+use Rattle.artifacts.specs.Pages.{IsListed}
+use Rattle.artifact_forms.specs.Listed.{counted_size, query_of}
 use Rattle.artifact_forms.specs.Tokens.{token_text}
+use Rattle.artifact_forms.specs.declared.listed.ListArtifacts.{ListArtifacts}
+use Rattle.artifact_pages.specs.declared.queries.ArtifactQuery.{ArtifactQuery}
 use Rattle.artifact_replies.specs.Replies.{ArtifactsShown}
 
--- What is asked: the artifacts of a parent that the holder has, behind a place or from the first
--- one on, so many at most; and the query for which tokens hold.
-pub record Asked : Type 0 where
-  pub holder : ℕ
-  pub parent : Parent
-  pub query : List ℕ
-  pub after : Option (List ℕ)
-  pub size : ℕ
+-- the page that a request asks for, of the artifacts that the row at a place holds
+abbrev pub query_from : ℕ → ListArtifacts → ArtifactQuery
+query_from holder q = record {
+  holder = holder;
+  parent = q.parent;
+  query = query_of q;
+  after = option_map (λ c. c.artifact) q.page_token;
+  size = counted_size q.page_size;
+}
 
 -- the place of the last artifact of a page
 abbrev pub last_place : List Artifact → List ℕ → ArtifactCursor
@@ -27,12 +35,28 @@ next_token rows query [] more = None
 next_token rows query (place ∷ places) more =
     if more then Some (token_text query (last_place rows (place ∷ places))) else None
 
--- This is the page that is asked: the artifacts at its places, in the order of their ids, and the
--- token of the next page where more are left.
-pub record IsShownPage (rows : List Artifact) (asked : Asked) (shown : ArtifactsShown)
+-- places by the ids of the artifacts that stand there, and where these are the same by themselves
+abbrev pub page_order : List Artifact → ℕ → ℕ → Ordering
+page_order rows p q =
+    ordering_then (slice_cmp nat_cmp (id_at (keys_of rows) p) (id_at (keys_of rows) q))
+    (nat_cmp p q)
+
+-- These are the places of just the artifacts that are still to be shown, in this order.
+pub record IsWholeListing (rows : List Artifact) (asked : ArtifactQuery) (places : List ℕ)
     : Type 0 where
+  pub rising : IsRising (page_order rows) places
+  pub whole : (place : ℕ)
+      → Contains places place ↔ IsListed rows asked.holder asked.parent asked.after place
+
+-- This is the page that is asked: the first artifacts, so many, of those still to be shown,
+-- in the order of their ids, and the token of the next page where more are left.
+pub record IsShownPage (rows : List Artifact) (asked : ArtifactQuery) (shown : ArtifactsShown)
+    : Type 0 where
+  pub all : List ℕ
+  pub listing : IsWholeListing rows asked all
   pub places : List ℕ
+  pub first : places ≡ take asked.size all
   pub more : Bool
-  pub page : IsPage rows asked.holder asked.parent asked.after asked.size places more
+  pub left : (more ≡ true) ↔ (asked.size < length all)
   pub rows_are : map (slice_get rows) places ≡ map Some shown.rows
   pub next_is : shown.next ≡ next_token rows asked.query places more

@@ -7,7 +7,7 @@ pub fn one_page()
     ensures { OnePage }
 {}
 
-/// What is asked has a page in every table.
+/// And it has one, whatever rows there are.
 pub fn a_page_is_there()
     ensures { APageIsThere }
 {}

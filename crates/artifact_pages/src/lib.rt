@@ -1,7 +1,10 @@
 //! Pages of the artifacts of a parent: which rows one shows, and the token of the next one.
 #![tactic(auto)]
 
+mod copies;
 pub mod laws;
 mod pages;
+mod queries;
 
-pub use pages::{AskedArtifacts, show_artifacts};
+pub use pages::show_artifacts;
+pub use queries::ArtifactQuery;

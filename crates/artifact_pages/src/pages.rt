@@ -1,57 +1,18 @@
 //! The page that is asked.
-ghost use Rattle.std.specs.Prelude.{◌≡◌, ◌<◌, ◌++◌, ◌∷◌, [], Some, IfOk, OnOk, map, length, slice_get, option_map, string_bytes};
+ghost use Rattle.std.specs.Prelude.{◌≡◌, ◌<◌, ◌++◌, ◌∷◌, [], Some, IfOk, OnOk, map, length, slice_get, option_map};
+ghost use Rattle.std.specs.Prelude.{string_bytes};
 ghost use Rattle.std.specs.List.{All};
 ghost use Rattle.artifacts.specs.Artifacts.{keys_of};
 ghost use Rattle.artifacts.specs.Orders.{id_at};
 ghost use Rattle.artifact_forms.specs.Tokens.{token_text};
 ghost use Rattle.artifact_pages.specs.Pages.{IsShownPage, next_token};
 
+use crate::copies::copied_id;
+use crate::queries::ArtifactQuery;
 use artifact_replies::ShownArtifacts;
 use artifacts::{Artifact, ArtifactPage, ArtifactRows};
-use names_realms::{ArtifactId, NameFault, Parent};
 use page_tokens::{ArtifactCursor, Query, write_token};
 use std::alloc::{AllocError, Global};
-use std::marker::Model;
-
-/// What is asked: artifacts of a parent that an invocation holds. Contracts see the values.
-#[derive(Drop)]
-pub struct AskedArtifacts<'q> {
-    /// The place of the invocation that holds them.
-    pub holder: u32,
-    pub parent: &'q Parent,
-    /// The query for which the tokens of the pages hold.
-    pub query: &'q Query,
-    /// The id of the last artifact that was shown, where one was.
-    pub after: Option<&'q ArtifactId>,
-    /// How many artifacts the page has at most.
-    pub size: u32,
-}
-
-impl<'q> Model for AskedArtifacts<'q> {
-    ghost use Rattle.std.specs.Prelude.{option_map};
-    ghost use Rattle.artifact_pages.specs.Pages.{Asked};
-
-    ghost Value = { Asked };
-
-    ghost view = { λ a. record {
-      holder = a.holder;
-      parent = a.parent.now;
-      query = a.query.now;
-      after = option_map (λ id. id.now) a.after;
-      size = a.size;
-    } };
-}
-
-/// The same id, once more.
-fn copy_of(alloc: Global, id: &ArtifactId) -> Result<ArtifactId, AllocError>
-    ensures { IfOk result (λ copy. copy ≡ id.now) }
-{
-    match ArtifactId::parse(alloc, id.as_slice()) {
-        Ok(copy) => Ok(copy),
-        Err(NameFault::Memory) => Err(AllocError),
-        Err(_) => unreachable!(),
-    }
-}
 
 /// Appends the row at a place.
 fn add_row<'t>(
@@ -96,7 +57,7 @@ fn token_behind(
         (record { artifact = id_at (keys_of table.now.rows) place })) }
 {
     let row = table.row(place);
-    let artifact = copy_of(alloc, &row.name.artifact)?;
+    let artifact = copied_id(alloc, &row.name.artifact)?;
     write_token(alloc, &ArtifactCursor { artifact }, query)
 }
 
@@ -125,12 +86,13 @@ fn token_of(
 pub fn show_artifacts<'t>(
     alloc: Global,
     table: &'t ArtifactRows,
-    asked: &AskedArtifacts,
+    asked: &ArtifactQuery,
 ) -> Result<ShownArtifacts<'t>, AllocError>
     ensures { IfOk result (λ shown. IsShownPage table.now.rows asked.now shown) }
 {
-    let page = table.list(asked.holder, asked.parent, asked.after, asked.size);
+    let after = asked.after.as_ref();
+    let page = table.list(asked.holder, &asked.parent, after, asked.size);
     let rows = rows_at(alloc, table, page.rows)?;
-    let next = token_of(alloc, table, asked.query, &page)?;
+    let next = token_of(alloc, table, &asked.query, &page)?;
     Ok(ShownArtifacts { rows, next })
 }

@@ -1,4 +1,5 @@
 pub mod BatchLemmas
+pub mod FaultLemmas
 pub mod FollowLemmas
 pub mod KeyLemmas
 pub mod LawLemmas

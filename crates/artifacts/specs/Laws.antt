@@ -1,12 +1,15 @@
 -- Laws of tables that batches come into, and of pages.
-use Rattle.std.specs.Prelude.{◌≡◌, ◌<◌, ◌-◌, ℕ, Bool, true, false, List, [], ◌∷◌, ◌++◌, Option, Some, None, length, slice_get, slice_index_or}
+use Rattle.std.specs.Prelude.{◌≡◌, ◌≢◌, ◌⊎◌, ◌<◌, ◌-◌, ℕ, Bool, true, false, List, [], ◌∷◌, ◌++◌, Option, Some, None, length, slice_get, slice_index_or}
 use Rattle.std.specs.List.{All, flat_map}
 use Rattle.names_realms.specs.declared.parents.Parent.{Parent}
 use Rattle.artifacts.specs.declared.artifact.Artifact.{Artifact}
 use Rattle.artifacts.specs.Artifacts.{HasItsHash, IsTable, keys_of}
-use Rattle.artifacts.specs.Batches.{CanAdd}
+use Rattle.artifacts.specs.declared.faults.ArtifactFault.{ArtifactFault}
+use Rattle.artifacts.specs.declared.faults.ArtifactFault.TheVariants.{Memory}
+use Rattle.artifacts.specs.Batches.{CanAdd, CanCome, IsBatchFault}
 use Rattle.artifacts.specs.Orders.{id_at}
 use Rattle.artifacts.specs.Pages.{IsListing, IsPage}
+use Rattle.artifacts.specs.Requests.{DigestedState}
 
 -- Rows that come in together, and their holder.
 pub record Addition : Type 0 where
@@ -78,3 +81,18 @@ PagesHaveAll =
     (rows : List Artifact) (holder : ℕ) (parent : Parent) (pages : List Answer)
     → AreFollowed rows holder parent None pages
     → IsListing rows holder parent None (flat_map places_of_page pages)
+
+-- One fault at most is said of a batch. Want of memory is said where it can come in: so where it
+-- can, no other fault is said.
+abbrev pub OneBatchFault : Type 0
+OneBatchFault =
+    (rows : List Artifact) (holder : ℕ) (batch : DigestedState) (fault other : ArtifactFault)
+    → IsBatchFault rows holder batch fault → IsBatchFault rows holder batch other
+    → fault ≡ other
+
+-- Each batch can come in, or some other fault is said of it.
+abbrev pub FaultOrCanCome : Type 0
+FaultOrCanCome =
+    (rows : List Artifact) (holder : ℕ) (batch : DigestedState)
+    → CanCome rows holder batch
+    ⊎ ((fault : ArtifactFault) × (fault ≢ Memory) × IsBatchFault rows holder batch fault)

@@ -1,6 +1,7 @@
 //! An artifact, and a batch of them.
 ghost use Rattle.std.specs.Prelude.{◌≡◌};
 
+use crate::new_artifact::Digested;
 use lists::Bytes;
 use names_realms::ArtifactName;
 use std::marker::Model;
@@ -18,26 +19,25 @@ pub struct Artifact {
     pub hash: [u8; 32],
 }
 
-/// Artifacts of one holder that are to be added to a table.
+/// Artifacts of one holder that are to be added to a table, with what was said of them.
 #[derive(Drop)]
 pub struct ArtifactBatch {
-    pub(crate) rows: Vec<Artifact>,
+    pub(crate) all: Digested,
 }
 
 impl Model for ArtifactBatch {
-    ghost use Rattle.std.specs.Prelude.{List};
-    ghost use Rattle.artifacts.specs.declared.artifact.Artifact.{Artifact};
+    ghost use Rattle.artifacts.specs.Requests.{DigestedState};
 
-    ghost Value = { List Artifact };
+    ghost Value = { DigestedState };
 
-    ghost view = { λ b. b.rows.items };
+    ghost view = { λ b. b.all };
 }
 
 impl ArtifactBatch {
     /// The artifacts, as they will stand in the table, one behind the other.
     pub fn rows(&self) -> &[Artifact]
-        ensures { result.now ≡ self.now }
+        ensures { result.now ≡ self.now.rows }
     {
-        self.rows.as_slice()
+        self.all.rows()
     }
 }

@@ -1,8 +1,10 @@
 //! The table of artifacts.
-ghost use Rattle.std.specs.Prelude.{◌≡◌, ◌≤◌, ◌<◌, ◌+◌, ◌++◌, ◌∷◌, ℕ, [], Some, IfOk, IfErr, OnOk, MatchOption, length, slice_get, option_map};
+ghost use Rattle.std.specs.Prelude.{◌≡◌, ◌≤◌, ◌<◌, ◌+◌, ◌++◌, ◌∷◌, ℕ, [], Some, IfOk, IfErr, OnOk, MatchOption, length};
+ghost use Rattle.std.specs.Prelude.{slice_get, option_map};
 ghost use Rattle.std.specs.List.{All};
 ghost use Rattle.artifacts.specs.Artifacts.{HasItsHash, HasKey, IsPlaceOf, IsTable, key_of, named, places_in, room_for};
-ghost use Rattle.artifacts.specs.Batches.{AreFree, AreOnce, CanCome, Fits, HaveNoFault, IsBatchFault, IsRepeat, IsRowFault, IsTaken, given, of_holder};
+ghost use Rattle.artifacts.specs.Batches.{AreFree, AreOnce, CanCome, Fits, HaveNoFault, IsBatchFault, IsRepeat};
+ghost use Rattle.artifacts.specs.Batches.{IsRowFault, IsTaken, of_holder};
 ghost use Rattle.artifacts.specs.Pages.{IsPage};
 
 use crate::artifact::{Artifact, ArtifactBatch};
@@ -203,8 +205,8 @@ impl ArtifactRows {
     ) -> Result<ArtifactBatch, ArtifactFault>
         ensures rows { self.new.rows ≡ self.old.rows }
         ensures rooms { (other : ℕ) → room_for self.old other ≤ room_for self.new other }
-        ensures batch { IfOk result (λ batch. batch ≡ given holder rows.rows) }
-        ensures fits { IfOk result (Fits self.new) }
+        ensures batch { IfOk result (λ batch. batch ≡ of_holder holder rows) }
+        ensures fits { IfOk result (λ batch. Fits self.new batch.rows) }
         ensures can { IfOk result
             (λ _. CanCome self.old.rows holder (of_holder holder rows)) }
         ensures fault { IfErr result (IsBatchFault self.old.rows holder (of_holder holder rows)) }
@@ -222,9 +224,7 @@ impl ArtifactRows {
             return Err(ArtifactFault::Full { count: held });
         }
         self.reserve(alloc, holder, count)?;
-        Ok(ArtifactBatch {
-            rows: batch.into_rows(),
-        })
+        Ok(ArtifactBatch { all: batch })
     }
 
     /// Appends a row. It takes no memory.
@@ -259,11 +259,11 @@ impl ArtifactRows {
 
     /// Appends the rows of a batch, in order. It takes no memory.
     pub fn commit(&mut self, batch: ArtifactBatch)
-        requires { Fits self.old batch }
-        ensures rows { self.new.rows ≡ self.old.rows ++ batch }
+        requires { Fits self.old batch.rows }
+        ensures rows { self.new.rows ≡ self.old.rows ++ batch.rows }
         ensures rooms { (other : ℕ) →
-            room_for self.old other ≤ room_for self.new other + length batch }
+            room_for self.old other ≤ room_for self.new other + length batch.rows }
     {
-        self.append_all(batch.rows);
+        self.append_all(batch.all.into_rows());
     }
 }

@@ -1,6 +1,7 @@
 //! Laws of the definitions that the contracts cite. These functions do nothing: what each of them
 //! ensures is the law.
-ghost use Rattle.artifacts.specs.Laws.{HasOneListing, PagesHaveAll, RowsStay, StaysTable};
+ghost use Rattle.artifacts.specs.Laws.{FaultOrCanCome, HasOneListing, OneBatchFault, PagesHaveAll, RowsStay};
+ghost use Rattle.artifacts.specs.Laws.{StaysTable};
 
 /// In a holder no two artifacts have the same name, after any number of batches.
 pub fn stays_table()
@@ -10,6 +11,17 @@ pub fn stays_table()
 /// Artifacts stay at their places, whatever batches come.
 pub fn rows_stay()
     ensures { RowsStay }
+{}
+
+/// Of a batch one fault at most is said; want of memory only of one that can come in, of which
+/// nothing else is.
+pub fn one_batch_fault()
+    ensures { OneBatchFault }
+{}
+
+/// Each batch can come in, or a fault other than want of memory is said of it.
+pub fn fault_or_can_come()
+    ensures { FaultOrCanCome }
 {}
 
 /// What is to be shown of a parent is one list, in one order.

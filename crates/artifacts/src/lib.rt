@@ -5,6 +5,7 @@
 mod artifact;
 mod artifact_rows;
 mod faults;
+mod hashed_bytes;
 mod holder_lists;
 mod keys;
 pub mod laws;
@@ -14,5 +15,6 @@ mod pages;
 pub use artifact::{Artifact, ArtifactBatch};
 pub use artifact_rows::ArtifactRows;
 pub use faults::ArtifactFault;
+pub use hashed_bytes::HashedBytes;
 pub use new_artifact::{Digested, NewArtifact, Said};
 pub use pages::ArtifactPage;

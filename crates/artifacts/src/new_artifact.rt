@@ -3,12 +3,13 @@ ghost use Rattle.std.specs.Prelude.{◌≡◌, ◌≢◌, [], Some, MatchOption,
 ghost use Rattle.std.specs.List.{All};
 ghost use Rattle.artifacts.specs.Artifacts.{HasItsHash};
 ghost use Rattle.artifacts.specs.Batches.{given, of_holder};
-ghost use Rattle.artifacts.specs.Requests.{AreHashesRight, AreSizesRight, IsHashRight, IsHashWrong, IsSizeRight, IsSizeWrong, artifact_of, digested, pushed};
+ghost use Rattle.artifacts.specs.Requests.{AreHashesRight, AreSizesRight, IsHashRight, IsHashWrong, IsSizeRight};
+ghost use Rattle.artifacts.specs.Requests.{IsSizeWrong, artifact_of, digested, pushed};
 
 use crate::artifact::Artifact;
+use crate::hashed_bytes::HashedBytes;
 use lists::Bytes;
 use names_realms::ArtifactName;
-use sha2::{Digest, Sha256};
 use std::alloc::{AllocError, Global};
 use std::marker::Model;
 
@@ -17,7 +18,8 @@ use std::marker::Model;
 pub struct NewArtifact {
     pub name: ArtifactName,
     pub content_type: Bytes,
-    pub contents: Bytes,
+    /// The contents, with their SHA-256.
+    pub contents: HashedBytes,
     /// How many bytes the contents have, where that is said.
     pub said_size: Option<u64>,
     /// The SHA-256 of the contents, where one is said.
@@ -73,12 +75,12 @@ impl Model for Digested {
 fn hashed(new: NewArtifact) -> Artifact
     ensures { result ≡ artifact_of new }
 {
-    let hash = Sha256::digest(new.contents.as_slice());
+    let hash = new.contents.hash();
     Artifact {
         holder: 0,
         name: new.name,
         content_type: new.content_type,
-        contents: new.contents,
+        contents: new.contents.into_bytes(),
         hash,
     }
 }

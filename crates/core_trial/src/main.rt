@@ -12,7 +12,7 @@ use call_forms::Told;
 use outside::StdIn;
 use permissions::{Policy, PolicyFault};
 use policy_reading::from_toml;
-use request_rules::understand;
+use request_demands::understand;
 use script::{Line, Turn};
 use service_core::Core;
 use standard_files::{DevNull, hold_standard};

@@ -5,7 +5,8 @@ ghost use Rattle.std.specs.Char.{is_ascii_digit, digit_value};
 ghost use Rattle.std.specs.Str.Parse.{digits_value};
 ghost use Rattle.json_fields.specs.Faults.{Says};
 ghost use Rattle.serde_json.specs.View.{view, number_view};
-ghost use Rattle.field_kinds.specs.Numbers.{says, said, said_below, said_behind_minus, said_text, said_number, a_whole, is_decimal, IsSaid};
+ghost use Rattle.field_kinds.specs.Numbers.{says, said, said_below, said_behind_minus, said_text, said_number, a_whole};
+ghost use Rattle.field_kinds.specs.Numbers.{is_decimal, IsSaid};
 ghost use Rattle.field_kinds.specs.Readings.{answer};
 
 use crate::defaults::Defaulted;

@@ -1,5 +1,6 @@
 //! Variants of tests.
-ghost use Rattle.std.specs.Prelude.{◌≡◌, true, ◌++◌, [], ◌∷◌, None, Some, IfOk, IfErr, OnOk, IsPermutation, is_some, unwrap_or};
+ghost use Rattle.std.specs.Prelude.{◌≡◌, true, ◌++◌, [], ◌∷◌, None, Some, IfOk, IfErr, OnOk, IsPermutation, is_some};
+ghost use Rattle.std.specs.Prelude.{unwrap_or};
 ghost use Rattle.std.specs.Str.{IsUtf8};
 ghost use Rattle.serde_json.specs.Data.{object, string, put as with_member};
 ghost use Rattle.serde_json.specs.View.{view, members_view};
@@ -9,7 +10,8 @@ ghost use Rattle.names_realms.specs.Variants.{IsAscending};
 ghost use Rattle.json_fields.specs.Faults.{Says};
 ghost use Rattle.json_fields.specs.Texts.{refused};
 ghost use Rattle.json_fields.specs.Fields.{optional, set_at};
-ghost use Rattle.field_kinds.specs.Variants.{def_name, all_texts, pairs_of, pairs_at, pairs_fault, members_fault, told, a_def, IsPairOfGrammar, AreOfGrammar, def_members, variant_data};
+ghost use Rattle.field_kinds.specs.Variants.{def_name, all_texts, pairs_of, pairs_at, pairs_fault, members_fault, told};
+ghost use Rattle.field_kinds.specs.Variants.{a_def, IsPairOfGrammar, AreOfGrammar, def_members, variant_data};
 
 use crate::defaults::Defaulted;
 use json_fields::{FaultKind, Form, Name, ReadFault, Why, Written, object, optional};

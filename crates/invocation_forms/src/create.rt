@@ -7,7 +7,8 @@ ghost use Rattle.json_fields.specs.Kinds.{empty_text, never_empty};
 ghost use Rattle.json_fields.specs.Texts.{a_text, IsText, IsSame};
 ghost use Rattle.json_fields.specs.Writing.{IsWritten};
 ghost use Rattle.text_kinds.specs.Texts.{a_request_id, is_blank};
-ghost use Rattle.invocation_forms.specs.Create.{a_new_invocation, IsNewInvocation, new_invocation_data, a_create_request, IsCreate, create_members, create_data};
+ghost use Rattle.invocation_forms.specs.Create.{a_new_invocation, IsNewInvocation, new_invocation_data};
+ghost use Rattle.invocation_forms.specs.Create.{a_create_request, IsCreate, create_members, create_data};
 
 use crate::names::{deadline, invocation, invocation_id, realm, request_id, tags};
 use field_kinds::optional_filled;

@@ -1,6 +1,9 @@
 //! The names of the members of messages.
 ghost use Rattle.std.specs.Prelude.{◌≡◌};
-ghost use Rattle.invocation_forms.specs.Names.{request_id, invocation_id, invocation, realm, deadline, tags, create_time, created_by, finalize_start_time, finalize_time, included_invocations, name, state, update_mask, including_invocation, add_invocations, remove_invocations};
+ghost use Rattle.invocation_forms.specs.Names.{request_id, invocation_id, invocation, realm, deadline, tags};
+ghost use Rattle.invocation_forms.specs.Names.{create_time, created_by, finalize_start_time, finalize_time};
+ghost use Rattle.invocation_forms.specs.Names.{included_invocations, name, state, update_mask, including_invocation};
+ghost use Rattle.invocation_forms.specs.Names.{add_invocations, remove_invocations};
 
 use json_fields::Name;
 

@@ -2,7 +2,8 @@
 ghost use Rattle.std.specs.Prelude.{◌≡◌, IfOk, OnOk, string_bytes};
 ghost use Rattle.serde_json.specs.View.{view, members_view};
 ghost use Rattle.json_fields.specs.Writing.{put_required};
-ghost use Rattle.invocation_forms.specs.Replies.{state_text, text_data, what_members, ends_members, invocation_data, user_text};
+ghost use Rattle.invocation_forms.specs.Replies.{state_text, text_data, what_members, ends_members, invocation_data};
+ghost use Rattle.invocation_forms.specs.Replies.{user_text};
 
 use crate::names::{
     create_time, created_by, deadline, finalize_start_time, finalize_time, included_invocations,

@@ -9,7 +9,9 @@ ghost use Rattle.json_fields.specs.Tags.{a_tag, IsTag};
 ghost use Rattle.json_fields.specs.Texts.{a_text, moment_fault, IsText};
 ghost use Rattle.invocation_forms.specs.Masks.{only_where, mask_in, HoldsWhere, IsMask};
 ghost use Rattle.invocation_forms.specs.Names.{invocation, update_mask, deadline, tags};
-ghost use Rattle.invocation_forms.specs.Updates.{a_changed, IsChanged, HoldsChanged, some_changes, an_update_request, IsUpdate, mask_written, changed_data, update_members, update_data, ChangesSomething, IsReadAsChanged};
+ghost use Rattle.invocation_forms.specs.Updates.{a_changed, IsChanged, HoldsChanged, some_changes, an_update_request};
+ghost use Rattle.invocation_forms.specs.Updates.{IsUpdate, mask_written, changed_data, update_members, update_data};
+ghost use Rattle.invocation_forms.specs.Updates.{ChangesSomething, IsReadAsChanged};
 
 use crate::masks::UpdateMask;
 use crate::named::{Named, put_name};

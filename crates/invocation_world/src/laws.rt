@@ -1,6 +1,8 @@
 //! Laws of the definitions that the contracts cite. These functions do nothing: what each of them
 //! ensures is the law.
-ghost use Rattle.invocation_world.specs.Laws.{AdvanceKeepsFinal, AdvanceKeepsValid, AdvancesOnce, ChangesKeepFinal, ChangesKeepValid, HasAdvance, HasSettling, SettlesOnce, SettlingKeepsFinal, UpdateIsTold, ValidIsSettled};
+ghost use Rattle.invocation_world.specs.Laws.{AdvanceKeepsFinal, AdvanceKeepsValid, AdvancesOnce, ChangesKeepFinal};
+ghost use Rattle.invocation_world.specs.Laws.{ChangesKeepValid, HasAdvance, HasSettling, SettlesOnce};
+ghost use Rattle.invocation_world.specs.Laws.{SettlingKeepsFinal, UpdateIsTold, ValidIsSettled};
 
 /// A world settles in one way at most.
 pub fn settles_once()

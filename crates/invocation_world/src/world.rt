@@ -1,5 +1,6 @@
 //! The world of invocations in memory.
-ghost use Rattle.std.specs.Prelude.{◌≡◌, ◌≢◌, ◌+◌, ◌<◌, ◌≤◌, ◌≤ℤ◌, ◌<ℤ◌, ◌↔◌, ℤ, Some, All, IfErr, IfOk, IfSome, IsTrue, MatchBool, MatchOption, OnOk, length, slice_get};
+ghost use Rattle.std.specs.Prelude.{◌≡◌, ◌≢◌, ◌+◌, ◌<◌, ◌≤◌, ◌≤ℤ◌, ◌<ℤ◌, ◌↔◌, ℤ, Some, All, IfErr, IfOk, IfSome};
+ghost use Rattle.std.specs.Prelude.{IsTrue, MatchBool, MatchOption, OnOk, length, slice_get};
 ghost use Rattle.std.specs.Option.{ForSome};
 ghost use Rattle.inclusion_graph.specs.Edges.{edges_from, targets_of};
 ghost use Rattle.inclusion_graph.specs.Plans.{IsEdgeFault, IsElsewhere, new_targets};
@@ -11,7 +12,8 @@ ghost use Rattle.invocation_world.specs.Changes.{with_begun, with_edges, with_mo
 ghost use Rattle.invocation_world.specs.Changes as changes;
 ghost use Rattle.invocation_world.specs.Settling.{Settles};
 ghost use Rattle.invocation_world.specs.States.{Fits, IsNoLess, IsRoomier, graph_of, without_inclusions, without_row};
-ghost use Rattle.invocation_world.specs.World.{IsCallMoment, IsPair, IsRow, IsValid, ReachesActive, empty_world, latest_deadline, with_row};
+ghost use Rattle.invocation_world.specs.World.{IsCallMoment, IsPair, IsRow, IsValid, ReachesActive, empty_world};
+ghost use Rattle.invocation_world.specs.World.{latest_deadline, with_row};
 
 use crate::turns::{carry_out, retire_row};
 use crate::updates::{is_update, set_deadline, set_tags};

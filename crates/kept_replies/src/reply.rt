@@ -22,6 +22,11 @@ pub enum KeptAnswer {
         first: u32,
         count: u32,
     },
+    /// So many artifacts, one behind the other, from this place on.
+    Artifacts {
+        first: u32,
+        count: u32,
+    },
 }
 
 /// An accepted numbered request: its caller's name, its number, the digest by which a repeat is

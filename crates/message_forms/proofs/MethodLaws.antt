@@ -11,6 +11,7 @@ use Rattle.invocation_forms.proofs.CreateLaws.{create_lawful}
 use Rattle.invocation_forms.proofs.UpdateLaws.{update_lawful}
 use Rattle.invocation_forms.proofs.IncludedLaws.{include_lawful}
 use Rattle.result_forms.proofs.MethodLaws.{results_lawful, exonerations_lawful}
+use Rattle.artifact_forms.proofs.MethodLaws.{artifacts_lawful, artifact_lawful, list_lawful}
 use Rattle.query_forms.proofs.SingleLaws.{single_lawful}
 use Rattle.query_forms.proofs.ResultLaws.{results_lawful as rows_lawful}
 use Rattle.query_forms.proofs.VariantLaws.{variants_lawful}
@@ -20,29 +21,29 @@ included_lawful = include_lawful _ _ (λ x xs. record { including = x; add = xs 
     (λ a b ids others i. record { including = ids i; add = others i }) (λ x xs. refl) (λ x xs. refl)
 
 pub lawful : (m : Method) → IsLawful (row_of m).form
-lawful = by_method (λ m. IsLawful (row_of m).form) create_lawful update_lawful named_lawful included_lawful results_lawful exonerations_lawful named_lawful
-    single_lawful rows_lawful variants_lawful
+lawful = by_method (λ m. IsLawful (row_of m).form) create_lawful update_lawful named_lawful included_lawful results_lawful exonerations_lawful artifacts_lawful named_lawful
+    single_lawful rows_lawful variants_lawful artifact_lawful list_lawful
 
 -- A method is found by its names, and what is asked by it is a request of it, which says that.
 pub method_named : (m : Method) → method_of (service_of m) (name_of m) ≡ Some m
 unfolding method_of
-method_named = by_method (λ m. method_of (service_of m) (name_of m) ≡ Some m) refl refl refl refl refl refl refl refl refl refl
+method_named = by_method (λ m. method_of (service_of m) (name_of m) ≡ Some m) refl refl refl refl refl refl refl refl refl refl refl refl refl
 
 pub asked_of : (m : Method) (d : Data) (a : (row_of m).Said) → (row_of m).form.means d a → Means m d ((row_of m).asks a)
 asked_of = by_method (λ m. (d : Data) (a : (row_of m).Said) → (row_of m).form.means d a → Means m d ((row_of m).asks a))
     (λ d a is. (refl, is)) (λ d a is. (refl, is)) (λ d a is. (refl, is)) (λ d a is. (refl, is)) (λ d a is. (refl, is)) (λ d a is. (refl, is)) (λ d a is. (refl, is))
-    (λ d a is. (refl, is)) (λ d a is. (refl, is)) (λ d a is. (refl, is))
+    (λ d a is. (refl, is)) (λ d a is. (refl, is)) (λ d a is. (refl, is)) (λ d a is. (refl, is)) (λ d a is. (refl, is)) (λ d a is. (refl, is))
 
 -- What a value asks for, and which requests a body can ask for, is said by the method's row.
 pub said_means : (q : Request) (d : Data) → AsksFor d q → (row_of (method_asked q)).form.means d (said_in q)
 said_means = by_request (λ q. (d : Data) → AsksFor d q → (row_of (method_asked q)).form.means d (said_in q))
-    (λ q d h. h) (λ q d h. h) (λ q d h. h) (λ q d h. h) (λ q d h. h) (λ q d h. h) (λ q d h. h) (λ q d h. h) (λ q d h. h) (λ q d h. h)
+    (λ q d h. h) (λ q d h. h) (λ q d h. h) (λ q d h. h) (λ q d h. h) (λ q d h. h) (λ q d h. h) (λ q d h. h) (λ q d h. h) (λ q d h. h) (λ q d h. h) (λ q d h. h) (λ q d h. h)
 
 pub said_asked : (q : Request) → (row_of (method_asked q)).form.CanBeAsked (said_in q) → CanBeAsked q
 said_asked = by_request (λ q. (row_of (method_asked q)).form.CanBeAsked (said_in q) → CanBeAsked q)
-    (λ q h. h) (λ q h. h) (λ q h. h) (λ q h. h) (λ q h. h) (λ q h. h) (λ q h. h) (λ q h. h) (λ q h. h) (λ q h. h)
+    (λ q h. h) (λ q h. h) (λ q h. h) (λ q h. h) (λ q h. h) (λ q h. h) (λ q h. h) (λ q h. h) (λ q h. h) (λ q h. h) (λ q h. h) (λ q h. h) (λ q h. h)
 
 pub request_plain : (q : Request) → IsPlain 68 (request_data q)
 request_plain = by_request (λ q. IsPlain 68 (request_data q))
-    create_lawful.plain update_lawful.plain named_lawful.plain included_lawful.plain results_lawful.plain exonerations_lawful.plain named_lawful.plain
-    single_lawful.plain rows_lawful.plain variants_lawful.plain
+    create_lawful.plain update_lawful.plain named_lawful.plain included_lawful.plain results_lawful.plain exonerations_lawful.plain artifacts_lawful.plain named_lawful.plain
+    single_lawful.plain rows_lawful.plain variants_lawful.plain artifact_lawful.plain list_lawful.plain

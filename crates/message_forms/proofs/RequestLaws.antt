@@ -15,7 +15,7 @@ use Rattle.message_forms.proofs.MethodLaws.{lawful, asked_of, said_means, said_a
 
 -- a request is what it says, by its method's row
 rebuilt : (q : Request) → (row_of (method_asked q)).asks (said_in q) ≡ q
-rebuilt = by_request (λ q. (row_of (method_asked q)).asks (said_in q) ≡ q) (λ q. refl) (λ q. refl) (λ q. refl) (λ q. refl) (λ q. refl) (λ q. refl) (λ q. refl) (λ q. refl) (λ q. refl) (λ q. refl)
+rebuilt = by_request (λ q. (row_of (method_asked q)).asks (said_in q) ≡ q) (λ q. refl) (λ q. refl) (λ q. refl) (λ q. refl) (λ q. refl) (λ q. refl) (λ q. refl) (λ q. refl) (λ q. refl) (λ q. refl) (λ q. refl) (λ q. refl) (λ q. refl)
 
 -- what it says, by the row of a method that it is one of
 record SaysBy (m : Method) (q : Request) : Type 0 where

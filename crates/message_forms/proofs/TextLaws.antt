@@ -4,27 +4,22 @@ use Rattle.serde_json.specs.Data.{no_members}
 use Rattle.json_fields.proofs.PlainLaws.{IsPlain, no_members_plain, plain_object, plain-put_list}
 use Rattle.field_kinds.proofs.RequestLaws.{plain_within}
 use Rattle.invocation_forms.specs.Replies.{invocation_data}
+use Rattle.invocation_forms.specs.Shown.{InvocationShown}
 use Rattle.invocation_forms.proofs.TextLaws.{invocation_plain}
 use Rattle.result_forms.specs.Replies.{result_data, exoneration_data}
 use Rattle.result_forms.proofs.PlainLaws.{shown_results_plain, shown_exonerations_plain}
 use Rattle.message_forms.specs.Names as name
 use Rattle.message_forms.specs.Batches.{ResultsShown, ExonerationsShown, results_data, exonerations_data}
-use Rattle.message_forms.specs.Replies.{reply_data}
-use Rattle.message_forms.specs.declared.replies.Reply.{Reply}
-use Rattle.message_forms.specs.declared.replies.Reply.TheVariants.{Empty, Invocation, Results, Exonerations}
 
-results_plain : (s : ResultsShown) → IsPlain 67 (results_data s)
+pub results_plain : (s : ResultsShown) → IsPlain 67 (results_data s)
 results_plain s =
     plain_object 66 _ (plain-put_list 65 name.test_results (result_data s.invocation) s.rows no_members
     (λ r. let p = shown_results_plain s.invocation r in record { no_float = p.0; deep = p.1 }) (no_members_plain 66))
 
-exonerations_plain : (s : ExonerationsShown) → IsPlain 67 (exonerations_data s)
+pub exonerations_plain : (s : ExonerationsShown) → IsPlain 67 (exonerations_data s)
 exonerations_plain s =
     plain_object 66 _ (plain-put_list 65 name.test_exonerations (exoneration_data s.invocation) s.rows no_members
     (λ x. let p = shown_exonerations_plain s.invocation x in record { no_float = p.0; deep = p.1 }) (no_members_plain 66))
 
-pub reply_plain : (r : Reply) → IsPlain 67 (reply_data r)
-reply_plain Empty = plain_within 1 67 _ (omega arith) (plain_object 0 no_members (no_members_plain 0))
-reply_plain (Invocation s) = plain_within 3 67 (invocation_data s) (omega arith) (invocation_plain s)
-reply_plain (Results s) = results_plain s
-reply_plain (Exonerations s) = exonerations_plain s
+pub shown_plain : (s : InvocationShown) → IsPlain 67 (invocation_data s)
+shown_plain s = plain_within 3 67 (invocation_data s) (omega arith) (invocation_plain s)

@@ -12,7 +12,7 @@ use Rattle.invocation_forms.specs.Updates.{update_form}
 use Rattle.invocation_forms.specs.Included.{include_form}
 use Rattle.invocation_forms.specs.Named.{named_form}
 use Rattle.message_forms.specs.declared.requests.Method.{Method}
-use Rattle.message_forms.specs.declared.requests.Method.TheVariants.{CreateInvocation, UpdateInvocation, FinalizeInvocation, UpdateIncludedInvocations, BatchCreateTestResults, BatchCreateTestExonerations, GetInvocation, GetTestResult, QueryTestResults, QueryTestVariants}
+use Rattle.message_forms.specs.declared.requests.Method.TheVariants.{CreateInvocation, UpdateInvocation, FinalizeInvocation, UpdateIncludedInvocations, BatchCreateTestResults, BatchCreateTestExonerations, BatchCreateArtifacts, GetInvocation, GetTestResult, QueryTestResults, QueryTestVariants, GetArtifact, ListArtifacts}
 use Rattle.message_forms.specs.declared.requests.Request.{Request}
 use Rattle.message_forms.specs.declared.requests.Request.TheVariants as asks
 use Rattle.invocation_forms.specs.declared.create.CreateInvocation.{CreateInvocation as Create}
@@ -23,9 +23,13 @@ use Rattle.result_forms.specs.Methods.{results_form, exonerations_form}
 use Rattle.query_forms.specs.Single.{single_form}
 use Rattle.query_forms.specs.Results.{results_form as rows_form}
 use Rattle.query_forms.specs.Variants.{variants_form}
+use Rattle.artifact_forms.specs.Methods.{artifacts_form, artifact_form, list_form}
 use Rattle.query_forms.specs.declared.single.GetTestResult.{GetTestResult as Single}
 use Rattle.query_forms.specs.declared.results.QueryTestResults.{QueryTestResults as Rows}
 use Rattle.query_forms.specs.declared.variants.QueryTestVariants.{QueryTestVariants as Variants}
+use Rattle.artifact_forms.specs.declared.batches.BatchCreateArtifacts.{BatchCreateArtifacts as Files}
+use Rattle.artifact_forms.specs.declared.named.GetArtifact.{GetArtifact as File}
+use Rattle.artifact_forms.specs.declared.listed.ListArtifacts.{ListArtifacts as Page}
 use Rattle.result_forms.specs.declared.batches.BatchCreateTestResults.{BatchCreateTestResults as Results}
 use Rattle.result_forms.specs.declared.batches.BatchCreateTestExonerations.{BatchCreateTestExonerations as Exonerations}
 
@@ -64,11 +68,15 @@ row_of BatchCreateTestResults =
 row_of BatchCreateTestExonerations =
     recorder (codes "BatchCreateTestExonerations") exonerations_form
     asks.BatchCreateTestExonerations
+row_of BatchCreateArtifacts =
+    recorder (codes "BatchCreateArtifacts") artifacts_form asks.BatchCreateArtifacts
 row_of GetInvocation = reader (codes "GetInvocation") named_form asks.GetInvocation
 row_of GetTestResult = reader (codes "GetTestResult") single_form asks.GetTestResult
 row_of QueryTestResults = reader (codes "QueryTestResults") rows_form asks.QueryTestResults
 row_of QueryTestVariants =
     reader (codes "QueryTestVariants") variants_form asks.QueryTestVariants
+row_of GetArtifact = reader (codes "GetArtifact") artifact_form asks.GetArtifact
+row_of ListArtifacts = reader (codes "ListArtifacts") list_form asks.ListArtifacts
 
 -- every method
 abbrev pub every_method : List Method
@@ -79,10 +87,13 @@ every_method =
     ∷ UpdateIncludedInvocations
     ∷ BatchCreateTestResults
     ∷ BatchCreateTestExonerations
+    ∷ BatchCreateArtifacts
     ∷ GetInvocation
     ∷ GetTestResult
     ∷ QueryTestResults
     ∷ QueryTestVariants
+    ∷ GetArtifact
+    ∷ ListArtifacts
     ∷ []
 
 -- the method that a request is one of, and what the request says by the method's form
@@ -93,10 +104,13 @@ method_asked (asks.FinalizeInvocation q) = FinalizeInvocation
 method_asked (asks.UpdateIncludedInvocations q) = UpdateIncludedInvocations
 method_asked (asks.BatchCreateTestResults q) = BatchCreateTestResults
 method_asked (asks.BatchCreateTestExonerations q) = BatchCreateTestExonerations
+method_asked (asks.BatchCreateArtifacts q) = BatchCreateArtifacts
 method_asked (asks.GetInvocation q) = GetInvocation
 method_asked (asks.GetTestResult q) = GetTestResult
 method_asked (asks.QueryTestResults q) = QueryTestResults
 method_asked (asks.QueryTestVariants q) = QueryTestVariants
+method_asked (asks.GetArtifact q) = GetArtifact
+method_asked (asks.ListArtifacts q) = ListArtifacts
 
 abbrev pub said_in : (q : Request) → (row_of (method_asked q)).Said
 said_in (asks.CreateInvocation q) = q
@@ -105,68 +119,114 @@ said_in (asks.FinalizeInvocation q) = q
 said_in (asks.UpdateIncludedInvocations q) = q
 said_in (asks.BatchCreateTestResults q) = q
 said_in (asks.BatchCreateTestExonerations q) = q
+said_in (asks.BatchCreateArtifacts q) = q
 said_in (asks.GetInvocation q) = q
 said_in (asks.GetTestResult q) = q
 said_in (asks.QueryTestResults q) = q
 said_in (asks.QueryTestVariants q) = q
+said_in (asks.GetArtifact q) = q
+said_in (asks.ListArtifacts q) = q
 
 -- what holds of each method in turn holds of every one, and likewise of requests
 abbrev pub by_method : (P : Method → Type 0) → P CreateInvocation → P UpdateInvocation
     → P FinalizeInvocation → P UpdateIncludedInvocations → P BatchCreateTestResults
-    → P BatchCreateTestExonerations → P GetInvocation → P GetTestResult → P QueryTestResults
-    → P QueryTestVariants → (m : Method) → P m
-by_method P create update end include results exempt get one rows list CreateInvocation = create
-by_method P create update end include results exempt get one rows list UpdateInvocation = update
-by_method P create update end include results exempt get one rows list FinalizeInvocation = end
-by_method P create update end include results exempt get one rows list UpdateIncludedInvocations =
+    → P BatchCreateTestExonerations → P BatchCreateArtifacts → P GetInvocation → P GetTestResult
+    → P QueryTestResults → P QueryTestVariants → P GetArtifact → P ListArtifacts → (m : Method)
+    → P m
+by_method P create update end include results exempt files get one rows list file page
+    CreateInvocation =
+    create
+by_method P create update end include results exempt files get one rows list file page
+    UpdateInvocation =
+    update
+by_method P create update end include results exempt files get one rows list file page
+    FinalizeInvocation =
+    end
+by_method P create update end include results exempt files get one rows list file page
+    UpdateIncludedInvocations =
     include
-by_method P create update end include results exempt get one rows list BatchCreateTestResults =
+by_method P create update end include results exempt files get one rows list file page
+    BatchCreateTestResults =
     results
-by_method P create update end include results exempt get one rows list BatchCreateTestExonerations =
+by_method P create update end include results exempt files get one rows list file page
+    BatchCreateTestExonerations =
     exempt
-by_method P create update end include results exempt get one rows list GetInvocation = get
-by_method P create update end include results exempt get one rows list GetTestResult = one
-by_method P create update end include results exempt get one rows list QueryTestResults = rows
-by_method P create update end include results exempt get one rows list QueryTestVariants =
+by_method P create update end include results exempt files get one rows list file page
+    BatchCreateArtifacts =
+    files
+by_method P create update end include results exempt files get one rows list file page
+    GetInvocation =
+    get
+by_method P create update end include results exempt files get one rows list file page
+    GetTestResult =
+    one
+by_method P create update end include results exempt files get one rows list file page
+    QueryTestResults =
+    rows
+by_method P create update end include results exempt files get one rows list file page
+    QueryTestVariants =
     list
+by_method P create update end include results exempt files get one rows list file page
+    GetArtifact =
+    file
+by_method P create update end include results exempt files get one rows list file page
+    ListArtifacts =
+    page
 
-abbrev pub by_request : (P : Request → Type 0) → ((q : Create) → P (asks.CreateInvocation q))
+abbrev pub by_request : (P : Request → Type 0)
+    → ((q : Create) → P (asks.CreateInvocation q))
     → ((q : Update) → P (asks.UpdateInvocation q))
     → ((q : Named) → P (asks.FinalizeInvocation q))
     → ((q : Include) → P (asks.UpdateIncludedInvocations q))
     → ((q : Results) → P (asks.BatchCreateTestResults q))
     → ((q : Exonerations) → P (asks.BatchCreateTestExonerations q))
-    → ((q : Named) → P (asks.GetInvocation q)) → ((q : Single) → P (asks.GetTestResult q))
-    → ((q : Rows) → P (asks.QueryTestResults q)) → ((q : Variants) → P (asks.QueryTestVariants q))
+    → ((q : Files) → P (asks.BatchCreateArtifacts q))
+    → ((q : Named) → P (asks.GetInvocation q))
+    → ((q : Single) → P (asks.GetTestResult q))
+    → ((q : Rows) → P (asks.QueryTestResults q))
+    → ((q : Variants) → P (asks.QueryTestVariants q))
+    → ((q : File) → P (asks.GetArtifact q))
+    → ((q : Page) → P (asks.ListArtifacts q))
     → (q : Request) → P q
-by_request P make update end include results exempt get one rows list
+by_request P create update end include results exempt files get one rows list file page
     (asks.CreateInvocation q) =
-    make q
-by_request P make update end include results exempt get one rows list
+    create q
+by_request P create update end include results exempt files get one rows list file page
     (asks.UpdateInvocation q) =
     update q
-by_request P make update end include results exempt get one rows list
+by_request P create update end include results exempt files get one rows list file page
     (asks.FinalizeInvocation q) =
     end q
-by_request P make update end include results exempt get one rows list
+by_request P create update end include results exempt files get one rows list file page
     (asks.UpdateIncludedInvocations q) =
     include q
-by_request P make update end include results exempt get one rows list
+by_request P create update end include results exempt files get one rows list file page
     (asks.BatchCreateTestResults q) =
     results q
-by_request P make update end include results exempt get one rows list
+by_request P create update end include results exempt files get one rows list file page
     (asks.BatchCreateTestExonerations q) =
     exempt q
-by_request P make update end include results exempt get one rows list (asks.GetInvocation q) =
+by_request P create update end include results exempt files get one rows list file page
+    (asks.BatchCreateArtifacts q) =
+    files q
+by_request P create update end include results exempt files get one rows list file page
+    (asks.GetInvocation q) =
     get q
-by_request P make update end include results exempt get one rows list (asks.GetTestResult q) =
+by_request P create update end include results exempt files get one rows list file page
+    (asks.GetTestResult q) =
     one q
-by_request P make update end include results exempt get one rows list
+by_request P create update end include results exempt files get one rows list file page
     (asks.QueryTestResults q) =
     rows q
-by_request P make update end include results exempt get one rows list
+by_request P create update end include results exempt files get one rows list file page
     (asks.QueryTestVariants q) =
     list q
+by_request P create update end include results exempt files get one rows list file page
+    (asks.GetArtifact q) =
+    file q
+by_request P create update end include results exempt files get one rows list file page
+    (asks.ListArtifacts q) =
+    page q
 
 abbrev pub service_of : Method → List ℕ
 service_of m = (row_of m).service
@@ -193,10 +253,13 @@ AsksFor d (asks.FinalizeInvocation q) = named_form.means d q
 AsksFor d (asks.UpdateIncludedInvocations q) = included_form.means d q
 AsksFor d (asks.BatchCreateTestResults q) = results_form.means d q
 AsksFor d (asks.BatchCreateTestExonerations q) = exonerations_form.means d q
+AsksFor d (asks.BatchCreateArtifacts q) = artifacts_form.means d q
 AsksFor d (asks.GetInvocation q) = named_form.means d q
 AsksFor d (asks.GetTestResult q) = single_form.means d q
 AsksFor d (asks.QueryTestResults q) = rows_form.means d q
 AsksFor d (asks.QueryTestVariants q) = variants_form.means d q
+AsksFor d (asks.GetArtifact q) = artifact_form.means d q
+AsksFor d (asks.ListArtifacts q) = list_form.means d q
 
 -- what a value without a fault asks for: a request of this method, as its fields say
 abbrev pub Means : Method → Data → Request → Type 0
@@ -210,10 +273,13 @@ request_data (asks.FinalizeInvocation q) = named_form.json q
 request_data (asks.UpdateIncludedInvocations q) = included_form.json q
 request_data (asks.BatchCreateTestResults q) = results_form.json q
 request_data (asks.BatchCreateTestExonerations q) = exonerations_form.json q
+request_data (asks.BatchCreateArtifacts q) = artifacts_form.json q
 request_data (asks.GetInvocation q) = named_form.json q
 request_data (asks.GetTestResult q) = single_form.json q
 request_data (asks.QueryTestResults q) = rows_form.json q
 request_data (asks.QueryTestVariants q) = variants_form.json q
+request_data (asks.GetArtifact q) = artifact_form.json q
+request_data (asks.ListArtifacts q) = list_form.json q
 
 -- a request that some body can ask for
 abbrev pub CanBeAsked : Request → Type 0
@@ -223,10 +289,13 @@ CanBeAsked (asks.FinalizeInvocation q) = named_form.CanBeAsked q
 CanBeAsked (asks.UpdateIncludedInvocations q) = included_form.CanBeAsked q
 CanBeAsked (asks.BatchCreateTestResults q) = results_form.CanBeAsked q
 CanBeAsked (asks.BatchCreateTestExonerations q) = exonerations_form.CanBeAsked q
+CanBeAsked (asks.BatchCreateArtifacts q) = artifacts_form.CanBeAsked q
 CanBeAsked (asks.GetInvocation q) = named_form.CanBeAsked q
 CanBeAsked (asks.GetTestResult q) = single_form.CanBeAsked q
 CanBeAsked (asks.QueryTestResults q) = rows_form.CanBeAsked q
 CanBeAsked (asks.QueryTestVariants q) = variants_form.CanBeAsked q
+CanBeAsked (asks.GetArtifact q) = artifact_form.CanBeAsked q
+CanBeAsked (asks.ListArtifacts q) = list_form.CanBeAsked q
 
 -- What is written of the request is read by its method without a fault, as this request.
 abbrev pub IsReadAgain : Data → Request → Type 0

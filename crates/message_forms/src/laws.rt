@@ -1,6 +1,7 @@
 //! Laws of the definitions that the contracts cite. These functions do nothing: what each of them
 //! ensures is the law.
-ghost use Rattle.message_forms.specs.Laws.{OneRequestAsked, OneFault, NeverBoth, AsksOrHasFault, FaultIsRefused, AskedIsOfForm, AskedCanBeWritten, UpdateChangesSomething};
+ghost use Rattle.message_forms.specs.Laws.{OneRequestAsked, OneFault, NeverBoth, AsksOrHasFault, FaultIsRefused};
+ghost use Rattle.message_forms.specs.Laws.{AskedIsOfForm, AskedCanBeWritten, UpdateChangesSomething};
 
 /// One body asks for one request.
 pub fn one_request_asked()

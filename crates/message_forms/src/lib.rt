@@ -10,6 +10,8 @@ mod refusals;
 mod replies;
 mod requests;
 
+pub use artifact_forms::{BatchCreateArtifacts, GetArtifact, ListArtifacts};
+pub use artifact_replies::ShownArtifacts;
 pub use batches::{ShownExonerations, ShownResults};
 pub use call_forms::{Answer, Asked, Refusal, Standin, Told, write_refusal};
 pub use invocation_forms::{
@@ -19,7 +21,7 @@ pub use invocation_forms::{
 pub use json_fields::{FaultKind, FieldFault, Step, Tag, Why, pairs_from};
 pub use reading::{FormFault, read_request};
 pub use refusals::refusal_of;
-pub use replies::{Reply, write_reply};
+pub use replies::{Reply, ShownArtifact, write_reply};
 pub use requests::{Method, Request, write_request};
 pub use result_forms::{BatchCreateTestExonerations, BatchCreateTestResults};
 pub use text_kinds::{LimitedText, RequestId};

@@ -1,13 +1,31 @@
 //! Replies and their texts.
-ghost use Rattle.std.specs.Prelude.{◌≡◌, IfOk};
+ghost use Rattle.std.specs.Prelude.{◌≡◌, ◌++◌, false, IfOk};
 ghost use Rattle.serde_json.specs.View.{view};
-ghost use Rattle.message_forms.specs.Replies.{reply_data, reply_text};
+ghost use Rattle.serde_json.specs.Written.{compact_text, has_float};
+ghost use Rattle.message_forms.specs.Replies.{reply_prefix, reply_text};
 
 use crate::batches::{ShownExonerations, ShownResults, exonerations_value, results_value};
+use artifact_replies::{ShownArtifacts, append_artifact, append_artifacts};
+use artifacts::Artifact;
 use invocation_forms::{ShownInvocation, invocation_value};
 use lists::Bytes;
 use serde_json::{Map, Value};
 use std::alloc::{AllocError, Global};
+use std::marker::Model;
+
+/// An artifact whole. Contracts see the artifact.
+#[derive(Drop)]
+pub struct ShownArtifact<'r> {
+    pub row: &'r Artifact,
+}
+
+impl<'r> Model for ShownArtifact<'r> {
+    ghost use Rattle.artifacts.specs.declared.artifact.Artifact.{Artifact};
+
+    ghost Value = { Artifact };
+
+    ghost view = { λ s. s.row.now };
+}
 
 /// A reply: what it shows.
 #[derive(Drop)]
@@ -20,18 +38,42 @@ pub enum Reply<'r, 'i> {
     Results(ShownResults<'r>),
     /// The exonerations of a batch.
     Exonerations(ShownExonerations<'r>),
+    /// The artifacts of a batch or of a page, each as a line.
+    Artifacts(ShownArtifacts<'r>),
+    /// An artifact, with its contents.
+    Artifact(ShownArtifact<'r>),
 }
 
-/// The JSON object of a reply.
-fn reply_value(alloc: Global, reply: &Reply) -> Result<Value, AllocError>
-    ensures { IfOk result (λ v. view v ≡ reply_data reply.now) }
+/// The text of a reply that shows a value.
+fn write_value(alloc: Global, value: &Value) -> Result<Bytes, AllocError>
+    requires { has_float (view value.now) ≡ false }
+    ensures { IfOk result (λ text. text ≡ reply_prefix ++ compact_text (view value.now)) }
 {
-    match reply {
-        Reply::Empty => Ok(Value::Object(Map::new(alloc))),
-        Reply::Invocation(shown) => invocation_value(alloc, shown),
-        Reply::Results(shown) => results_value(alloc, shown),
-        Reply::Exonerations(shown) => exonerations_value(alloc, shown),
-    }
+    let text = value.to_vec(alloc)?;
+    let mut out = Vec::with_capacity(alloc, text.len().saturating_add(5))?;
+    out.extend_from_slice(b")]}'\n")?;
+    out.extend_from_slice(text.as_slice())?;
+    Ok(Bytes::new(out))
+}
+
+/// The text of a reply that shows artifacts, each as a line.
+fn write_artifacts(alloc: Global, shown: &ShownArtifacts) -> Result<Bytes, AllocError>
+    ensures { IfOk result (λ text. text ≡ reply_text (Reply.Artifacts shown.now)) }
+{
+    let mut out = String::new(alloc);
+    out.push_str(")]}'\n")?;
+    append_artifacts(alloc, &mut out, shown)?;
+    Ok(Bytes::new(out.into_bytes()))
+}
+
+/// The text of a reply that shows an artifact. Its contents are encoded straight into it.
+fn write_artifact(alloc: Global, row: &Artifact) -> Result<Bytes, AllocError>
+    ensures { IfOk result (λ text. text ≡ reply_text (Reply.Artifact row.now)) }
+{
+    let mut out = String::new(alloc);
+    out.push_str(")]}'\n")?;
+    append_artifact(alloc, &mut out, row)?;
+    Ok(Bytes::new(out.into_bytes()))
 }
 
 /// The text of a reply: the prefix and compact JSON. A creator and texts of tags that aren't UTF-8,
@@ -39,10 +81,12 @@ fn reply_value(alloc: Global, reply: &Reply) -> Result<Value, AllocError>
 pub fn write_reply(alloc: Global, reply: &Reply) -> Result<Bytes, AllocError>
     ensures { IfOk result (λ text. text ≡ reply_text reply.now) }
 {
-    let value = reply_value(alloc, reply)?;
-    let text = value.to_vec(alloc)?;
-    let mut out = Vec::with_capacity(alloc, text.len().saturating_add(5))?;
-    out.extend_from_slice(b")]}'\n")?;
-    out.extend_from_slice(text.as_slice())?;
-    Ok(Bytes::new(out))
+    match reply {
+        Reply::Empty => write_value(alloc, &Value::Object(Map::new(alloc))),
+        Reply::Invocation(shown) => write_value(alloc, &invocation_value(alloc, shown)?),
+        Reply::Results(shown) => write_value(alloc, &results_value(alloc, shown)?),
+        Reply::Exonerations(shown) => write_value(alloc, &exonerations_value(alloc, shown)?),
+        Reply::Artifacts(shown) => write_artifacts(alloc, shown),
+        Reply::Artifact(shown) => write_artifact(alloc, shown.row),
+    }
 }

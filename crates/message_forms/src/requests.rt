@@ -6,8 +6,10 @@ ghost use Rattle.serde_json.specs.View.{view};
 ghost use Rattle.serde_json.specs.Written.{compact_text};
 ghost use Rattle.json_fields.specs.Faults.{Says};
 ghost use Rattle.message_forms.specs.Reading.{Asks};
-ghost use Rattle.message_forms.specs.Methods.{is_called, method_of, service_of, name_of, request_fault, method_asked, request_data, Means, CanBeAsked, IsReadAgain};
+ghost use Rattle.message_forms.specs.Methods.{is_called, method_of, service_of, name_of, request_fault, method_asked};
+ghost use Rattle.message_forms.specs.Methods.{request_data, Means, CanBeAsked, IsReadAgain};
 
+use artifact_forms::{BatchCreateArtifacts, GetArtifact, ListArtifacts};
 use invocation_forms::{
     CreateInvocation, NamedInvocation, UpdateIncludedInvocations, UpdateInvocation,
 };
@@ -33,6 +35,8 @@ pub enum Method {
     BatchCreateTestResults,
     /// `luci.resultdb.v1.Recorder.BatchCreateTestExonerations`.
     BatchCreateTestExonerations,
+    /// `luci.resultdb.v1.Recorder.BatchCreateArtifacts`.
+    BatchCreateArtifacts,
     /// `luci.resultdb.v1.ResultDB.GetInvocation`.
     GetInvocation,
     /// `luci.resultdb.v1.ResultDB.GetTestResult`.
@@ -41,6 +45,10 @@ pub enum Method {
     QueryTestResults,
     /// `luci.resultdb.v1.ResultDB.QueryTestVariants`.
     QueryTestVariants,
+    /// `luci.resultdb.v1.ResultDB.GetArtifact`.
+    GetArtifact,
+    /// `luci.resultdb.v1.ResultDB.ListArtifacts`.
+    ListArtifacts,
 }
 
 /// What a request asks for.
@@ -58,6 +66,8 @@ pub enum Request {
     BatchCreateTestResults(BatchCreateTestResults),
     /// That exonerations be added to an invocation.
     BatchCreateTestExonerations(BatchCreateTestExonerations),
+    /// That artifacts be added to an invocation.
+    BatchCreateArtifacts(BatchCreateArtifacts),
     /// What an invocation is.
     GetInvocation(NamedInvocation),
     /// What a test result is.
@@ -66,20 +76,27 @@ pub enum Request {
     QueryTestResults(QueryTestResults),
     /// A page of the verdicts of these.
     QueryTestVariants(QueryTestVariants),
+    /// What an artifact is.
+    GetArtifact(GetArtifact),
+    /// A page of the artifacts of a parent.
+    ListArtifacts(ListArtifacts),
 }
 
 /// Every method.
-const EVERY: [Method; 10] = [
+const EVERY: [Method; 13] = [
     Method::CreateInvocation,
     Method::UpdateInvocation,
     Method::FinalizeInvocation,
     Method::UpdateIncludedInvocations,
     Method::BatchCreateTestResults,
     Method::BatchCreateTestExonerations,
+    Method::BatchCreateArtifacts,
     Method::GetInvocation,
     Method::GetTestResult,
     Method::QueryTestResults,
     Method::QueryTestVariants,
+    Method::GetArtifact,
+    Method::ListArtifacts,
 ];
 
 /// The services, as pRPC names them.
@@ -119,10 +136,13 @@ impl Method {
             Method::UpdateIncludedInvocations => (RECORDER, "UpdateIncludedInvocations"),
             Method::BatchCreateTestResults => (RECORDER, "BatchCreateTestResults"),
             Method::BatchCreateTestExonerations => (RECORDER, "BatchCreateTestExonerations"),
+            Method::BatchCreateArtifacts => (RECORDER, "BatchCreateArtifacts"),
             Method::GetInvocation => (READER, "GetInvocation"),
             Method::GetTestResult => (READER, "GetTestResult"),
             Method::QueryTestResults => (READER, "QueryTestResults"),
             Method::QueryTestVariants => (READER, "QueryTestVariants"),
+            Method::GetArtifact => (READER, "GetArtifact"),
+            Method::ListArtifacts => (READER, "ListArtifacts"),
         }
     }
 
@@ -169,6 +189,9 @@ impl Method {
                     alloc, value,
                 )?))
             }
+            Method::BatchCreateArtifacts => {
+                Ok(Request::BatchCreateArtifacts(BatchCreateArtifacts::read(alloc, value)?))
+            }
             Method::GetInvocation => {
                 Ok(Request::GetInvocation(NamedInvocation::read(alloc, value)?))
             }
@@ -179,6 +202,8 @@ impl Method {
             Method::QueryTestVariants => {
                 Ok(Request::QueryTestVariants(QueryTestVariants::read(alloc, value)?))
             }
+            Method::GetArtifact => Ok(Request::GetArtifact(GetArtifact::read(alloc, value)?)),
+            Method::ListArtifacts => Ok(Request::ListArtifacts(ListArtifacts::read(alloc, value)?)),
         }
     }
 }
@@ -195,10 +220,13 @@ impl Request {
             Request::UpdateIncludedInvocations(_) => Method::UpdateIncludedInvocations,
             Request::BatchCreateTestResults(_) => Method::BatchCreateTestResults,
             Request::BatchCreateTestExonerations(_) => Method::BatchCreateTestExonerations,
+            Request::BatchCreateArtifacts(_) => Method::BatchCreateArtifacts,
             Request::GetInvocation(_) => Method::GetInvocation,
             Request::GetTestResult(_) => Method::GetTestResult,
             Request::QueryTestResults(_) => Method::QueryTestResults,
             Request::QueryTestVariants(_) => Method::QueryTestVariants,
+            Request::GetArtifact(_) => Method::GetArtifact,
+            Request::ListArtifacts(_) => Method::ListArtifacts,
         }
     }
 
@@ -215,10 +243,13 @@ impl Request {
             Request::UpdateIncludedInvocations(request) => request.write(alloc),
             Request::BatchCreateTestResults(request) => request.write(alloc),
             Request::BatchCreateTestExonerations(request) => request.write(alloc),
+            Request::BatchCreateArtifacts(request) => request.write(alloc),
             Request::GetInvocation(request) => request.write(alloc),
             Request::GetTestResult(request) => request.write(alloc),
             Request::QueryTestResults(request) => request.write(alloc),
             Request::QueryTestVariants(request) => request.write(alloc),
+            Request::GetArtifact(request) => request.write(alloc),
+            Request::ListArtifacts(request) => request.write(alloc),
         }
     }
 }

@@ -1,6 +1,7 @@
 //! The names of the members of queries.
 ghost use Rattle.std.specs.Prelude.{◌≡◌};
-ghost use Rattle.query_forms.specs.Names.{name, invocations, result_limit, page_size, page_token, predicate, read_mask, order_by};
+ghost use Rattle.query_forms.specs.Names.{name, invocations, result_limit, page_size, page_token, predicate, read_mask};
+ghost use Rattle.query_forms.specs.Names.{order_by};
 
 use json_fields::Name;
 

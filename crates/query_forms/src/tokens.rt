@@ -9,7 +9,8 @@ ghost use Rattle.json_fields.specs.Kinds.{empty_text};
 ghost use Rattle.json_fields.specs.Writing.{IsWritten, put_optional};
 ghost use Rattle.page_tokens.specs.Tokens.{token_fault};
 ghost use Rattle.query_forms.specs.Names.{page_token};
-ghost use Rattle.query_forms.specs.Tokens.{cursors, a_token, token_refused, IsTokenOf, IsCursor, a_page_token, IsPageToken, token_text};
+ghost use Rattle.query_forms.specs.Tokens.{cursors, a_token, token_refused, IsTokenOf, IsCursor, a_page_token};
+ghost use Rattle.query_forms.specs.Tokens.{IsPageToken, token_text};
 
 use crate::cursors::PageCursor;
 use crate::named::query_in;

@@ -1,6 +1,8 @@
 //! Laws of the definitions that the contracts cite. These functions do nothing: what each of them
 //! ensures is the law.
-ghost use Rattle.query_pages.specs.Laws.{HasResultPage, HasShownResult, HasVerdictPage, OneResultPage, OneShownResult, OneVerdictPage, PagesShowResults, PagesShowVerdicts, ResultPagesUnseen, ResultsUnseen, VerdictPagesUnseen};
+ghost use Rattle.query_pages.specs.Laws.{HasResultPage, HasShownResult, HasVerdictPage, OneResultPage, OneShownResult};
+ghost use Rattle.query_pages.specs.Laws.{OneVerdictPage, PagesShowResults, PagesShowVerdicts, ResultPagesUnseen};
+ghost use Rattle.query_pages.specs.Laws.{ResultsUnseen, VerdictPagesUnseen};
 
 /// A caller sees one page of a query at most, and one result at a place.
 pub fn one_page()

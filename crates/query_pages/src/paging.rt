@@ -1,6 +1,7 @@
 //! Pages of what a caller may see.
 ghost use Rattle.std.specs.Prelude.{◌≡◌, ◌<◌, IfOk, length, option_map};
-ghost use Rattle.query_pages.specs.Pages.{IsResultPage, IsVerdictPage, ResultsGoOn, VerdictsGoOn, after_result, after_verdict};
+ghost use Rattle.query_pages.specs.Pages.{IsResultPage, IsVerdictPage, ResultsGoOn, VerdictsGoOn, after_result};
+ghost use Rattle.query_pages.specs.Pages.{after_verdict};
 ghost use Rattle.query_pages.specs.Seen.{seen_rows, seen_verdicts};
 ghost use Rattle.verdict_lists.specs.World.{AreRoots, IsWhole, world_of};
 ghost use Rattle.verdict_pages.specs.Keys.{place_seen, result_seen};

@@ -1,12 +1,14 @@
 //! The tokens of pages.
-ghost use Rattle.std.specs.Prelude.{◌≡◌, ◌<◌, ℕ, true, All, IfOk, List, Option, Some, None, if◌then◌else◌, length, map, option_map};
+ghost use Rattle.std.specs.Prelude.{◌≡◌, ◌<◌, ℕ, true, All, IfOk, List, Option, Some, None, if◌then◌else◌, length, map};
+ghost use Rattle.std.specs.Prelude.{option_map};
 ghost use Rattle.page_tokens.specs.Keys.{AreContents};
 ghost use Rattle.query_pages.specs.Inside.{HasVerdict};
 ghost use Rattle.query_pages.specs.Shown.{HasResult};
 ghost use Rattle.page_tokens.specs.Tokens.{IsToken};
 ghost use Rattle.query_pages.specs.Tokens.{IsReadAs, IsResultReadAs, result_token, token_text, verdict_token};
 ghost use Rattle.verdict_lists.specs.World.{world_of};
-ghost use Rattle.verdict_pages.specs.Keys.{ResultPlace, VerdictPlace, by_result, by_verdict, result_place, verdict_place};
+ghost use Rattle.verdict_pages.specs.Keys.{ResultPlace, VerdictPlace, by_result, by_verdict, result_place};
+ghost use Rattle.verdict_pages.specs.Keys.{verdict_place};
 ghost use Rattle.verdict_pages.specs.Pages.{last_key};
 
 use lists::Bytes;

@@ -1,6 +1,7 @@
 //! The names of the members of replies to queries.
 ghost use Rattle.std.specs.Prelude.{◌≡◌};
-ghost use Rattle.query_replies.specs.Names.{is_masked, test_results, test_variants, next_page_token, results, outcome, exonerations};
+ghost use Rattle.query_replies.specs.Names.{is_masked, test_results, test_variants, next_page_token, results, outcome};
+ghost use Rattle.query_replies.specs.Names.{exonerations};
 
 use json_fields::Name;
 

@@ -1,5 +1,6 @@
 //! JSON that is written straight behind bytes, member by member and row by row.
-ghost use Rattle.std.specs.Prelude.{◌≡◌, ◌++◌, [], false, IfOk, IfSome, OnOk, is_some, map, option_and_then, option_map};
+ghost use Rattle.std.specs.Prelude.{◌≡◌, ◌++◌, [], false, IfOk, IfSome, OnOk, is_some, map, option_and_then};
+ghost use Rattle.std.specs.Prelude.{option_map};
 ghost use Rattle.serde_json.specs.View.{view, items_of};
 ghost use Rattle.serde_json.specs.Written.{comma_if, compact_text, has_float, items_text};
 ghost use Rattle.result_forms.specs.Shown.{text_shown};

@@ -15,7 +15,7 @@ use Rattle.call_forms.specs.declared.forms.Told.{Told}
 use Rattle.call_forms.specs.declared.forms.Told.TheVariants.{Made, Standin as Instead}
 use Rattle.invocation_world.specs.Advancing.{IsDueAt, IsQuiet}
 use Rattle.invocation_world.specs.World.{IsCallMoment}
-use Rattle.request_rules.specs.Settings.{Settings}
+use Rattle.request_demands.specs.Settings.{Settings}
 use Rattle.service_effects.specs.Service.{ServiceWorld, empty_service}
 use Rattle.service_core.specs.CoreState.{CoreState, PlanState, world_in}
 use Rattle.service_core.specs.History.{Entry, Leads, TakesRecord, Tells, entry_at}
@@ -138,6 +138,7 @@ quiet_caught w moment quiet = record {
     rows = record { deadlines = []; rows = w.rows.invocations; carried = (quiet, refl); after_is = refl };
     results = refl;
     exonerations = refl;
+    artifacts = refl;
   };
   kept = refl;
 }

@@ -13,7 +13,7 @@ use Rattle.call_forms.specs.declared.asked.Asked.{Asked}
 use Rattle.call_forms.specs.declared.forms.Standin.TheVariants.{Unavailable}
 use Rattle.call_forms.specs.declared.forms.Told.{Told}
 use Rattle.call_forms.specs.declared.forms.Told.TheVariants.{Standin as Instead}
-use Rattle.request_rules.specs.Settings.{Settings}
+use Rattle.request_demands.specs.Settings.{Settings}
 use Rattle.service_effects.specs.Service.{ServiceWorld, empty_service}
 use Rattle.service_core.specs.History.{Entry, IsLegal, Leads, Serves, entry_at}
 use Rattle.service_core.specs.Service.{Service}

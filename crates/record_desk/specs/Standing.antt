@@ -12,7 +12,7 @@ use Rattle.call_forms.specs.declared.forms.Answer.{Answer}
 use Rattle.call_forms.specs.declared.forms.Standin.TheVariants.{Unavailable}
 use Rattle.call_forms.specs.declared.forms.Told.TheVariants.{Standin as Instead}
 use Rattle.invocation_world.specs.Advancing.{IsDueAt}
-use Rattle.request_rules.specs.Settings.{Settings}
+use Rattle.request_demands.specs.Settings.{Settings}
 use Rattle.service_effects.specs.Service.{ServiceWorld, empty_service}
 use Rattle.service_core.specs.History.{Entry, IsLegal, IsTimed, Leads}
 use Rattle.service_core.specs.Service.{CatchesUp, Service}

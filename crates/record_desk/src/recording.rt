@@ -3,7 +3,7 @@ ghost use Rattle.std.specs.Prelude.{◌≡◌, ◌≢◌, ◌⊎◌, ℕ, ◌≤
 ghost use Rattle.call_forms.specs.declared.forms.Answer.{Answer as AnswerOf};
 ghost use Rattle.invocation_world.specs.Advancing.{IsDueAt};
 ghost use Rattle.invocation_world.specs.World.{IsCallMoment};
-ghost use Rattle.request_rules.specs.Understood.{IsUnderstood};
+ghost use Rattle.request_demands.specs.Understood.{IsUnderstood};
 ghost use Rattle.result_journal.specs.Journals.{disk_of};
 ghost use Rattle.service_effects.specs.Fitting.{IsTimely};
 ghost use Rattle.service_core.specs.CoreState.{world_in};
@@ -23,7 +23,7 @@ use disks::Disk;
 use journal_book::{Book, RecordFault};
 use names_realms::Moment;
 use permissions::Policy;
-use request_rules::Understood;
+use request_demands::Understood;
 use service_core::{Plan, Prepared};
 use service_machine::{RecordedPlan, ServiceMachine, Wanted};
 use std::alloc::{AllocError, Global};

@@ -1,8 +1,11 @@
 //! Commands, read from their bytes. Nothing is copied.
-ghost use Rattle.std.specs.Prelude.{◌≡◌, ◌≢◌, ℕ, ℤ, ◌^◌, ◌<◌, [], ◌++◌, ◌∷◌, List, true, length, IfSome, IfNone, MatchOption};
+ghost use Rattle.std.specs.Prelude.{◌≡◌, ◌≢◌, ℕ, ℤ, ◌^◌, ◌<◌, [], ◌++◌, ◌∷◌, List, true, length, IfSome, IfNone};
+ghost use Rattle.std.specs.Prelude.{MatchOption};
 ghost use Rattle.std.specs.Int.{w16, w32, w64, to_le_bytes};
 ghost use Rattle.policy_checks.specs.Checks.{is_name};
-ghost use Rattle.recorded_calls.specs.Commands.{CallSaid, IsCallMoment, IsCallSayable, IsCommand, IsSayable, Said, body_bytes, call_said, kind_byte, moment_bytes, name_bytes, said_by, ticked};
+ghost use Rattle.recorded_calls.specs.Commands.{CallSaid, IsCallMoment, IsCallSayable, IsCommand, IsSayable, Said};
+ghost use Rattle.recorded_calls.specs.Commands.{body_bytes, call_said, kind_byte, moment_bytes, name_bytes, said_by};
+ghost use Rattle.recorded_calls.specs.Commands.{ticked};
 
 use crate::command::{CallKind, Command, RecordedCall};
 use crate::writing::has_name_form;

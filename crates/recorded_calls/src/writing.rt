@@ -2,7 +2,9 @@
 ghost use Rattle.std.specs.Prelude.{◌≡◌, ◌^◌, ◌<◌, ◌++◌, ◌∷◌, ◌≤◌, IfOk, OnOk, length};
 ghost use Rattle.std.specs.List.{list_all};
 ghost use Rattle.policy_checks.specs.Checks.{is_name, may_follow_in_name};
-ghost use Rattle.recorded_calls.specs.Commands.{IsCallMoment, IsCallSayable, IsCommand, IsSayable, body_bytes, call_said, called, command_bytes, moment_bytes, name_bytes, said_by, ticked};
+ghost use Rattle.recorded_calls.specs.Commands.{IsCallMoment, IsCallSayable, IsCommand, IsSayable, body_bytes};
+ghost use Rattle.recorded_calls.specs.Commands.{call_said, called, command_bytes, moment_bytes, name_bytes, said_by};
+ghost use Rattle.recorded_calls.specs.Commands.{ticked};
 
 use crate::command::{Command, RecordedCall};
 use lists::Bytes;

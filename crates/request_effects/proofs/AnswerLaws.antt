@@ -2,6 +2,9 @@
 use Rattle.std.proofs.Common.{◌≡◌, ℕ, ℤ, Option, Some, None, Result, refl, sym, ap, ◌∙◌, subst}
 use Rattle.std.specs.Prelude.{IfOk, slice_get}
 use Rattle.std.specs.declared.alloc.AllocError.{AllocError}
+use Rattle.artifact_pages.proofs.PageLaws.{a_page_is_there, one_page}
+use Rattle.artifact_replies.specs.Replies.{ArtifactsShown}
+use Rattle.message_forms.specs.declared.replies.Reply.TheVariants as reply
 use Rattle.test_results.specs.declared.result.TestResult.{TestResult}
 use Rattle.call_forms.specs.declared.forms.Answer.{Answer}
 use Rattle.query_pages.specs.Seen.{SeenHeld, SeenRows, SeenVerdicts}
@@ -15,12 +18,12 @@ use Rattle.service_effects.specs.Effects.{Makes}
 use Rattle.service_effects.specs.Fitting.{IsTimely}
 use Rattle.service_effects.specs.Service.{Recorded}
 use Rattle.service_effects.proofs.EffectLaws.{all_stays_same}
-use Rattle.request_rules.specs.Settings.{Settings}
+use Rattle.request_demands.specs.Settings.{Settings}
 use Rattle.request_effects.specs.declared.shows.Showing.{Showing}
-use Rattle.request_effects.specs.declared.shows.Showing.TheVariants.{Alike, Result as OneResult, Results, Verdicts}
+use Rattle.request_effects.specs.declared.shows.Showing.TheVariants.{Alike, Result as OneResult, Results, Verdicts, Artifact as OneArtifact, Artifacts}
 use Rattle.request_effects.specs.declared.shows.Shows.TheVariants as shows
-use Rattle.request_effects.specs.Answers.{Answers, ShowsResult, done_with, listed_in}
-use Rattle.request_effects.specs.Shows.{Scene, answer_of}
+use Rattle.request_effects.specs.Answers.{Answers, ShowsResult, artifact_answer, done_with, listed_in}
+use Rattle.request_effects.specs.Shows.{Scene, answer_of, done}
 
 -- ---- one answer
 
@@ -40,6 +43,10 @@ one_answer s caller (Results query) a b this that =
 one_answer s caller (Verdicts query) a b this that =
     this.2 ∙ (ap (λ (p : SeenVerdicts). done_with (reply_of (verdicts_page p)))
     (one_verdict_page_is (listed_in s.world) s.settings.policy caller query this.0 that.0 this.1 that.1) ∙ sym that.2)
+one_answer s caller (OneArtifact place) a b this that = this ∙ sym that
+one_answer s caller (Artifacts query) a b this that =
+    this.2 ∙ (ap (λ (p : ArtifactsShown). done None (reply.Artifacts p))
+    (one_page s.world.artifacts query this.0 that.0 this.1 that.1) ∙ sym that.2)
 
 -- ---- there is one
 
@@ -59,6 +66,10 @@ answer_there s caller (Results query) =
 answer_there s caller (Verdicts query) =
     let page = has_verdict_page_is (listed_in s.world) s.settings.policy caller query in
     (done_with (reply_of (verdicts_page page.0)), (page.0, page.1, refl))
+answer_there s caller (OneArtifact place) = (artifact_answer s (slice_get s.world.artifacts place), refl)
+answer_there s caller (Artifacts query) =
+    let page = a_page_is_there s.world.artifacts query in
+    (done None (reply.Artifacts page.0), (page.0, page.1, refl))
 
 -- ---- what is read
 

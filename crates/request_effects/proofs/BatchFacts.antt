@@ -4,6 +4,8 @@ use Rattle.std.specs.Prelude.{All, slice_get}
 use Rattle.std.proofs.lemmas.List.{drop-append-le, drop_at, length-drop, take-append-le, take_all}
 use Rattle.std.proofs.lemmas.List.Elements.{All-head}
 use Rattle.std.proofs.lemmas.Option.{none-some}
+use Rattle.artifacts.specs.declared.artifact.Artifact.{Artifact}
+use Rattle.artifacts.specs.Requests.{DigestedState}
 use Rattle.invocations.specs.declared.invocation.Invocation.{Invocation}
 use Rattle.invocations.specs.Rows.{ids_of}
 use Rattle.test_results.specs.declared.exoneration.TestExoneration.{TestExoneration}
@@ -12,15 +14,15 @@ use Rattle.invocation_world.specs.World.{World}
 use Rattle.invocation_world.specs.Changes.{with_moment}
 use Rattle.invocation_world.proofs.RowFacts.{stands}
 use Rattle.service_effects.proofs.IdFacts.{id_at}
-use Rattle.request_rules.specs.Settings.{Settings}
+use Rattle.request_demands.specs.Settings.{Settings}
 use Rattle.service_effects.specs.declared.effect.Effect.{Effect}
 use Rattle.service_effects.specs.declared.effect.Effect.TheVariants as does
 use Rattle.request_effects.specs.declared.shows.Shows.TheVariants as shows
 use Rattle.service_effects.specs.Service.{Recorded}
-use Rattle.service_effects.specs.Effects.{Does, Makes, exonerations_after, results_after}
+use Rattle.service_effects.specs.Effects.{Does, Makes, artifacts_after, exonerations_after, results_after}
 use Rattle.service_effects.specs.Fitting.{IsTimely}
 use Rattle.request_effects.specs.Foreseen.{AreAdded}
-use Rattle.request_effects.specs.Shows.{answer_of, done, exonerations_reply, exonerations_shown, part_of, results_reply, results_shown}
+use Rattle.request_effects.specs.Shows.{answer_of, artifacts_reply, done, exonerations_reply, exonerations_shown, part_of, results_reply, results_shown}
 use Rattle.service_effects.proofs.EffectLaws.{after_is, noted_valid}
 
 -- ---- what is shown
@@ -58,6 +60,13 @@ exonerations_so s w after moment effect batch first count timely is at makes =
     ap (done None)
     (ap (λ (held : List Invocation). exonerations_reply held batch) (sym (rows_as moment w.rows after.rows timely acts))
     ∙ ap (exonerations_reply after.rows.invocations) (sym (part_added w.exonerations batch after.exonerations first count list at)))
+
+pub artifacts_so : (s : Settings) (w after : Recorded) (moment : ℤ) (effect : Effect) (batch : DigestedState) (first count : ℕ)
+    → effect ≡ does.Artifacts batch → AreAdded (length w.artifacts) (length batch.rows) first count → Makes moment effect w after
+    → done None (artifacts_reply batch.rows) ≡ answer_of (record { settings = s; world = after }) (shows.Artifacts first count)
+artifacts_so s w after moment effect batch first count is at makes =
+    let list : after.artifacts ≡ w.artifacts ++ batch.rows = makes.artifacts ∙ ap (λ (e : Effect). artifacts_after e w.artifacts) is in
+    ap (λ (rows : List Artifact). done None (artifacts_reply rows)) (sym (part_added w.artifacts batch.rows after.artifacts first count list at))
 
 -- ---- what is shown of rows stays, whatever comes later
 

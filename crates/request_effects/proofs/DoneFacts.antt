@@ -110,7 +110,7 @@ edges_over w place held (t ∷ ts) few many = (many, refl)
 
 -- what is held, with these invocations
 abbrev with_rows : Tables → World → Recorded
-with_rows held w = record { rows = w; results = held.results.rows; exonerations = held.exonerations.rows }
+with_rows held w = record { rows = w; results = held.results.rows; exonerations = held.exonerations.rows; artifacts = held.artifacts.rows }
 
 pub edges_full : (old : WorldState) (new : Tables) (place : ℕ) (targets : List ℕ) (fault : EdgeFault) (count : ℕ) → IsValid old.world
     → new.world.world ≡ old.world → fault ≡ edge_fault.Full count → IsEdgeFault (graph_of old) place targets fault

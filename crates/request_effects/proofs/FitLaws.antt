@@ -1,8 +1,15 @@
 -- What a request shows is what its effect is about, or is there to be read.
-use Rattle.std.proofs.Common.{◌≡◌, ◌<◌, ℕ, suc, ℤ, List, [], ◌∷◌, length, Option, Some, None, refl, sym, ap, subst, inl, inr, arith}
+use Rattle.std.proofs.Common.{◌≡◌, ◌<◌, ℕ, suc, ℤ, List, [], ◌∷◌, length, Option, Some, None, refl, sym, ap, ◌∙◌, subst, inl, inr, arith}
 use Rattle.std.specs.Prelude.{◌==◌, ◌≢◌, min, slice_get}
 use Rattle.std.proofs.lemmas.Bool.{cases_Bool, cond-false, cond-true, eqb-false}
 use Rattle.std.proofs.lemmas.List.{length-map}
+use Rattle.std.proofs.lemmas.Option.{slice_get_within}
+use Rattle.artifacts.specs.declared.new_artifact.NewArtifact.{NewArtifact}
+use Rattle.artifacts.specs.Batches as files
+use Rattle.artifacts.specs.Orders.{invocation_of}
+use Rattle.artifacts.specs.Requests.{artifact_of, digested}
+use Rattle.artifact_forms.specs.declared.listed.ListArtifacts.{ListArtifacts}
+use Rattle.names_realms.specs.declared.artifact_names.ArtifactName.{ArtifactName}
 use Rattle.names_realms.specs.declared.pairs.Pair.{Pair}
 use Rattle.names_realms.specs.declared.states.State.{State}
 use Rattle.names_realms.specs.declared.states.State.TheVariants.{Active, Finalizing, Finalized}
@@ -16,7 +23,7 @@ use Rattle.message_forms.specs.declared.requests.Request.{Request}
 use Rattle.message_forms.specs.declared.requests.Request.TheVariants as asks
 use Rattle.invocation_world.specs.World.{World}
 use Rattle.invocation_world.specs.Changes.{is_update}
-use Rattle.request_rules.specs.Named.{place_named, place_of_result}
+use Rattle.request_rules.specs.Named.{place_named, place_of_artifact, place_of_result}
 use Rattle.request_rules.proofs.PlaceLaws.{place-within}
 use Rattle.service_effects.specs.declared.effect.Effect.{Effect}
 use Rattle.service_effects.specs.declared.effect.Effect.TheVariants as does
@@ -26,10 +33,11 @@ use Rattle.request_effects.specs.Answers.{Fits as ShowsFit}
 use Rattle.names_realms.specs.declared.result_names.ResultName.{ResultName}
 use Rattle.query_forms.specs.Sizes.{counted}
 use Rattle.request_effects.proofs.PlaceFacts.{places_within}
+use Rattle.request_rules.proofs.ArtifactPlaces.{artifact_stands}
 use Rattle.request_rules.proofs.ResultPlaces.{result_stands}
-use Rattle.request_effects.specs.Effects.{effect_of, end_at, end_of, exonerations_at, results_at, update_at, update_of}
+use Rattle.request_effects.specs.Effects.{artifacts_at, effect_of, end_at, end_of, exonerations_at, place_of_batch, results_at, update_at, update_of}
 use Rattle.request_effects.specs.Foreseen.{IsHere, IsOwn}
-use Rattle.request_effects.specs.Shows.{shows_exonerations, shows_of, shows_result, shows_results, shows_row}
+use Rattle.request_effects.specs.Shows.{artifacts_page, shows_artifact, shows_artifacts, shows_exonerations, shows_of, shows_result, shows_results, shows_row}
 use Rattle.service_effects.specs.Service.{Recorded}
 
 update_own : (w : World) (deadline : Option ℤ) (tags : Option (List Pair)) (p : ℕ) (o : Option Invocation) → p < length w.invocations
@@ -69,6 +77,14 @@ exonerations_own w (Some holder) rows =
     let before : ℕ = length (exonerations.places_in w.exonerations holder) in
     (exonerations.given holder before rows, refl, (refl, length_given holder before rows))
 
+artifacts_own : (w : Recorded) (o : Option ℕ) (news : List NewArtifact) → IsOwn w (artifacts_at o news) (shows_artifacts w o (length news))
+artifacts_own w None news = tt
+artifacts_own w (Some holder) news = (
+  files.of_holder holder (digested news),
+  refl,
+  (refl, sym (length-map (digested news).rows (files.with_holder holder) ∙ length-map news artifact_of)),
+)
+
 -- a size that counts is one at least
 counted_some : (unsaid most size : ℕ) → 0 < unsaid → 0 < most → 0 < counted unsaid most size
 counted_some unsaid most size some many =
@@ -92,6 +108,21 @@ row_read w id = found_own w (λ o. does.Nothing) (place_named w.rows.invocations
 result_read : (w : Recorded) (name : ResultName) → ShowsFit w does.Nothing (shows_result (place_of_result w.rows.invocations w.results name))
 result_read w name = result_fits w name (place_of_result w.rows.invocations w.results name) refl
 
+-- an artifact that is named is there, and so is a page
+artifact_fits : (w : Recorded) (name : ArtifactName) (o : Option ℕ) → place_of_artifact w.rows.invocations w.artifacts name ≡ o
+    → ShowsFit w does.Nothing (shows_artifact o)
+artifact_fits w name None e = tt
+artifact_fits w name (Some place) e =
+    let stands = artifact_stands w.rows.invocations w.artifacts name place e in
+    (refl, slice_get_within w.artifacts place stands.0 stands.1)
+
+artifact_read : (w : Recorded) (name : ArtifactName) → ShowsFit w does.Nothing (shows_artifact (place_of_artifact w.rows.invocations w.artifacts name))
+artifact_read w name = artifact_fits w name (place_of_artifact w.rows.invocations w.artifacts name) refl
+
+artifacts_read : (w : Recorded) (q : ListArtifacts) (o : Option ℕ) → ShowsFit w does.Nothing (artifacts_page o q)
+artifacts_read w q None = tt
+artifacts_read w q (Some holder) = (refl, tt)
+
 rows_counted : (size : ℕ) → 0 < counted 100 1_000 size
 rows_counted size = counted_some 100 1_000 size (omega arith) (omega arith)
 
@@ -99,7 +130,7 @@ verdicts_counted : (size : ℕ) → 0 < counted 100 10_000 size
 verdicts_counted size = counted_some 100 10_000 size (omega arith) (omega arith)
 
 -- What a request shows is what its effect is about; what only reads shows what is there.
-shown_own : (w : Recorded) (moment : ℤ) (name : List ℕ) (request : Request) → ShowsFit w (effect_of w moment name request) (shows_of w request)
+pub shown_own : (w : Recorded) (moment : ℤ) (name : List ℕ) (request : Request) → ShowsFit w (effect_of w moment name request) (shows_of w request)
 shown_own w moment name (asks.CreateInvocation q) = refl
 shown_own w moment name (asks.UpdateInvocation q) =
     found_own w (update_at w.rows.invocations q.deadline q.tags) (place_named w.rows.invocations q.id)
@@ -109,6 +140,9 @@ shown_own w moment name (asks.FinalizeInvocation q) =
     (λ p at. end_own w.rows p (slice_get (states_of w.rows.invocations) p) (place-within w.rows.invocations q.id p at))
 shown_own w moment name (asks.BatchCreateTestResults q) = results_own w (place_named w.rows.invocations q.invocation) q.requests
 shown_own w moment name (asks.BatchCreateTestExonerations q) = exonerations_own w (place_named w.rows.invocations q.invocation) q.requests
+shown_own w moment name (asks.BatchCreateArtifacts q) = artifacts_own w (place_of_batch w.rows.invocations q.requests) q.requests
+shown_own w moment name (asks.GetArtifact q) = artifact_read w q.name
+shown_own w moment name (asks.ListArtifacts q) = artifacts_read w q (place_named w.rows.invocations (invocation_of q.parent))
 shown_own w moment name _ = search (row_read, result_read, places_within, rows_counted, verdicts_counted)
 
 pub own_as : (old new : Recorded) (moment : ℤ) (name : List ℕ) (request : Request) (effect : Effect) (shows : Showing) → new ≡ old

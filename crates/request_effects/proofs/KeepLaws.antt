@@ -7,14 +7,14 @@ use Rattle.names_realms.specs.declared.states.State.TheVariants.{Active}
 use Rattle.inclusion_graph.specs.Edges.{targets_of}
 use Rattle.invocations.specs.declared.invocation.Invocation.{Invocation}
 use Rattle.kept_replies.specs.declared.reply.KeptAnswer.{KeptAnswer}
-use Rattle.kept_replies.specs.declared.reply.KeptAnswer.TheVariants.{Created, Results, Exonerations}
+use Rattle.kept_replies.specs.declared.reply.KeptAnswer.TheVariants.{Created, Results, Exonerations, Artifacts}
 use Rattle.kept_replies.specs.declared.reply.KeptReply.{KeptReply}
 use Rattle.call_forms.specs.declared.asked.Asked.{Asked}
 use Rattle.message_forms.specs.declared.replies.Reply.TheVariants as reply
 use Rattle.invocation_world.specs.World.{World, IsRow, IsStage}
-use Rattle.request_rules.specs.Demands.{Demand}
-use Rattle.request_rules.specs.Numbered.{digest_of}
-use Rattle.request_rules.specs.Settings.{Settings}
+use Rattle.request_demands.specs.Demands.{Demand}
+use Rattle.request_demands.specs.Numbered.{digest_of}
+use Rattle.request_demands.specs.Settings.{Settings}
 use Rattle.service_effects.specs.declared.effect.Effect.{Effect}
 use Rattle.service_effects.specs.declared.effect.Effect.TheVariants as does
 use Rattle.request_effects.specs.declared.keeping.Numbered.{Numbered}
@@ -115,3 +115,6 @@ kept_is_first s w after moment (does.Results batch) answer timely may makes is =
 kept_is_first s w after moment (does.Exonerations batch) answer timely may makes is =
     ap (kept_answer (record { settings = s; world = after }))
     (sym (same_Some (Exonerations (length w.exonerations) (length batch)) answer is))
+kept_is_first s w after moment (does.Artifacts batch) answer timely may makes is =
+    ap (kept_answer (record { settings = s; world = after }))
+    (sym (same_Some (Artifacts (length w.artifacts) (length batch.rows)) answer is))

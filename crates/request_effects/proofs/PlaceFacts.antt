@@ -10,8 +10,10 @@ use Rattle.invocations.specs.Rows.{HasId, ids_of}
 use Rattle.invocation_world.proofs.RowFacts.{stands}
 use Rattle.service_effects.proofs.IdFacts.{id_none}
 use Rattle.message_forms.specs.declared.requests.Request.{Request}
-use Rattle.request_rules.specs.Demands.{demand_of}
-use Rattle.test_results.specs.declared.result.TestResult.{TestResult}
+use Rattle.artifacts.specs.declared.new_artifact.NewArtifact.{NewArtifact}
+use Rattle.request_demands.specs.Demands.{demand_of, of_artifacts}
+use Rattle.request_effects.specs.Effects.{place_of_batch}
+use Rattle.request_rules.specs.Held.{Held}
 use Rattle.request_rules.specs.Locating.{Located, located}
 use Rattle.request_rules.specs.Named.{all_found, first_place, place_named, places_in, places_named}
 use Rattle.request_rules.proofs.PlaceLaws.{found_named, place-within, place_holds, place_there}
@@ -59,10 +61,16 @@ places_elsewhere rows including place ids at not = all_placed (λ target. target
     not (subst (Contains ids) is held))
 
 -- where the invocations stand that a request demands, the first place is that of the first one
-pub first_named : (l : Located) (rows : List Invocation) (held : List TestResult) (request shape : Request) (place : Option ℕ) → l ≡ located rows held (demand_of request)
+pub first_named : (l : Located) (rows : List Invocation) (held : Held) (request shape : Request) (place : Option ℕ) → l ≡ located rows held (demand_of request)
     → request ≡ shape → place ≡ first_place l.named → place ≡ first_place (places_in rows (demand_of shape).named)
 first_named l rows held request shape place are is first =
     first ∙ ap (λ (x : Located). first_place x.named) (are ∙ ap (λ (q : Request). located rows held (demand_of q)) is)
+
+-- the first invocation that a batch of artifacts names is that of its artifacts
+pub batch_named : (rows : List Invocation) (number : Option (List ℕ)) (news : List NewArtifact)
+    → first_place (places_in rows (of_artifacts number news).named) ≡ place_of_batch rows news
+batch_named rows number [] = refl
+batch_named rows number (first ∷ others) = refl
 
 pub first_within : (rows : List Invocation) (id : List ℕ) (place : Option ℕ) → place ≡ place_named rows id
     → IfSome place (λ at. at < length rows)
@@ -70,7 +78,7 @@ first_within rows id None is = tt
 first_within rows id (Some at) is = place-within rows id at (sym is)
 
 -- and those that are found of the ones to be included are theirs
-pub targets_named : (l : Located) (rows : List Invocation) (held : List TestResult) (request shape : Request) (targets : List ℕ) → l ≡ located rows held (demand_of request)
+pub targets_named : (l : Located) (rows : List Invocation) (held : Held) (request shape : Request) (targets : List ℕ) → l ≡ located rows held (demand_of request)
     → request ≡ shape → targets ≡ all_found l.included → targets ≡ places_named rows (demand_of shape).included
 targets_named l rows held request shape targets are is all =
     all ∙ (ap (λ (x : Located). all_found x.included) (are ∙ ap (λ (q : Request). located rows held (demand_of q)) is)

@@ -1,11 +1,18 @@
 -- What a safe request does suits the world.
-use Rattle.std.proofs.Common.{◌≡◌, ◌≢◌, ◌<◌, ℕ, ℤ, pos, ◌+ℤ◌, ◌≤ℤ◌, ◌<ℤ◌, List, [], ◌∷◌, length, codes, Option, Some, None, unwrap_or, refl, sym, ◌∙◌, subst, inl, inr, arith}
+use Rattle.std.proofs.Common.{◌≡◌, ◌≢◌, ◌<◌, ℕ, ℤ, pos, ◌+ℤ◌, ◌≤ℤ◌, ◌<ℤ◌, List, [], ◌∷◌, length, codes, Option, Some, None, unwrap_or, refl, sym, ap, ◌∙◌, subst, inl, inr, arith}
 use Rattle.std.specs.Prelude.{◌++◌, slice_get, Contains}
 use Rattle.std.specs.List.{All}
 use Rattle.std.specs.Option.{ForSome}
 use Rattle.std.proofs.lemmas.Bool.{cases_Bool, cond-false, cond-true}
 use Rattle.std.proofs.lemmas.Int.{ints}
+use Rattle.std.proofs.lemmas.List.Elements.{All-cons, All-nil}
 use Rattle.std.proofs.lemmas.Option.{none-some}
+use Rattle.artifacts.specs.declared.artifact.Artifact.{Artifact}
+use Rattle.artifacts.specs.declared.new_artifact.NewArtifact.{NewArtifact}
+use Rattle.artifacts.specs.Artifacts.{HasItsHash}
+use Rattle.artifacts.specs.Orders.{invocation_of}
+use Rattle.artifacts.specs.Requests.{artifact_of, digested}
+use Rattle.artifact_forms.specs.declared.batches.BatchCreateArtifacts.{BatchCreateArtifacts}
 use Rattle.names_realms.specs.Names.{invocation_name}
 use Rattle.names_realms.specs.declared.pairs.Pair.{Pair}
 use Rattle.names_realms.specs.declared.states.State.{State}
@@ -27,16 +34,18 @@ use Rattle.invocation_world.specs.Changes.{is_update}
 use Rattle.invocation_world.proofs.CodeFacts.{fresh_twice}
 use Rattle.invocation_world.proofs.RowFacts.{state_is}
 use Rattle.request_rules.specs.Named.{place_named, places_named}
-use Rattle.request_rules.specs.Demands.{demand_of}
-use Rattle.request_rules.specs.Broken.{IsInReach, of_invocation, out_of_reach, refusal}
+use Rattle.request_demands.specs.Demands.{demand_of, of_artifacts}
+use Rattle.request_rules.specs.Broken.{IsInReach, of_invocation, out_of_reach}
+use Rattle.request_demands.specs.Alone.{refusal}
 use Rattle.request_rules.proofs.Decided.{reach_or_not}
 use Rattle.request_rules.proofs.PlaceLaws.{place-named}
 use Rattle.service_effects.specs.declared.effect.Effect.TheVariants as does
-use Rattle.request_effects.specs.Effects.{effect_of, end_at, end_of, exonerations_at, include_at, include_from, include_of, results_at, update_at, update_of}
+use Rattle.request_effects.specs.Effects.{artifacts_at, effect_of, end_at, end_of, exonerations_at, include_at, include_from, include_of, place_of_batch, results_at, update_at, update_of}
 use Rattle.service_effects.specs.Service.{Recorded}
 use Rattle.service_effects.specs.declared.effect.Effect.{Effect}
 use Rattle.service_effects.specs.Fitting.{ArePlaced, IsTimely, Suits}
 use Rattle.service_effects.proofs.BatchFacts.{given_batch, given_places, placed_batch}
+use Rattle.service_effects.proofs.FileFacts.{artifacts_for}
 use Rattle.request_effects.specs.Planned.{IsSafe}
 use Rattle.request_effects.proofs.PlaceFacts.{named_there, places_elsewhere, places_within, row_placed}
 
@@ -195,6 +204,30 @@ exonerations_suit w moment held None rows some active = tt
 exonerations_suit w moment held (Some p) rows some active =
     placed_batch w p (length (exonerations.places_in held p)) rows some (active p refl)
 
+-- artifacts of a request have their hashes, and there are some where it has some
+all_hashed : (news : List NewArtifact) → All HasItsHash (digested news).rows
+all_hashed [] = All-nil HasItsHash
+all_hashed (new ∷ news) = All-cons HasItsHash (artifact_of new) (digested news).rows refl (all_hashed news)
+
+pub some_digested : (news : List NewArtifact) → news ≢ [] → (digested news).rows ≢ []
+some_digested [] some = absurd (some refl)
+some_digested (new ∷ news) some = λ e. let no : artifact_of new ∷ (digested news).rows ≡ [] = e in absurd cc
+
+artifacts_suit : (w : World) (moment : ℤ) (o : Option ℕ) (news : List NewArtifact) → news ≢ []
+    → ((p : ℕ) → o ≡ Some p → IsInState Active w.invocations p) → Suits w moment (artifacts_at o news)
+artifacts_suit w moment None news some active = tt
+artifacts_suit w moment (Some p) news some active =
+    artifacts_for w p (digested news) (some_digested news some) (all_hashed news) (active p refl)
+
+-- the invocation of a batch of artifacts is active
+batch_active : (w : World) (moment : ℤ) (name : List ℕ) (q : BatchCreateArtifacts) (news : List NewArtifact) (place : ℕ)
+    → IsSafe w moment name (asks.BatchCreateArtifacts q) → q.requests ≡ news → place_of_batch w.invocations news ≡ Some place
+    → IsInState Active w.invocations place
+batch_active w moment name q [] place safe are at = absurd (none-some place at)
+batch_active w moment name q (first ∷ others) place safe are at =
+    is_still_active w moment name (asks.BatchCreateArtifacts q) (invocation_of first.name.parent) place safe
+    (ap (λ (news : List NewArtifact). (of_artifacts q.request_id news).active) are) at
+
 -- ---- all requests
 
 pub suits : (w : Recorded) (moment : ℤ) (name : List ℕ) (request : Request) → IsTimely w.rows moment → IsSafe w.rows moment name request
@@ -225,6 +258,9 @@ suits w moment name (asks.BatchCreateTestResults q) timely safe =
 suits w moment name (asks.BatchCreateTestExonerations q) timely safe =
     exonerations_suit w.rows moment w.exonerations (place_named w.rows.invocations q.invocation) q.requests safe.forms.some
     (λ p at. is_still_active w.rows moment name (asks.BatchCreateTestExonerations q) q.invocation p safe refl at)
+suits w moment name (asks.BatchCreateArtifacts q) timely safe =
+    artifacts_suit w.rows moment (place_of_batch w.rows.invocations q.requests) q.requests safe.forms.some
+    (λ p at. batch_active w.rows moment name q q.requests p safe refl at)
 suits w moment name _ timely safe = tt
 
 -- ---- what is so of each effect on the invocations
@@ -272,6 +308,10 @@ exonerations_placed : (held : List TestExoneration) (o : Option ℕ) (rows : Lis
 exonerations_placed held None rows = tt
 exonerations_placed held (Some holder) rows = given_places held holder rows
 
+artifacts_placed : (held : List TestExoneration) (o : Option ℕ) (news : List NewArtifact) → ArePlaced held (artifacts_at o news)
+artifacts_placed held None news = tt
+artifacts_placed held (Some holder) news = tt
+
 pub placed : (w : Recorded) (moment : ℤ) (name : List ℕ) (request : Request) → ArePlaced w.exonerations (effect_of w moment name request)
 placed w moment name (asks.CreateInvocation q) = tt
 placed w moment name (asks.UpdateInvocation q) =
@@ -285,4 +325,6 @@ placed w moment name (asks.BatchCreateTestResults q) =
     results_placed w.exonerations (place_named w.rows.invocations q.invocation) q.requests
 placed w moment name (asks.BatchCreateTestExonerations q) =
     exonerations_placed w.exonerations (place_named w.rows.invocations q.invocation) q.requests
+placed w moment name (asks.BatchCreateArtifacts q) =
+    artifacts_placed w.exonerations (place_of_batch w.rows.invocations q.requests) q.requests
 placed w moment name _ = tt

@@ -1,5 +1,9 @@
 -- The answers that show something to who asks.
-use Rattle.std.specs.Prelude.{◌≡◌, ◌<◌, ℕ, List, Option, Some, None, length, slice_get}
+use Rattle.std.specs.Prelude.{⊤, ◌≡◌, ◌<◌, ℕ, List, Option, Some, None, length, slice_get}
+use Rattle.artifacts.specs.declared.artifact.Artifact.{Artifact}
+use Rattle.artifact_pages.specs.Pages.{IsShownPage}
+use Rattle.artifact_replies.specs.Replies.{ArtifactsShown}
+use Rattle.message_forms.specs.declared.replies.Reply.TheVariants as reply
 use Rattle.test_results.specs.declared.result.TestResult.{TestResult}
 use Rattle.verdict_lists.specs.World.{AreRoots, World}
 use Rattle.query_pages.specs.Pages.{IsResultPage, IsVerdictPage}
@@ -12,10 +16,10 @@ use Rattle.service_effects.specs.declared.effect.Effect.{Effect}
 use Rattle.service_effects.specs.declared.effect.Effect.TheVariants as does
 use Rattle.service_effects.specs.Service.{Recorded}
 use Rattle.request_effects.specs.declared.shows.Showing.{Showing}
-use Rattle.request_effects.specs.declared.shows.Showing.TheVariants.{Alike, Result, Results, Verdicts}
+use Rattle.request_effects.specs.declared.shows.Showing.TheVariants.{Alike, Result, Results, Verdicts, Artifact as OneArtifact, Artifacts}
 use Rattle.request_effects.specs.declared.shows.Shows.TheVariants as shows
 use Rattle.request_effects.specs.Foreseen.{IsOwn}
-use Rattle.request_effects.specs.Shows.{Scene, answer_of}
+use Rattle.request_effects.specs.Shows.{Scene, answer_of, done}
 
 -- the part of what is recorded of which results and verdicts are listed
 abbrev pub listed_in : Recorded → World
@@ -38,8 +42,13 @@ ShowsResult s caller place (Some row) answer =
     × IsShownResult (listed_in s.world) s.settings.policy caller place held
     × (answer ≡ done_with (reply_of (seen_data held)))
 
--- The answer shows this to a caller: what is the same to all, or a result, or a page, of which the
--- caller sees what may be seen.
+-- The artifact is shown whole, where one stands at the place.
+abbrev pub artifact_answer : Scene → Option Artifact → Answer
+artifact_answer s None = answer_of s shows.Empty
+artifact_answer s (Some row) = done None (reply.Artifact row)
+
+-- The answer shows this to a caller: what is the same to all; or a result, or a page of results or
+-- of verdicts, of which the caller sees what may be seen; or an artifact whole, or a page of them.
 abbrev pub Answers : Scene → ℕ → Showing → Answer → Type 0
 Answers s caller (Alike shows) answer = answer ≡ answer_of s shows
 Answers s caller (Result place) answer =
@@ -52,6 +61,11 @@ Answers s caller (Verdicts query) answer =
     (page : SeenVerdicts)
     × IsVerdictPage (listed_in s.world) s.settings.policy caller query page
     × (answer ≡ done_with (reply_of (verdicts_page page)))
+Answers s caller (OneArtifact place) answer =
+    answer ≡ artifact_answer s (slice_get s.world.artifacts place)
+Answers s caller (Artifacts query) answer =
+    (page : ArtifactsShown) × IsShownPage s.world.artifacts query page
+    × (answer ≡ done None (reply.Artifacts page))
 
 -- The result at a place is there, and so is the invocation that holds it.
 abbrev pub HasResult : World → ℕ → Type 0
@@ -65,6 +79,8 @@ IsThere w (Alike shows) = ⊥
 IsThere w (Result place) = HasResult (listed_in w) place
 IsThere w (Results query) = AreRoots (listed_in w) query.roots × (0 < query.size)
 IsThere w (Verdicts query) = AreRoots (listed_in w) query.roots × (0 < query.size)
+IsThere w (OneArtifact place) = place < length w.artifacts
+IsThere w (Artifacts query) = ⊤
 
 -- What is shown is what an effect is about; or it is read, and nothing is done.
 abbrev pub Fits : Recorded → Effect → Showing → Type 0
@@ -72,3 +88,5 @@ Fits w effect (Alike shows) = IsOwn w effect shows
 Fits w effect (Result place) = (effect ≡ does.Nothing) × IsThere w (Result place)
 Fits w effect (Results query) = (effect ≡ does.Nothing) × IsThere w (Results query)
 Fits w effect (Verdicts query) = (effect ≡ does.Nothing) × IsThere w (Verdicts query)
+Fits w effect (OneArtifact place) = (effect ≡ does.Nothing) × IsThere w (OneArtifact place)
+Fits w effect (Artifacts query) = (effect ≡ does.Nothing) × IsThere w (Artifacts query)

@@ -1,5 +1,9 @@
 -- What a request does to what is recorded.
 use Rattle.std.specs.Prelude.{ℕ, ℤ, List, [], ◌∷◌, Option, Some, None, if◌then◌else◌, length, slice_get}
+use Rattle.artifacts.specs.declared.new_artifact.NewArtifact.{NewArtifact}
+use Rattle.artifacts.specs.Batches as artifacts
+use Rattle.artifacts.specs.Orders.{invocation_of}
+use Rattle.artifacts.specs.Requests.{digested}
 use Rattle.names_realms.specs.declared.pairs.Pair.{Pair}
 use Rattle.names_realms.specs.declared.states.State.{State}
 use Rattle.names_realms.specs.declared.states.State.TheVariants.{Active, Finalizing, Finalized}
@@ -66,6 +70,16 @@ exonerations_at held (Some holder) rows =
     does.Exonerations
     (exonerations.given holder (length (exonerations.places_in held holder)) rows)
 
+-- the place of the invocation in which the artifacts of a batch stand: that of the first
+abbrev pub place_of_batch : List Invocation → List NewArtifact → Option ℕ
+place_of_batch rows [] = None
+place_of_batch rows (first ∷ others) = place_named rows (invocation_of first.name.parent)
+
+-- artifacts of the row at a place, as they will stand in the table, and what is said of them
+abbrev pub artifacts_at : Option ℕ → List NewArtifact → Effect
+artifacts_at None news = does.Nothing
+artifacts_at (Some holder) news = does.Artifacts (artifacts.of_holder holder (digested news))
+
 -- What a request of a caller of this name does at this moment, a row a method. One of another
 -- method only reads.
 abbrev pub effect_of : Recorded → ℤ → List ℕ → Request → Effect
@@ -83,4 +97,6 @@ effect_of w moment name (asks.BatchCreateTestResults q) =
     results_at (place_named w.rows.invocations q.invocation) q.requests
 effect_of w moment name (asks.BatchCreateTestExonerations q) =
     exonerations_at w.exonerations (place_named w.rows.invocations q.invocation) q.requests
+effect_of w moment name (asks.BatchCreateArtifacts q) =
+    artifacts_at (place_of_batch w.rows.invocations q.requests) q.requests
 effect_of w moment name _ = does.Nothing

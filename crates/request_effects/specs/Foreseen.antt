@@ -1,5 +1,6 @@
 -- The code's own words: what an effect will leave of the invocation that it is about.
 use Rattle.std.specs.Prelude.{⊤, ◌≡◌, ◌<◌, ◌↔◌, ℕ, ℤ, Bool, true, false, IsTrue, List, length}
+use Rattle.artifacts.specs.Requests.{DigestedState}
 use Rattle.invocations.specs.declared.invocation.Invocation.{Invocation}
 use Rattle.invocations.specs.Rows.{ended}
 use Rattle.test_results.specs.declared.exoneration.TestExoneration.{TestExoneration}
@@ -31,6 +32,7 @@ IsFinalTold w moment (does.End place) is_final =
 IsFinalTold w moment (does.Include plan) is_final = ⊤
 IsFinalTold w moment (does.Results batch) is_final = ⊤
 IsFinalTold w moment (does.Exonerations batch) is_final = ⊤
+IsFinalTold w moment (does.Artifacts batch) is_final = ⊤
 
 -- The row at this place is the one that an effect is about; the effect that does nothing is about
 -- any.
@@ -42,6 +44,7 @@ IsHere w (does.End at) place = place ≡ at
 IsHere w (does.Include plan) place = ⊥
 IsHere w (does.Results batch) place = ⊥
 IsHere w (does.Exonerations batch) place = ⊥
+IsHere w (does.Artifacts batch) place = ⊥
 
 -- So many rows from this place on are those that an effect adds to so many.
 abbrev pub AreAdded : ℕ → ℕ → ℕ → ℕ → Type 0
@@ -58,6 +61,9 @@ IsOwn w effect (shows.Results first count) =
 IsOwn w effect (shows.Exonerations first count) =
     (batch : List TestExoneration) × (effect ≡ does.Exonerations batch)
     × AreAdded (length w.exonerations) (length batch) first count
+IsOwn w effect (shows.Artifacts first count) =
+    (batch : DigestedState) × (effect ≡ does.Artifacts batch)
+    × AreAdded (length w.artifacts) (length batch.rows) first count
 
 -- What is seen ahead is what a change will leave: it suits the world, and it is told whether what
 -- it ends is final at once.

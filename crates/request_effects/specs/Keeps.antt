@@ -4,15 +4,15 @@ use Rattle.names_realms.specs.declared.pairs.Pair.{Pair}
 use Rattle.names_realms.specs.declared.states.State.TheVariants.{Active}
 use Rattle.invocations.specs.declared.invocation.Invocation.{Invocation}
 use Rattle.kept_replies.specs.declared.reply.KeptAnswer.{KeptAnswer}
-use Rattle.kept_replies.specs.declared.reply.KeptAnswer.TheVariants.{Created, Results, Exonerations}
+use Rattle.kept_replies.specs.declared.reply.KeptAnswer.TheVariants.{Created, Results, Exonerations, Artifacts}
 use Rattle.kept_replies.specs.declared.reply.KeptReply.{KeptReply}
 use Rattle.call_forms.specs.declared.asked.Asked.{Asked}
 use Rattle.call_forms.specs.declared.forms.Answer.{Answer}
 use Rattle.message_forms.specs.declared.replies.Reply.{Reply}
 use Rattle.message_forms.specs.declared.replies.Reply.TheVariants as reply
-use Rattle.request_rules.specs.Demands.{Demand}
-use Rattle.request_rules.specs.Settings.{Settings}
-use Rattle.request_rules.specs.Numbered.{digest_of}
+use Rattle.request_demands.specs.Demands.{Demand}
+use Rattle.request_demands.specs.Settings.{Settings}
+use Rattle.request_demands.specs.Numbered.{digest_of}
 use Rattle.service_effects.specs.declared.effect.Effect.{Effect}
 use Rattle.service_effects.specs.declared.effect.Effect.TheVariants as does
 use Rattle.request_effects.specs.declared.keeping.Numbered.{Numbered}
@@ -31,6 +31,7 @@ answer_kept w (does.Include plan) = None
 answer_kept w (does.Results batch) = Some (Results (length w.results) (length batch))
 answer_kept w (does.Exonerations batch) =
     Some (Exonerations (length w.exonerations) (length batch))
+answer_kept w (does.Artifacts batch) = Some (Artifacts (length w.artifacts) (length batch.rows))
 
 -- the number of a request, with its digest
 abbrev pub numbered_of : Asked → Demand → Option Numbered
@@ -78,3 +79,4 @@ kept_answer s (Created place deadline tags) =
     made_answer s.settings deadline tags (slice_get s.world.rows.invocations place)
 kept_answer s (Results first count) = answer_of s (shows.Results first count)
 kept_answer s (Exonerations first count) = answer_of s (shows.Exonerations first count)
+kept_answer s (Artifacts first count) = answer_of s (shows.Artifacts first count)

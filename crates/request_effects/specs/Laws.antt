@@ -1,7 +1,7 @@
 -- Laws of what is kept.
 use Rattle.std.specs.Prelude.{◌≡◌, ℤ, Some, length}
 use Rattle.kept_replies.specs.declared.reply.KeptAnswer.{KeptAnswer}
-use Rattle.request_rules.specs.Settings.{Settings}
+use Rattle.request_demands.specs.Settings.{Settings}
 use Rattle.service_effects.specs.declared.effect.Effect.{Effect}
 use Rattle.service_effects.specs.declared.effect.Effect.TheVariants as does
 use Rattle.request_effects.specs.declared.shows.Shows.{Shows}
@@ -22,6 +22,7 @@ shows_added w (does.Include plan) = shows.Empty
 shows_added w (does.Results batch) = shows.Results (length w.results) (length batch)
 shows_added w (does.Exonerations batch) =
     shows.Exonerations (length w.exonerations) (length batch)
+shows_added w (does.Artifacts batch) = shows.Artifacts (length w.artifacts) (length batch.rows)
 
 -- Of what is kept of an effect the answer is made again that showed what it added.
 abbrev pub KeptIsFirst : Type 0

@@ -1,3 +1,4 @@
+pub mod Places
 pub mod Effects
 pub mod Foreseen
 pub mod Shows

@@ -5,8 +5,8 @@ use Rattle.message_forms.specs.Forms.{IsOfForm}
 use Rattle.policy_checks.specs.Checks.{is_name}
 use Rattle.inclusion_graph.specs.Edges.{targets_of}
 use Rattle.invocation_world.specs.World.{World}
-use Rattle.request_rules.specs.Demands.{demand_of}
-use Rattle.request_rules.specs.Order.{IsUnbroken}
+use Rattle.request_demands.specs.Demands.{demand_of}
+use Rattle.request_demands.specs.Order.{IsUnbroken}
 use Rattle.request_rules.specs.Broken as rules
 use Rattle.service_effects.specs.declared.effect.Effect.{Effect}
 use Rattle.service_effects.specs.declared.effect.Planned.{Planned}

@@ -1,6 +1,10 @@
 -- What a request shows of the world that it leaves, and the answer that shows it.
 use Rattle.std.specs.Prelude.{ℕ, List, [], ◌∷◌, Option, Some, None, drop, length, slice_get, take}
 use Rattle.std.specs.List.{filter_map}
+use Rattle.artifacts.specs.declared.artifact.Artifact.{Artifact}
+use Rattle.artifacts.specs.Orders.{invocation_of}
+use Rattle.artifact_forms.specs.declared.listed.ListArtifacts.{ListArtifacts}
+use Rattle.artifact_pages.specs.Pages.{query_from}
 use Rattle.inclusion_graph.specs.Edges.{targets_of}
 use Rattle.invocations.specs.declared.invocation.Invocation.{Invocation}
 use Rattle.invocations.specs.Rows.{ids_of}
@@ -14,9 +18,10 @@ use Rattle.message_forms.specs.declared.requests.Request.TheVariants as asks
 use Rattle.message_forms.specs.Replies.{reply_text}
 use Rattle.invocation_forms.specs.Shown.{InvocationShown}
 use Rattle.invocation_world.specs.World.{World}
-use Rattle.request_rules.specs.Settings.{Settings}
-use Rattle.request_rules.specs.Named.{place_named, place_of_result, places_named}
-use Rattle.request_rules.specs.Understood.{token_for}
+use Rattle.request_demands.specs.Settings.{Settings}
+use Rattle.request_rules.specs.Named.{place_named, place_of_artifact, place_of_result, places_named}
+use Rattle.request_demands.specs.Understood.{token_for}
+use Rattle.request_effects.specs.Effects.{place_of_batch}
 use Rattle.request_effects.specs.declared.shows.Showing.{Showing}
 use Rattle.request_effects.specs.declared.shows.Showing.TheVariants as showing
 use Rattle.request_effects.specs.declared.shows.Shows.{Shows}
@@ -43,10 +48,24 @@ abbrev pub shows_exonerations : Recorded → Option ℕ → ℕ → Shows
 shows_exonerations w None count = shows.Empty
 shows_exonerations w (Some holder) count = shows.Exonerations (length w.exonerations) count
 
+abbrev pub shows_artifacts : Recorded → Option ℕ → ℕ → Shows
+shows_artifacts w None count = shows.Empty
+shows_artifacts w (Some holder) count = shows.Artifacts (length w.artifacts) count
+
 -- the result at a place, if one stands there
 abbrev pub shows_result : Option ℕ → Showing
 shows_result None = showing.Alike shows.Empty
 shows_result (Some place) = showing.Result place
+
+-- the artifact at a place, if one stands there
+abbrev pub shows_artifact : Option ℕ → Showing
+shows_artifact None = showing.Alike shows.Empty
+shows_artifact (Some place) = showing.Artifact place
+
+-- the page of artifacts that is asked for, of the row at a place if there is one
+abbrev pub artifacts_page : Option ℕ → ListArtifacts → Showing
+artifacts_page None q = showing.Alike shows.Empty
+artifacts_page (Some holder) q = showing.Artifacts (query_from holder q)
 
 -- the page of results that is asked for: 100 of them, where the request says no number, and never
 -- more than 1,000
@@ -84,12 +103,19 @@ shows_of w (asks.BatchCreateTestResults q) =
 shows_of w (asks.BatchCreateTestExonerations q) =
     showing.Alike
     (shows_exonerations w (place_named w.rows.invocations q.invocation) (length q.requests))
+shows_of w (asks.BatchCreateArtifacts q) =
+    showing.Alike
+    (shows_artifacts w (place_of_batch w.rows.invocations q.requests) (length q.requests))
 shows_of w (asks.GetInvocation q) =
     showing.Alike (shows_row (place_named w.rows.invocations q.id))
 shows_of w (asks.GetTestResult q) =
     shows_result (place_of_result w.rows.invocations w.results q.name)
 shows_of w (asks.QueryTestResults q) = showing.Results (result_query w q)
 shows_of w (asks.QueryTestVariants q) = showing.Verdicts (verdict_query w q)
+shows_of w (asks.GetArtifact q) =
+    shows_artifact (place_of_artifact w.rows.invocations w.artifacts q.name)
+shows_of w (asks.ListArtifacts q) =
+    artifacts_page (place_named w.rows.invocations (invocation_of q.parent)) q
 
 -- Where it is shown: what the service is set up with, and what is recorded.
 pub record Scene : Type 0 where
@@ -147,6 +173,10 @@ exonerations_reply held [] = reply.Empty
 exonerations_reply held (row ∷ rows) =
     exonerations_shown (row ∷ rows) (slice_get (ids_of held) row.holder)
 
+-- the artifacts of a batch
+abbrev pub artifacts_reply : List Artifact → Reply
+artifacts_reply rows = reply.Artifacts (record { rows = rows; next = None })
+
 -- The reply that shows this.
 abbrev pub reply_of : Scene → Shows → Reply
 reply_of s shows.Empty = reply.Empty
@@ -158,6 +188,7 @@ reply_of s (shows.Results first count) =
     results_reply s.world.rows.invocations (part_of first count s.world.results)
 reply_of s (shows.Exonerations first count) =
     exonerations_reply s.world.rows.invocations (part_of first count s.world.exonerations)
+reply_of s (shows.Artifacts first count) = artifacts_reply (part_of first count s.world.artifacts)
 
 -- the update token that is handed out: that of a new invocation
 abbrev pub token_at : Settings → Option Invocation → Option (List ℕ)
@@ -170,6 +201,7 @@ token_of s (shows.Row place) = None
 token_of s (shows.Made place) = token_at s.settings (slice_get s.world.rows.invocations place)
 token_of s (shows.Results first count) = None
 token_of s (shows.Exonerations first count) = None
+token_of s (shows.Artifacts first count) = None
 
 -- the answer that a request succeeded, with an update token where one is handed out
 abbrev pub done : Option (List ℕ) → Reply → Answer

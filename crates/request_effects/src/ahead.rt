@@ -119,6 +119,7 @@ pub(crate) fn ends_at_once(world: &mut InvocationWorld, moment: Moment, effect: 
         Effect::Include(_) => false,
         Effect::Results(_) => false,
         Effect::Exonerations(_) => false,
+        Effect::Artifacts(_) => false,
     }
 }
 
@@ -150,6 +151,7 @@ impl<'r> Ahead<'r> {
             Effect::Include(_) => unreachable!(),
             Effect::Results(_) => unreachable!(),
             Effect::Exonerations(_) => unreachable!(),
+            Effect::Artifacts(_) => unreachable!(),
         }
     }
 
@@ -172,6 +174,7 @@ impl<'r> Ahead<'r> {
             Effect::Include(_) => unreachable!(),
             Effect::Results(_) => unreachable!(),
             Effect::Exonerations(_) => unreachable!(),
+            Effect::Artifacts(_) => unreachable!(),
         }
     }
 }

@@ -1,15 +1,17 @@
 //! What a request does is planned, with all the room that it takes, and nothing is changed.
-ghost use Rattle.std.specs.Prelude.{◌≡◌, ◌≢◌, ◌<◌, Some, All, IfOk, IfSome, length};
+ghost use Rattle.std.specs.Prelude.{◌≡◌, ◌≢◌, ◌<◌, Some, [], All, IfOk, IfSome, length};
 ghost use Rattle.invocations.specs.Rows.{IsInState};
 ghost use Rattle.invocation_world.specs.World.{IsValid};
-ghost use Rattle.request_rules.specs.Demands.{demand_of};
-ghost use Rattle.request_rules.specs.Locating.{located};
-ghost use Rattle.request_effects.specs.Effects.{effect_of, end_at, include_of, update_at};
+ghost use Rattle.request_demands.specs.Demands.{demand_of};
+ghost use Rattle.request_effects.specs.Places.{located_in};
+ghost use Rattle.request_effects.specs.Effects.{artifacts_at, effect_of, end_at, include_of, update_at};
 ghost use Rattle.service_effects.specs.Fitting.{IsTimely};
+ghost use Rattle.service_effects.specs.Planned.{IsRoomPlanned};
 ghost use Rattle.service_effects.specs.States.{IsRoomier, recorded_in};
 ghost use Rattle.request_effects.specs.Planned.{AreEdgesPlanned, IsPlanned, IsSafe};
 
 use crate::making::{pairs_of, row_of};
+use artifacts::{Digested, NewArtifact};
 use inclusion_graph::{EdgeFault, EdgePlan};
 use invocation_world::InvocationWorld;
 use invocations::AddFault;
@@ -18,7 +20,8 @@ use message_forms::{CreateInvocation, Request, UpdateInvocation};
 use names_realms::{Moment, Pair, State};
 use request_rules::Located;
 use service_effects::{
-    Effect, EffectFault, FullTable, Planned, Tables, plan_exonerations, plan_results,
+    Effect, EffectFault, FullTable, Planned, Tables, plan_artifacts, plan_exonerations,
+    plan_results,
 };
 use std::alloc::{AllocError, Global};
 
@@ -157,6 +160,23 @@ fn plan_edges(
     }
 }
 
+/// Plans artifacts of the invocation at a place, which are at least one. Their hashes are taken
+/// first.
+fn plan_files(
+    alloc: Global,
+    tables: &mut Tables,
+    holder: u32,
+    news: Vec<NewArtifact>,
+) -> Result<Planned, AllocError>
+    requires { news.items ≢ [] }
+    ensures roomier { IsRoomier tables.old tables.new }
+    ensures planned { IfOk result (IsRoomPlanned tables.new
+        (artifacts_at (Some holder) news.items)) }
+{
+    let rows = Digested::of(alloc, news)?;
+    plan_artifacts(alloc, tables, holder, rows)
+}
+
 /// Plans what a request does that a caller of this name asks for at this moment, with all the room
 /// that it takes. Nothing is changed. `Err` where there is no memory.
 pub fn plan_change(
@@ -168,8 +188,7 @@ pub fn plan_change(
     requires timely { IsTimely tables.old.world.world context.now.moment }
     requires safe { IsSafe tables.old.world.world context.now.moment context.now.name.now request }
     requires located { context.now.located.now
-        ≡ located tables.old.world.world.invocations tables.old.results.rows
-        (demand_of request) }
+        ≡ located_in (recorded_in tables.old) (demand_of request) }
     ensures roomier { IsRoomier tables.old tables.new }
     ensures planned { IfOk result (IsPlanned tables.new context.now.moment
         (effect_of (recorded_in tables.old) context.now.moment context.now.name.now request)) }
@@ -197,6 +216,10 @@ pub fn plan_change(
         },
         Request::BatchCreateTestExonerations(q) => match first {
             Some(holder) => plan_exonerations(alloc, tables, holder, q.requests.into_vec()),
+            None => Ok(Planned::Ready(Effect::Nothing)),
+        },
+        Request::BatchCreateArtifacts(q) => match first {
+            Some(holder) => plan_files(alloc, tables, holder, q.requests.into_vec()),
             None => Ok(Planned::Ready(Effect::Nothing)),
         },
         _ => Ok(Planned::Ready(Effect::Nothing)),

@@ -1,12 +1,15 @@
-//! What is shown of results and verdicts to who asks: what the caller may see.
+//! What is shown to who asks: of results and verdicts what the caller may see, and artifacts.
 ghost use Rattle.std.specs.Prelude.{◌≡◌, ◌<◌, IfOk, length};
 ghost use Rattle.verdict_lists.specs.World.{AreRoots, IsWhole, world_of};
 ghost use Rattle.service_effects.specs.States.{recorded_in};
 ghost use Rattle.request_effects.specs.declared.shows.Showing.TheVariants as showing;
 ghost use Rattle.request_effects.specs.Answers.{Answers, HasResult, done_with, listed_in};
 
+use crate::showing::done;
+use artifact_pages::{ArtifactQuery, show_artifacts};
 use call_forms::Answer;
 use lists::Bytes;
+use message_forms::{Reply, ShownArtifact};
 use query_pages::{Asker, ResultQuery, VerdictQuery, show_result, show_results, show_verdicts};
 use query_replies::{write_result, write_results_page, write_verdicts_page};
 use service_effects::Tables;
@@ -95,4 +98,39 @@ pub(crate) fn see_verdicts(
     let view = view_of(tables);
     let page = show_verdicts(alloc, &view, asker, query)?;
     Ok(done_with(write_verdicts_page(alloc, &page)?))
+}
+
+/// The answer that shows the artifact at a place, whole.
+pub(crate) fn see_artifact(
+    alloc: Global,
+    tables: &Tables,
+    asker: &Asker,
+    place: u32,
+) -> Result<Answer, AllocError>
+    requires { place < length tables.now.artifacts.rows }
+    ensures { IfOk result (Answers (record {
+      settings = record { policy = asker.now.policy.now };
+      world = recorded_in tables.now;
+    }) asker.now.caller (showing.Artifact place)) }
+{
+    let _ = asker;
+    let row = tables.artifacts.row(place);
+    done(alloc, None, &Reply::Artifact(ShownArtifact { row }))
+}
+
+/// The answer that shows a page of artifacts.
+pub(crate) fn see_artifacts(
+    alloc: Global,
+    tables: &Tables,
+    asker: &Asker,
+    query: &ArtifactQuery,
+) -> Result<Answer, AllocError>
+    ensures { IfOk result (Answers (record {
+      settings = record { policy = asker.now.policy.now };
+      world = recorded_in tables.now;
+    }) asker.now.caller (showing.Artifacts query.now)) }
+{
+    let _ = asker;
+    let page = show_artifacts(alloc, &tables.artifacts, query)?;
+    done(alloc, None, &Reply::Artifacts(page))
 }

@@ -1,5 +1,6 @@
 //! The answer that shows what a request leaves, written before anything is done.
 ghost use Rattle.std.specs.Prelude.{◌≡◌, ◌<◌, List, None, Some, All, IfOk, length, map, slice_get};
+ghost use Rattle.artifacts.specs.Requests.{DigestedState};
 ghost use Rattle.invocation_world.specs.World.{World};
 ghost use Rattle.test_results.specs.declared.exoneration.TestExoneration.{TestExoneration};
 ghost use Rattle.test_results.specs.declared.result.TestResult.{TestResult};
@@ -10,16 +11,20 @@ ghost use Rattle.service_effects.specs.Service.{Recorded};
 ghost use Rattle.service_effects.specs.States.{IsRoomier, recorded_in};
 ghost use Rattle.request_effects.specs.Answers.{Answers, Fits};
 ghost use Rattle.request_effects.specs.Keeps.{kept_answer, made_answer};
-ghost use Rattle.request_effects.specs.Shows.{answer_of, done, exonerations_reply, ids_at, part_of, reply_at, results_reply, shown_with, token_at};
+ghost use Rattle.request_effects.specs.Shows.{answer_of, artifacts_reply, done, exonerations_reply, ids_at, part_of};
+ghost use Rattle.request_effects.specs.Shows.{reply_at, results_reply, shown_with, token_at};
 
 use crate::ahead::{Ahead, Seen, ends_at_once};
-use crate::seeing::{see_result, see_results, see_verdicts};
+use crate::seeing::{see_artifact, see_artifacts, see_result, see_results, see_verdicts};
 use crate::shows::{Showing, Shows};
+use artifacts::Artifact;
 use call_forms::Answer;
 use invocation_world::InvocationWorld;
 use invocations::Invocation;
 use kept_replies::KeptAnswer;
-use message_forms::{Reply, ShownExonerations, ShownInvocation, ShownResults, write_reply};
+use message_forms::{
+    Reply, ShownArtifacts, ShownExonerations, ShownInvocation, ShownResults, write_reply,
+};
 use names_realms::{InvocationId, Moment, Pair};
 use permissions::Policy;
 use query_pages::Asker;
@@ -65,7 +70,11 @@ fn shown_with<'r, 'i>(seen: &Seen<'r>, included: &'r [&'i InvocationId]) -> Show
 
 /// The answer that a request succeeded, with this reply. `Err` where there is no memory for its
 /// text.
-fn done(alloc: Global, token: Option<[u8; 64]>, reply: &Reply) -> Result<Answer, AllocError>
+pub(crate) fn done(
+    alloc: Global,
+    token: Option<[u8; 64]>,
+    reply: &Reply,
+) -> Result<Answer, AllocError>
     ensures { IfOk result (λ answer. answer ≡ done token reply.now) }
 {
     let body = write_reply(alloc, reply)?;
@@ -122,6 +131,20 @@ fn exonerations_reply<'r>(world: &'r InvocationWorld, rows: &'r [TestExoneration
         invocation: &world.row(row.holder).id,
         rows,
     })
+}
+
+/// What is shown of artifacts. `Err` where there is no memory for it.
+fn artifacts_reply<'r>(alloc: Global, rows: &'r [Artifact]) -> Result<Reply<'r, 'r>, AllocError>
+    ensures { IfOk result (λ reply. reply ≡ artifacts_reply rows.now) }
+{
+    let mut shown = Vec::with_capacity(alloc, rows.len())?;
+    for row in rows {
+        shown.push(row)?;
+    }
+    Ok(Reply::Artifacts(ShownArtifacts {
+        rows: shown,
+        next: None,
+    }))
 }
 
 impl<'r> Ahead<'r> {
@@ -194,6 +217,19 @@ impl<'r> Ahead<'r> {
         )
     }
 
+    /// The answer that shows the artifacts that will be added. `Err` where there is no memory for
+    /// it.
+    fn artifacts(&self, alloc: Global) -> Result<Answer, AllocError>
+        requires { (batch : DigestedState) × (self.now.effect.now ≡ Effect.Artifacts batch) }
+        ensures { (batch : DigestedState) → self.now.effect.now ≡ Effect.Artifacts batch
+            → IfOk result (λ answer. answer ≡ done None (artifacts_reply batch.rows)) }
+    {
+        let Effect::Artifacts(batch) = self.effect else {
+            unreachable!()
+        };
+        done(alloc, None, &artifacts_reply(alloc, batch.rows())?)
+    }
+
     /// The answer that shows this.
     fn show(&self, alloc: Global, policy: &Policy, shows: Shows) -> Result<Answer, AllocError>
         requires foresees { Foresees self.now }
@@ -211,6 +247,7 @@ impl<'r> Ahead<'r> {
             }
             Shows::Results { .. } => self.results(alloc),
             Shows::Exonerations { .. } => self.exonerations(alloc),
+            Shows::Artifacts { .. } => self.artifacts(alloc),
         }
     }
 }
@@ -269,6 +306,8 @@ pub fn show(
         Showing::Result(place) => see_result(alloc, tables, asker, *place),
         Showing::Results(query) => see_results(alloc, tables, asker, query),
         Showing::Verdicts(query) => see_verdicts(alloc, tables, asker, query),
+        Showing::Artifact(place) => see_artifact(alloc, tables, asker, *place),
+        Showing::Artifacts(query) => see_artifacts(alloc, tables, asker, query),
     }
 }
 
@@ -322,6 +361,10 @@ pub fn show_kept(
         KeptAnswer::Exonerations { first, count } => {
             let rows = part_of(tables.exonerations.rows(), *first, *count);
             done(alloc, None, &exonerations_reply(&tables.world, rows))
+        }
+        KeptAnswer::Artifacts { first, count } => {
+            let rows = part_of(tables.artifacts.rows(), *first, *count);
+            done(alloc, None, &artifacts_reply(alloc, rows)?)
         }
     }
 }

@@ -1,14 +1,17 @@
 //! What a request shows, by places.
 ghost use Rattle.std.specs.Prelude.{◌≡◌, IfOk};
 ghost use Rattle.service_effects.specs.States.{recorded_in};
-ghost use Rattle.request_effects.specs.Shows.{result_query, shows_exonerations, shows_of, shows_result, shows_results, shows_row, verdict_query};
-ghost use Rattle.request_rules.specs.Demands.{demand_of};
-ghost use Rattle.request_rules.specs.Locating.{located};
+ghost use Rattle.request_effects.specs.Shows.{artifacts_page, result_query, shows_artifact, shows_artifacts};
+ghost use Rattle.request_effects.specs.Shows.{shows_exonerations, shows_of, shows_result, shows_results, shows_row};
+ghost use Rattle.request_effects.specs.Shows.{verdict_query};
+ghost use Rattle.request_demands.specs.Demands.{demand_of};
+ghost use Rattle.request_effects.specs.Places.{located_in};
 ghost use Rattle.request_rules.specs.Named.{first_place, places_in};
 
 use crate::cursors::{copied_result, copied_verdict};
+use artifact_pages::ArtifactQuery;
 use lists::Numbers;
-use message_forms::Request;
+use message_forms::{ListArtifacts, Request};
 use query_forms::{QueryTestResults, QueryTestVariants};
 use query_pages::{ResultQuery, VerdictQuery};
 use request_rules::Located;
@@ -29,6 +32,8 @@ pub enum Shows {
     Results { first: u32, count: usize },
     /// So many exonerations, one behind the other, from this place on.
     Exonerations { first: u32, count: usize },
+    /// So many artifacts, one behind the other, from this place on.
+    Artifacts { first: u32, count: usize },
 }
 
 /// What is shown to who asks.
@@ -42,6 +47,10 @@ pub enum Showing {
     Results(ResultQuery),
     /// A page of verdicts.
     Verdicts(VerdictQuery),
+    /// The artifact at this place, in order of arrival and counted from 0, with its contents.
+    Artifact(u32),
+    /// A page of artifacts.
+    Artifacts(ArtifactQuery),
 }
 
 /// The invocation at a place, if there is one.
@@ -80,6 +89,19 @@ fn shows_exonerations(tables: &Tables, place: Option<u32>, count: usize) -> Show
     }
 }
 
+/// So many new artifacts of the invocation at a place, if there is one.
+fn shows_artifacts(tables: &Tables, place: Option<u32>, count: usize) -> Shows
+    ensures { result ≡ shows_artifacts (recorded_in tables.now) place count }
+{
+    match place {
+        Some(_) => Shows::Artifacts {
+            first: tables.artifacts.count(),
+            count,
+        },
+        None => Shows::Empty,
+    }
+}
+
 /// The test result at a place, if there is one.
 fn shows_result(place: Option<u32>) -> Showing
     ensures { result ≡ shows_result place }
@@ -87,6 +109,31 @@ fn shows_result(place: Option<u32>) -> Showing
     match place {
         Some(place) => Showing::Result(place),
         None => Showing::Alike(Shows::Empty),
+    }
+}
+
+/// The artifact at a place, if there is one.
+fn shows_artifact(place: Option<u32>) -> Showing
+    ensures { result ≡ shows_artifact place }
+{
+    match place {
+        Some(place) => Showing::Artifact(place),
+        None => Showing::Alike(Shows::Empty),
+    }
+}
+
+/// The page of artifacts that is asked for, of the invocation at a place, if there is one. `Err`
+/// where there is no memory.
+fn artifacts_page(
+    alloc: Global,
+    place: Option<u32>,
+    q: &ListArtifacts,
+) -> Result<Showing, AllocError>
+    ensures { IfOk result (λ showing. showing ≡ artifacts_page place q.now) }
+{
+    match place {
+        Some(holder) => Ok(Showing::Artifacts(ArtifactQuery::of(alloc, holder, q)?)),
+        None => Ok(Showing::Alike(Shows::Empty)),
     }
 }
 
@@ -131,16 +178,15 @@ fn verdict_query(
     })
 }
 
-/// What a request shows, where the invocations and the result that it names stand at these places.
-/// `Err` where there is no memory for the page that it asks for.
+/// What a request shows, where the invocations, the result and the artifact that it names stand at
+/// these places. `Err` where there is no memory for the page that it asks for.
 pub fn shows_of(
     alloc: Global,
     tables: &Tables,
     places: &Located,
     request: &Request,
 ) -> Result<Showing, AllocError>
-    requires { places.now ≡ located tables.now.world.world.invocations tables.now.results.rows
-        (demand_of request.now) }
+    requires { places.now ≡ located_in (recorded_in tables.now) (demand_of request.now) }
     ensures { IfOk result (λ showing. showing ≡ shows_of (recorded_in tables.now) request.now) }
 {
     let first = shows_row(places.first());
@@ -165,5 +211,11 @@ pub fn shows_of(
         Request::QueryTestVariants(q) => {
             Ok(Showing::Verdicts(verdict_query(alloc, tables, places, q)?))
         }
+        Request::BatchCreateArtifacts(q) => {
+            let count = q.requests.len();
+            Ok(Showing::Alike(shows_artifacts(tables, places.first(), count)))
+        }
+        Request::GetArtifact(_) => Ok(shows_artifact(places.artifact())),
+        Request::ListArtifacts(q) => artifacts_page(alloc, places.first(), q),
     }
 }

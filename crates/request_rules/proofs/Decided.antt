@@ -18,26 +18,23 @@ use Rattle.inclusion_graph.proofs.ListLemmas.{in_one}
 use Rattle.invocations.specs.declared.invocation.Invocation.{Invocation}
 use Rattle.call_forms.specs.declared.asked.Asked.{Asked}
 use Rattle.call_forms.specs.declared.forms.Refusal.{Refusal}
-use Rattle.message_forms.specs.declared.requests.Method.{Method}
-use Rattle.message_forms.specs.declared.requests.Request.{Request}
-use Rattle.message_forms.specs.Methods.{method_of}
 use Rattle.invocation_forms.specs.Replies.{state_text}
-use Rattle.message_forms.proofs.FaultLaws.{asks_or_has_fault, fault_is_refused}
 use Rattle.request_rules.specs.declared.rules.Rule.{Rule}
 use Rattle.request_rules.specs.declared.rules.Rule.TheVariants as rule
-use Rattle.request_rules.specs.Settings.{Settings, caller_name, caller_of, secret_of}
-use Rattle.names_realms.specs.declared.result_names.ResultName.{ResultName}
-use Rattle.test_results.specs.declared.result.TestResult.{TestResult}
-use Rattle.request_rules.specs.declared.grants.Grant.{Grant}
-use Rattle.request_rules.specs.declared.grants.Grant.TheVariants.{One, Either}
-use Rattle.request_rules.specs.Grants.{Has, named_by}
-use Rattle.request_rules.specs.Demands.{Demand, Right, rights_taken}
-use Rattle.request_rules.specs.Numbered.{digest_of, kept_for}
-use Rattle.request_rules.specs.Named.{named, place_named, place_of_result}
-use Rattle.request_rules.specs.Order.{FirstOf, IsUnbroken}
-use Rattle.request_rules.specs.Broken.{BadUpdateToken, Case, IsAbsent, Sought, invocation_with, result_named, name_of, sought, DeadlineRange, Denied, HasNoMethod, IsBroken, IsInReach, IsMissing, IsRefusedAlone, IsRepeat, Itself, Lacks, NoUpdateToken, NotActive, NotFound, RequestIdReused, Taken, TooMany, Wants, denied, greatest_lifetime, least_lifetime, of_invocation, out_of_reach, refusal, target_of}
+use Rattle.request_demands.specs.Settings.{Settings, caller_name, secret_of}
+use Rattle.request_demands.specs.declared.grants.Grant.{Grant}
+use Rattle.request_demands.specs.declared.grants.Grant.TheVariants.{One, Either}
+use Rattle.request_demands.specs.Grants.{Has, named_by}
+use Rattle.request_demands.specs.Demands.{Demand}
+use Rattle.request_rules.specs.Rights.{Right, rights_taken}
+use Rattle.request_demands.specs.Numbered.{digest_of, kept_for}
+use Rattle.request_rules.specs.Held.{Held}
+use Rattle.request_rules.specs.Named.{named, place_named, place_of_artifact, place_of_result}
+use Rattle.request_demands.specs.Order.{FirstOf, IsUnbroken}
+use Rattle.request_rules.specs.Broken.{BadUpdateToken, Case, IsAbsent, Sought, invocation_with, result_named, artifact_named, name_of, sought, DeadlineRange, Denied, IsBroken, IsInReach, IsMissing, IsRepeat, Itself, Lacks, NoUpdateToken, NotActive, NotFound, RequestIdReused, Taken, TooMany, denied, greatest_lifetime, least_lifetime, of_invocation, out_of_reach}
+use Rattle.request_demands.specs.Alone.{refusal}
 use Rattle.request_rules.proofs.Firsts.{no_first}
-use Rattle.request_rules.proofs.Judged.{Told}
+use Rattle.request_demands.proofs.Judged.{Told}
 
 -- ---- lists
 
@@ -117,20 +114,23 @@ repeat_or_not x d = repeat_at x d (kept_for x.kept (caller_name x.settings x.cal
 
 -- ---- rules
 
-absent_at : (rows : List Invocation) (results : List TestResult) (name : ResultName) (o : Option ℕ) → place_of_result rows results name ≡ o
-    → IsAbsent rows results (result_named name) ⊎ (IsAbsent rows results (result_named name) → ⊥)
-absent_at rows results name None e = inl e
-absent_at rows results name (Some p) e = inr (λ none. none-some p (sym none ∙ e))
+placed_or_not : (rows : List Invocation) (held : Held) (what : Sought) (o : Option ℕ) → (IsAbsent rows held what → o ≡ None)
+    → (o ≡ None → IsAbsent rows held what) → IsAbsent rows held what ⊎ (IsAbsent rows held what → ⊥)
+placed_or_not rows held what None told is = inl (is refl)
+placed_or_not rows held what (Some p) told is = inr (λ none. none-some p (sym (told none)))
 
-absent_or_not : (rows : List Invocation) (results : List TestResult) (what : Sought)
-    → IsAbsent rows results what ⊎ (IsAbsent rows results what → ⊥)
-absent_or_not rows results (invocation_with id) = missing_or_not rows id
-absent_or_not rows results (result_named name) = absent_at rows results name (place_of_result rows results name) refl
+absent_or_not : (rows : List Invocation) (held : Held) (what : Sought)
+    → IsAbsent rows held what ⊎ (IsAbsent rows held what → ⊥)
+absent_or_not rows held (invocation_with id) = missing_or_not rows id
+absent_or_not rows held (result_named name) =
+    placed_or_not rows held (result_named name) (place_of_result rows held.results name) (λ e. e) (λ e. e)
+absent_or_not rows held (artifact_named name) =
+    placed_or_not rows held (artifact_named name) (place_of_artifact rows held.artifacts name) (λ e. e) (λ e. e)
 
-not_found_told : (rows : List Invocation) (results : List TestResult) (d : Demand) (found : Option Sought)
-    → FirstOf (IsAbsent rows results) (sought d) found → Told (NotFound rows results d)
-not_found_told rows results d None first = inr (λ r is. no_first (IsAbsent rows results) (sought d) first is.what is.first)
-not_found_told rows results d (Some what) first =
+not_found_told : (rows : List Invocation) (held : Held) (d : Demand) (found : Option Sought)
+    → FirstOf (IsAbsent rows held) (sought d) found → Told (NotFound rows held d)
+not_found_told rows held d None first = inr (λ r is. no_first (IsAbsent rows held) (sought d) first is.what is.first)
+not_found_told rows held d (Some what) first =
     inl (refusal 8 (name_of what), record { what = what; first = first; refusal_is = refl })
 
 no_token_told : (asked : Asked) (d : Demand) (o t : Option (List ℕ)) → d.changed ≡ o → asked.update_token ≡ t
@@ -261,8 +261,8 @@ broken_told x d rule.RequestIdReused =
     let name = caller_name x.settings x.caller in
     reused_told x.kept name x.asked d d.number (kept_for x.kept name d) refl refl
 broken_told x d rule.NotFound =
-    let first = first_there (IsAbsent x.rows x.results) (absent_or_not x.rows x.results) (sought d) in
-    not_found_told x.rows x.results d first.0 first.1
+    let first = first_there (IsAbsent x.rows x.held) (absent_or_not x.rows x.held) (sought d) in
+    not_found_told x.rows x.held d first.0 first.1
 broken_told x d rule.NoUpdateToken = no_token_told x.asked d d.changed x.asked.update_token refl refl
 broken_told x d rule.BadUpdateToken = bad_token_told x.settings x.asked d d.changed x.asked.update_token refl refl
 broken_told x d rule.Denied =
@@ -273,49 +273,3 @@ broken_told x d rule.DeadlineRange = deadline_told x.moment d d.deadline refl
 broken_told x d rule.Itself = itself_told d d.changed refl
 broken_told x d rule.TooMany = many_told d
 broken_told x d rule.Taken = taken_told x.rows d d.makes refl
-
--- ---- what a request says by itself
-
--- A request breaks a rule by itself, or a caller wants something.
-abbrev pub IsSaid : Settings → Asked → Type 0
-IsSaid s asked =
-    ((r : Refusal) × IsRefusedAlone s asked r) ⊎ ((caller : ℕ) × (request : Request) × Wants s asked caller request)
-
-method_there : (asked : Asked) (method : Method) → method_of asked.service asked.method ≡ Some method → IsUnbroken (HasNoMethod asked)
-method_there asked method e r is = none-some method (sym is.0 ∙ e)
-
-body_said : (s : Settings) (asked : Asked) (method : Method) (caller : ℕ) → method_of asked.service asked.method ≡ Some method
-    → caller_of s asked.bearer ≡ Some caller → IsSaid s asked
-body_said s asked method caller e f =
-    elim (asks_or_has_fault asked.service asked.method asked.body) [
-      | inl asks ↦ inr (caller, asks.0, record { caller_is = f; asks = asks.1 })
-      | inr faulty ↦
-          let refused = fault_is_refused asked.service asked.method asked.body (target_of asked) faulty.0 faulty.1 in
-          inl (
-            refused.0,
-            inr (
-              method_there asked method e,
-              inr (
-                λ r is. none-some caller (sym is.0 ∙ f),
-                inl (
-                  refused.0,
-                  record { method = method; named = e; fault = faulty.0; has = faulty.1; refusal_is = refused.1 },
-                  refl,
-                ),
-              ),
-            ),
-          )
-    ]
-
-caller_said : (s : Settings) (asked : Asked) (method : Method) (o : Option ℕ) → method_of asked.service asked.method ≡ Some method
-    → caller_of s asked.bearer ≡ o → IsSaid s asked
-caller_said s asked method None e f =
-    inl (refusal 2 [], inr (method_there asked method e, inl (refusal 2 [], (f, refl), refl)))
-caller_said s asked method (Some caller) e f = body_said s asked method caller e f
-
-method_said : (s : Settings) (asked : Asked) (o : Option Method) → method_of asked.service asked.method ≡ o → IsSaid s asked
-method_said s asked None e = inl (refusal 1 (target_of asked), inl (refusal 1 (target_of asked), (e, refl), refl))
-method_said s asked (Some method) e = caller_said s asked method (caller_of s asked.bearer) e refl
-
-pub said : (s : Settings) (asked : Asked) → IsSaid s asked
-said s asked = method_said s asked (method_of asked.service asked.method) refl

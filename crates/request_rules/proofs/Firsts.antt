@@ -7,8 +7,8 @@ use Rattle.request_rules.specs.declared.breaches.Breach.{Breach}
 use Rattle.request_rules.specs.declared.rules.Rule.{Rule}
 use Rattle.request_rules.specs.Breaches.{Finds}
 use Rattle.request_rules.specs.Broken.{Case, IsBroken}
-use Rattle.request_rules.specs.Demands.{Demand}
-use Rattle.request_rules.specs.Order.{FirstOf, IsUnbroken, Judges}
+use Rattle.request_demands.specs.Demands.{Demand}
+use Rattle.request_demands.specs.Order.{FirstOf, IsUnbroken, Judges}
 
 -- where it holds of none, it holds of no first one
 pub no_first : {A : Type 0} → (Holds : A → Type 0) → (xs : List A) → FirstOf Holds xs None → (x : A) → ¬ FirstOf Holds xs (Some x)

@@ -1,11 +1,10 @@
 pub mod Firsts
-pub mod Judged
 pub mod RuleFacts
 pub mod PlaceLaws
+pub mod ActiveLaws
+pub mod KeyPlaces
 pub mod ResultPlaces
-pub mod PolicyLaws
-pub mod ReadLaws
-pub mod CauseLaws
+pub mod ArtifactPlaces
 pub mod RightLaws
 pub mod Decided
-pub mod NumberLaws
+pub mod ReuseLaws

@@ -13,7 +13,7 @@ use Rattle.policy_checks.proofs.PlaceLemmas.{place_step, place_of-within}
 use Rattle.invocations.specs.declared.invocation.Invocation.{Invocation}
 use Rattle.invocations.specs.Rows.{HasId, IsPlaceOf, IsTable, ids_of}
 use Rattle.request_rules.specs.Broken.{IsMissing}
-use Rattle.request_rules.specs.Order.{FirstOf}
+use Rattle.request_demands.specs.Order.{FirstOf}
 use Rattle.request_rules.proofs.Firsts.{drop_at}
 use Rattle.request_rules.specs.Locating.{place_if}
 use Rattle.request_rules.specs.Named.{all_found, named, place_named, places_in, places_named, row_at}

@@ -1,12 +1,12 @@
 -- Rights in the realms of several invocations, one invocation at a time.
 use Rattle.std.proofs.Common.{◌≡◌, ◌<◌, ◌+◌, ℕ, List, [], ◌∷◌, ◌++◌, length, map, take, drop, get_or, refl, add-one, Option, Some, None, sym, subst, ◌∙◌, ap}
-use Rattle.request_rules.specs.declared.grants.Grant.{Grant}
+use Rattle.request_demands.specs.declared.grants.Grant.{Grant}
 use Rattle.std.proofs.Math.Seq.{take-suc}
 use Rattle.std.proofs.lemmas.List.{map-append}
 use Rattle.invocations.specs.declared.invocation.Invocation.{Invocation}
-use Rattle.request_rules.specs.Demands.{Right, right, rights_here, rights_in, rights_of}
+use Rattle.request_rules.specs.Rights.{Right, right, rights_here, rights_in, rights_of}
 use Rattle.request_rules.specs.Named.{row_at}
-use Rattle.request_rules.specs.Order.{FirstOf}
+use Rattle.request_demands.specs.Order.{FirstOf}
 use Rattle.request_rules.proofs.Firsts.{drop_at, first_in_front, first_in_more}
 
 module _ (Holds : Right → Type 0) (rows : List Invocation) (takes : List Grant) (places : List (Option ℕ)) (i : ℕ) (place : Option ℕ)

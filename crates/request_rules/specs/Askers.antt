@@ -5,11 +5,12 @@ use Rattle.policy_checks.specs.declared.permission.Permission.{Permission}
 use Rattle.policy_tables.specs.declared.tables.PolicyTables.{PolicyTables}
 use Rattle.permissions.specs.Granting.{Granting}
 use Rattle.request_rules.specs.declared.judging.Situation.{Situation}
-use Rattle.request_rules.specs.declared.grants.Grant.{Grant}
+use Rattle.request_demands.specs.declared.grants.Grant.{Grant}
 use Rattle.request_rules.specs.declared.rights.Asker.{Asker}
-use Rattle.request_rules.specs.Demands.{Demand}
-use Rattle.request_rules.specs.Grants.{permissions_of}
+use Rattle.request_demands.specs.Demands.{Demand}
+use Rattle.request_demands.specs.Grants.{permissions_of}
 use Rattle.request_rules.specs.Locating.{located}
+use Rattle.request_rules.specs.Breaches.{held_by}
 
 -- the permissions that are asked in the realms of these invocations, where they are more than
 -- eight
@@ -34,4 +35,4 @@ pub record IsAsker (asker : Asker) : Type 0 where
 pub record MayJudge (x : Situation) (caller : ℕ) (d : Demand) : Type 0 where
   pub there : caller < length x.policy.now.users
   pub held : All (IsHeldBy x.policy.now caller) x.holdings.now
-  pub located : x.located.now ≡ located x.table.now.rows x.results.now.rows d
+  pub located : x.located.now ≡ located x.table.now.rows (held_by x) d

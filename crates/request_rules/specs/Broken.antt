@@ -1,90 +1,37 @@
--- Which rules a request breaks. Each rule is said by itself.
-use Rattle.std.specs.Prelude.{◌≡◌, ◌≢◌, ℕ, ◌<◌, ◌==◌, if◌then◌else◌, ℤ, pos, ◌+ℤ◌, ◌≤ℤ◌, List, [], ◌∷◌, ◌++◌, length, map, Contains, codes, decimal, Some, None}
+-- Which rules a request breaks by what it demands. Each rule is said by itself.
+use Rattle.std.specs.Prelude.{◌≡◌, ◌≢◌, ℕ, ◌<◌, ℤ, pos, ◌+ℤ◌, ◌≤ℤ◌, List, [], ◌∷◌, ◌++◌, length, map, Contains, codes, decimal, Some, None}
 use Rattle.std.specs.Option.{option_to_list}
 use Rattle.moments_spans.specs.Moments.{moment_text}
 use Rattle.names_realms.specs.Names.{invocation_name}
 use Rattle.names_realms.specs.ResultNames.{result_name}
 use Rattle.names_realms.specs.declared.result_names.ResultName.{ResultName}
+use Rattle.names_realms.specs.ArtifactNames.{artifact_name}
+use Rattle.names_realms.specs.declared.artifact_names.ArtifactName.{ArtifactName}
 use Rattle.names_realms.specs.declared.states.State.TheVariants.{Active}
 use Rattle.policy_tables.specs.declared.tables.PolicyTables.{PolicyTables}
 use Rattle.policy_checks.specs.declared.permission.Permission.{Permission}
 use Rattle.policy_checks.specs.Permissions.{permission_text}
 use Rattle.update_tokens.specs.Hash.{token_text}
 use Rattle.kept_replies.specs.declared.reply.KeptReply.{KeptReply}
-use Rattle.test_results.specs.declared.result.TestResult.{TestResult}
 use Rattle.invocations.specs.declared.invocation.Invocation.{Invocation}
 use Rattle.call_forms.specs.declared.asked.Asked.{Asked}
 use Rattle.call_forms.specs.declared.forms.Refusal.{Refusal}
-use Rattle.message_forms.specs.declared.requests.Method.{Method}
-use Rattle.message_forms.specs.declared.requests.Request.{Request}
-use Rattle.message_forms.specs.declared.reading.FormFault.{FormFault}
-use Rattle.message_forms.specs.Methods.{method_of}
-use Rattle.message_forms.specs.Reading.{Asks, HasFault}
-use Rattle.message_forms.specs.Refusals.{refusal_of}
 use Rattle.invocation_forms.specs.Replies.{state_text}
 use Rattle.request_rules.specs.declared.rules.Rule.{Rule}
 use Rattle.request_rules.specs.declared.rules.Rule.TheVariants as rule
-use Rattle.request_rules.specs.Settings.{Settings, caller_name, caller_of, secret_of}
-use Rattle.request_rules.specs.Grants.{Has, named_by}
-use Rattle.request_rules.specs.Named.{named, place_named, place_of_result}
-use Rattle.request_rules.specs.Demands.{Demand, Right, rights_taken}
-use Rattle.request_rules.specs.Numbered.{IsReused, IsRepeatOf}
-use Rattle.request_rules.specs.Order.{FirstOf, Judges}
-
-abbrev pub refusal : ℕ → List ℕ → Refusal
-refusal number subject = record { rule = number; subject = subject }
+use Rattle.request_demands.specs.Settings.{Settings, caller_name, secret_of}
+use Rattle.request_demands.specs.Grants.{Has, named_by}
+use Rattle.request_rules.specs.Held.{Held}
+use Rattle.request_rules.specs.Named.{named, place_named, place_of_artifact, place_of_result}
+use Rattle.request_demands.specs.Demands.{Demand}
+use Rattle.request_rules.specs.Rights.{Right, rights_taken}
+use Rattle.request_demands.specs.Numbered.{IsReused, IsRepeatOf}
+use Rattle.request_demands.specs.Order.{FirstOf}
+use Rattle.request_demands.specs.Alone.{refusal}
 
 -- the refusal that names an invocation
 abbrev pub of_invocation : ℕ → List ℕ → Refusal
 of_invocation number id = refusal number (invocation_name id)
-
--- What a request aims at: a request outside the route has no service, and its whole target as the
--- method.
-abbrev pub target_of : Asked → List ℕ
-target_of asked =
-    if length asked.service == 0 then asked.method
-    else codes "/prpc/" ++ (asked.service ++ (codes "/" ++ asked.method))
-
--- Rule 1: the method is one that is served.
-abbrev pub HasNoMethod : Asked → Refusal → Type 0
-HasNoMethod asked r =
-    (method_of asked.service asked.method ≡ None) × (r ≡ refusal 1 (target_of asked))
-
--- Rule 2: the bearer token is a user's.
-abbrev pub HasNoCaller : Settings → Asked → Refusal → Type 0
-HasNoCaller s asked r = (caller_of s asked.bearer ≡ None) × (r ≡ refusal 2 [])
-
--- Rules 3 to 6: the body is JSON, and each of its fields is of its kind, set where it must be, and
--- in its form.
-pub record HasBadBody (asked : Asked) (r : Refusal) : Type 0 where
-  pub method : Method
-  pub named : method_of asked.service asked.method ≡ Some method
-  pub fault : FormFault
-  pub has : HasFault asked.service asked.method asked.body fault
-  pub refusal_is : refusal_of (target_of asked) fault ≡ Some r
-
--- The rules that are asked of a request by itself, whatever the world, and their order.
-pub data Alone : Type 0 where
-  method_known : Alone
-  caller_known : Alone
-  body_right : Alone
-
-abbrev pub IsBrokenAlone : Settings → Asked → Alone → Refusal → Type 0
-IsBrokenAlone s asked method_known r = HasNoMethod asked r
-IsBrokenAlone s asked caller_known r = HasNoCaller s asked r
-IsBrokenAlone s asked body_right r = HasBadBody asked r
-
-abbrev pub order_alone : List Alone
-order_alone = method_known ∷ caller_known ∷ body_right ∷ []
-
--- The request breaks one of them, and this is the first.
-abbrev pub IsRefusedAlone : Settings → Asked → Refusal → Type 0
-IsRefusedAlone s asked r = Judges (IsBrokenAlone s asked) order_alone (Some r)
-
--- A caller asks for this. The rules below are asked of what a caller demands.
-pub record Wants (s : Settings) (asked : Asked) (caller : ℕ) (request : Request) : Type 0 where
-  pub caller_is : caller_of s asked.bearer ≡ Some caller
-  pub asks : Asks asked.service asked.method asked.body request
 
 -- Rule 7: no other request of the caller was accepted under the number of the request.
 pub record RequestIdReused (kept : List KeptReply) (name : List ℕ) (asked : Asked) (d : Demand)
@@ -99,30 +46,34 @@ pub record RequestIdReused (kept : List KeptReply) (name : List ℕ) (asked : As
 abbrev pub IsMissing : List Invocation → List ℕ → Type 0
 IsMissing rows id = place_named rows id ≡ None
 
--- What is looked for: the invocation with an id, or the result of a name.
+-- What is looked for: the invocation with an id, or the result or the artifact of a name.
 pub data Sought : Type 0 where
   invocation_with : List ℕ → Sought
   result_named : ResultName → Sought
+  artifact_named : ArtifactName → Sought
 
 abbrev pub name_of : Sought → List ℕ
 name_of (invocation_with id) = invocation_name id
 name_of (result_named name) = result_name name
+name_of (artifact_named name) = artifact_name name
 
-abbrev pub IsAbsent : List Invocation → List TestResult → Sought → Type 0
-IsAbsent rows results (invocation_with id) = IsMissing rows id
-IsAbsent rows results (result_named name) = place_of_result rows results name ≡ None
+abbrev pub IsAbsent : List Invocation → Held → Sought → Type 0
+IsAbsent rows held (invocation_with id) = IsMissing rows id
+IsAbsent rows held (result_named name) = place_of_result rows held.results name ≡ None
+IsAbsent rows held (artifact_named name) = place_of_artifact rows held.artifacts name ≡ None
 
 -- what has to be there, in the order in which it is looked for
 abbrev pub sought : Demand → List Sought
 sought d =
-    map invocation_with (d.named ++ d.included) ++ map result_named (option_to_list d.row)
+    map invocation_with (d.named ++ d.included)
+    ++ (map result_named (option_to_list d.row) ++ map artifact_named (option_to_list d.artifact))
 
--- Rule 8: each invocation that is named is there, and then the result. The first that isn't is
--- named.
-pub record NotFound (rows : List Invocation) (results : List TestResult) (d : Demand)
-    (r : Refusal) : Type 0 where
+-- Rule 8: each invocation that is named is there, and then the result, and the artifact. The first
+-- that isn't is named.
+pub record NotFound (rows : List Invocation) (held : Held) (d : Demand) (r : Refusal)
+    : Type 0 where
   pub what : Sought
-  pub first : FirstOf (IsAbsent rows results) (sought d) (Some what)
+  pub first : FirstOf (IsAbsent rows held) (sought d) (Some what)
   pub refusal_is : r ≡ refusal 8 (name_of what)
 
 -- Rule 9: a request that changes an invocation shows an update token.
@@ -206,12 +157,13 @@ pub record Taken (rows : List Invocation) (d : Demand) (r : Refusal) : Type 0 wh
   pub taken : place_named rows id ≢ None
   pub refusal_is : r ≡ of_invocation 19 id
 
--- What rules look at: what the service is set up with, the invocations and results that are there
--- and what is kept of numbered requests, the moment of the call, and what was asked and by whom.
+-- What rules look at: what the service is set up with, the invocations that are there, what they
+-- hold, and what is kept of numbered requests, the moment of the call, and what was asked and by
+-- whom.
 pub record Case : Type 0 where
   pub settings : Settings
   pub rows : List Invocation
-  pub results : List TestResult
+  pub held : Held
   pub kept : List KeptReply
   pub moment : ℤ
   pub asked : Asked
@@ -226,7 +178,7 @@ IsRepeat x d reply =
 abbrev pub IsBroken : Case → Demand → Rule → Refusal → Type 0
 IsBroken x d rule.RequestIdReused r =
     RequestIdReused x.kept (caller_name x.settings x.caller) x.asked d r
-IsBroken x d rule.NotFound r = NotFound x.rows x.results d r
+IsBroken x d rule.NotFound r = NotFound x.rows x.held d r
 IsBroken x d rule.NoUpdateToken r = NoUpdateToken x.asked d r
 IsBroken x d rule.BadUpdateToken r = BadUpdateToken x.settings x.asked d r
 IsBroken x d rule.Denied r = Denied x.settings.policy x.rows x.caller d r

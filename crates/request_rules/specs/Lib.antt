@@ -1,12 +1,8 @@
+pub mod Held
 pub mod Named
-pub mod Settings
-pub mod Grants
-pub mod Demands
-pub mod Numbered
+pub mod Rights
 pub mod Locating
 pub mod Broken
-pub mod Order
-pub mod Understood
 pub mod Breaches
 pub mod Askers
 pub mod Again

@@ -2,17 +2,18 @@
 ghost use Rattle.std.specs.Prelude.{◌≡◌, ◌++◌, IfOk, codes, decimal};
 ghost use Rattle.moments_spans.specs.Moments.{moment_text};
 ghost use Rattle.names_realms.specs.ResultNames.{result_name};
+ghost use Rattle.names_realms.specs.ArtifactNames.{artifact_name};
 ghost use Rattle.policy_checks.specs.Permissions.{permission_text};
 ghost use Rattle.call_forms.specs.Rules.{refusal_answer};
 ghost use Rattle.invocation_forms.specs.Replies.{state_text};
 ghost use Rattle.request_rules.specs.Broken.{number_of};
 ghost use Rattle.request_rules.specs.Breaches.{refusal_of};
 
-use crate::refusals::refused;
 use crate::rules::Rule;
-use call_forms::Answer;
+use call_forms::{Answer, Refusal, write_refusal};
+use lists::Bytes;
 use message_forms::{LimitedText, RequestId, state_name};
-use names_realms::{InvocationId, Moment, Realm, ResultName, State};
+use names_realms::{ArtifactName, InvocationId, Moment, Realm, ResultName, State};
 use permissions::Permission;
 use std::alloc::{AllocError, Global};
 
@@ -30,6 +31,10 @@ pub enum Breach<'r> {
     /// The result that the request names isn't there.
     NoResult {
         name: &'r ResultName,
+    },
+    /// The artifact that the request names isn't there.
+    NoArtifact {
+        name: &'r ArtifactName,
     },
     /// The request changes the invocation, and shows no update token.
     NoUpdateToken {
@@ -107,6 +112,15 @@ fn result_text(alloc: Global, name: &ResultName) -> Result<Vec<u8>, AllocError>
     Ok(text)
 }
 
+/// The name of an artifact.
+fn artifact_text(alloc: Global, name: &ArtifactName) -> Result<Vec<u8>, AllocError>
+    ensures { IfOk result (λ text. text.items ≡ artifact_name name.now) }
+{
+    let mut text = Vec::new(alloc);
+    name.write_to(alloc, &mut text)?;
+    Ok(text)
+}
+
 /// The name of an invocation and its state, with a space between.
 fn state_of(alloc: Global, id: &InvocationId, state: State) -> Result<Vec<u8>, AllocError>
     ensures { IfOk result (λ text.
@@ -134,6 +148,7 @@ impl Breach<'_> {
             Breach::RequestIdReused { .. } => Rule::RequestIdReused,
             Breach::NotFound { .. } => Rule::NotFound,
             Breach::NoResult { .. } => Rule::NotFound,
+            Breach::NoArtifact { .. } => Rule::NotFound,
             Breach::NoUpdateToken { .. } => Rule::NoUpdateToken,
             Breach::BadUpdateToken { .. } => Rule::BadUpdateToken,
             Breach::Denied { .. } => Rule::Denied,
@@ -155,6 +170,7 @@ impl Breach<'_> {
             }
             Breach::NotFound { id } => name_text(alloc, id),
             Breach::NoResult { name } => result_text(alloc, name),
+            Breach::NoArtifact { name } => artifact_text(alloc, name),
             Breach::NoUpdateToken { id } => name_text(alloc, id),
             Breach::BadUpdateToken { id } => name_text(alloc, id),
             Breach::Denied { permission, realm } => right_text(alloc, permission, realm),
@@ -171,6 +187,8 @@ impl Breach<'_> {
     pub fn answer(&self, alloc: Global) -> Result<Answer, AllocError>
         ensures { IfOk result (λ answer. answer ≡ refusal_answer (refusal_of self.now)) }
     {
-        refused(alloc, self.rule().number(), self.subject(alloc)?)
+        let rule = self.rule().number();
+        let subject = Bytes::new(self.subject(alloc)?);
+        write_refusal(alloc, &Refusal { rule, subject })
     }
 }

@@ -3,14 +3,12 @@ ghost use Rattle.std.specs.Prelude.{◌≡◌, ◌<◌, ◌↔◌, ◌++◌, IfO
 ghost use Rattle.std.specs.List.{All, flat_map};
 ghost use Rattle.permissions.specs.Allows.{Allows};
 ghost use Rattle.request_rules.specs.Askers.{IsHeldBy, asked_often};
-ghost use Rattle.request_rules.specs.Demands.{demand_of};
-ghost use Rattle.request_rules.specs.Grants.{permissions_of};
+ghost use Rattle.request_demands.specs.Demands.{demand_of};
+ghost use Rattle.request_demands.specs.Grants.{permissions_of};
 
-use crate::demand::{Demand, demand_of};
-use crate::grants::Grant;
-use crate::reading::Call;
 use names_realms::Realm;
 use permissions::{CallerId, Granted, Permission, Policy};
+use request_demands::{Call, Demand, Grant, demand_of};
 use std::alloc::{AllocError, Global};
 use std::marker::Model;
 

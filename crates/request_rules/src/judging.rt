@@ -1,30 +1,30 @@
 //! Which rule a demand breaks, if any. Nothing here takes memory.
 ghost use Rattle.std.specs.Prelude.{◌≡◌, ◌↔◌, ℕ, IsTrue, Contains, List, option_map};
 ghost use Rattle.invocations.specs.declared.invocation.Invocation.{Invocation};
-ghost use Rattle.test_results.specs.declared.result.TestResult.{TestResult};
 ghost use Rattle.call_forms.specs.declared.asked.Asked.{Asked};
 ghost use Rattle.kept_replies.specs.declared.reply.KeptReply.{KeptReply};
-ghost use Rattle.request_rules.specs.Demands.{demand_of};
+ghost use Rattle.request_demands.specs.Demands.{demand_of};
 ghost use Rattle.request_rules.specs.Locating.{located};
-ghost use Rattle.request_rules.specs.Broken.{IsBroken, BadUpdateToken, DeadlineRange, Denied, IsInReach, Itself, NoUpdateToken, NotActive, NotFound, RequestIdReused, Taken, TooMany};
-ghost use Rattle.request_rules.specs.Order.{Judges};
-ghost use Rattle.request_rules.specs.Settings.{Settings, caller_name};
-ghost use Rattle.request_rules.specs.Numbered.{IsNumbered};
-ghost use Rattle.request_rules.specs.Understood.{IsCallOf, IsChecked};
+ghost use Rattle.request_rules.specs.Held.{Held};
+ghost use Rattle.request_rules.specs.Broken.{IsBroken, BadUpdateToken, DeadlineRange, Denied, IsInReach, Itself};
+ghost use Rattle.request_rules.specs.Broken.{NoUpdateToken, NotActive, NotFound, RequestIdReused, Taken, TooMany};
+ghost use Rattle.request_demands.specs.Order.{Judges};
+ghost use Rattle.request_demands.specs.Settings.{Settings, caller_name};
+ghost use Rattle.request_demands.specs.Numbered.{IsNumbered};
+ghost use Rattle.request_demands.specs.Understood.{IsCallOf, IsChecked};
 ghost use Rattle.request_rules.specs.Breaches.{Finds, case_of, refusal_of};
 ghost use Rattle.request_rules.specs.Askers.{IsAsker, MayJudge};
 
 use crate::breaches::Breach;
-use crate::demand::{Demand, demand_of};
 use crate::holdings::Holding;
-use crate::locating::{Located, first_missing, missing_result, row_at};
-use crate::numbers::NumberCheck;
-use crate::reading::{Call, TokenCheck};
+use crate::locating::{Located, first_missing, missing_artifact, missing_result, row_at};
 use crate::rights::Asker;
 use crate::rules::Rule;
+use artifacts::ArtifactRows;
 use invocations::Table;
 use names_realms::{InvocationId, Moment, State};
 use permissions::Policy;
+use request_demands::{Call, Demand, NumberCheck, TokenCheck, demand_of};
 use test_results::ResultRows;
 
 /// Ten seconds, in microseconds.
@@ -49,17 +49,21 @@ fn request_id_reused<'r>(check: NumberCheck, demand: &Demand<'r>) -> Option<Brea
     }
 }
 
-/// The first invocation that is named and isn't there, or the result where these are there.
+/// The first invocation that is named and isn't there, or the result or the artifact where these
+/// are there.
 pub(crate) fn not_found<'r>(places: &Located, demand: &Demand<'r>) -> Option<Breach<'r>>
-    ensures { (rows : List Invocation) (results : List TestResult)
-        → places.now ≡ located rows results demand.now
-        → Finds (NotFound rows results demand.now) result }
+    ensures { (rows : List Invocation) (held : Held)
+        → places.now ≡ located rows held demand.now
+        → Finds (NotFound rows held demand.now) result }
 {
     if let Some(id) = first_missing(places, demand) {
         return Some(Breach::NotFound { id });
     }
-    match missing_result(places, demand) {
-        Some(name) => Some(Breach::NoResult { name }),
+    if let Some(name) = missing_result(places, demand) {
+        return Some(Breach::NoResult { name });
+    }
+    match missing_artifact(places, demand) {
+        Some(name) => Some(Breach::NoArtifact { name }),
         None => None,
     }
 }
@@ -96,8 +100,8 @@ fn denied<'r>(
     places: &Located,
 ) -> Option<Breach<'r>>
     requires asker { IsAsker asker.now }
-    requires places { (results : List TestResult)
-        × (places.now ≡ located table.now.rows results demand.now) }
+    requires places { (held : Held)
+        × (places.now ≡ located table.now.rows held demand.now) }
     ensures { Finds (Denied asker.now.policy.now table.now.rows asker.now.caller demand.now)
         result }
 {
@@ -116,8 +120,8 @@ pub(crate) fn not_active<'r>(
     places: &Located,
     demand: &Demand<'r>,
 ) -> Option<Breach<'r>>
-    requires { (results : List TestResult)
-        × (places.now ≡ located table.now.rows results demand.now) }
+    requires { (held : Held)
+        × (places.now ≡ located table.now.rows held demand.now) }
     ensures { Finds (NotActive table.now.rows demand.now) result }
 {
     let id = demand.active?;
@@ -190,8 +194,8 @@ pub(crate) fn too_many<'r>(demand: &Demand<'r>) -> Option<Breach<'r>>
 
 /// The id that has to be free and isn't.
 pub(crate) fn taken<'r>(places: &Located, demand: &Demand<'r>) -> Option<Breach<'r>>
-    ensures { (rows : List Invocation) (results : List TestResult)
-        → places.now ≡ located rows results demand.now
+    ensures { (rows : List Invocation) (held : Held)
+        → places.now ≡ located rows held demand.now
         → Finds (Taken rows demand.now) result }
 {
     let id = demand.makes?;
@@ -199,17 +203,18 @@ pub(crate) fn taken<'r>(places: &Located, demand: &Demand<'r>) -> Option<Breach<
     Some(Breach::Taken { id })
 }
 
-/// What a call is judged by: who may do what, the invocations and results that are there, and its
-/// moment.
+/// What a call is judged by: who may do what, the invocations that are there and what they hold,
+/// and its moment.
 #[derive(Clone, Copy)]
 pub struct Situation<'r> {
     pub policy: &'r Policy,
     pub table: &'r Table,
     pub results: &'r ResultRows,
+    pub artifacts: &'r ArtifactRows,
     pub moment: Moment,
     /// What was found before of the caller's rights, by `holdings_for`.
     pub holdings: &'r [Holding<'r>],
-    /// Where the invocations and the result stand that the call names.
+    /// Where the invocations and the rows stand that the call names.
     pub located: &'r Located,
     /// What the number of the call comes to.
     pub number: NumberCheck,

@@ -1,19 +1,22 @@
-//! The invocations and the result that a request names, and where they stand.
-ghost use Rattle.std.specs.Prelude.{◌≡◌, ◌++◌, ◌<◌, List, [], None, Some, IfOk, IfSome, MatchOption, OnOk, length, map, option_map};
+//! The invocations and the result or the artifact that a request names, and where they stand.
+ghost use Rattle.std.specs.Prelude.{◌≡◌, ◌++◌, ◌<◌, List, [], None, Some, IfOk, IfSome, MatchOption, OnOk, length, map};
+ghost use Rattle.std.specs.Prelude.{option_map};
 ghost use Rattle.std.specs.Option.{option_to_list};
 ghost use Rattle.std.specs.List.{cons_option};
 ghost use Rattle.invocations.specs.declared.invocation.Invocation.{Invocation as InvocationOf};
-ghost use Rattle.test_results.specs.declared.result.TestResult.{TestResult};
-ghost use Rattle.request_rules.specs.Named.{all_found, first_place, place_held, place_named, place_of_result, places_in, row_at};
-ghost use Rattle.request_rules.specs.Demands.{demand_of};
-ghost use Rattle.request_rules.specs.Locating.{IsActiveFirst, located, place_if, result_if};
-ghost use Rattle.request_rules.specs.Order.{FirstOf};
-ghost use Rattle.request_rules.specs.Broken.{IsAbsent, IsMissing, result_named};
+ghost use Rattle.request_rules.specs.Held.{Held};
+ghost use Rattle.request_rules.specs.Named.{all_found, artifact_held, first_place, place_held, place_named};
+ghost use Rattle.request_rules.specs.Named.{place_of_result, places_in, row_at};
+ghost use Rattle.request_demands.specs.Demands.{demand_of};
+ghost use Rattle.request_rules.specs.Locating.{IsActiveFirst, artifact_if, located, place_if, result_if};
+ghost use Rattle.request_demands.specs.Order.{FirstOf};
+ghost use Rattle.request_rules.specs.Broken.{IsAbsent, IsMissing, artifact_named, result_named};
 
-use crate::demand::{Demand, demand_of};
+use artifacts::ArtifactRows;
 use invocations::{Invocation, Table};
 use message_forms::Request;
-use names_realms::{InvocationId, ResultName};
+use names_realms::{ArtifactName, InvocationId, ResultName};
+use request_demands::{Demand, demand_of, invocation_of};
 use std::alloc::{AllocError, Global};
 use std::marker::Model;
 use test_results::ResultRows;
@@ -53,6 +56,28 @@ fn result_if(table: &Table, results: &ResultRows, name: Option<&ResultName>) -> 
 {
     match name {
         Some(name) => place_held(results, name, place_of(table, &name.invocation)),
+        None => None,
+    }
+}
+
+/// The place of the artifact of this name, where this is the place of the invocation that holds it.
+fn artifact_held(held: &ArtifactRows, name: &ArtifactName, holder: Option<u32>) -> Option<u32>
+    ensures { result ≡ artifact_held held.now.rows name.now holder }
+{
+    let _ = held.rows();
+    match holder {
+        Some(holder) => held.find(holder, name),
+        None => None,
+    }
+}
+
+/// The place of the artifact of this name, where one is given.
+fn artifact_if(table: &Table, held: &ArtifactRows, name: Option<&ArtifactName>) -> Option<u32>
+    ensures { result ≡ artifact_if table.now.rows held.now.rows
+        (option_map (λ given. given.now) name.entry) }
+{
+    match name {
+        Some(name) => artifact_held(held, name, place_of(table, invocation_of(&name.parent))),
         None => None,
     }
 }
@@ -117,13 +142,14 @@ fn found_in(alloc: Global, places: &[Option<u32>]) -> Result<Vec<u32>, AllocErro
 }
 
 /// Where the invocations stand that a request names, in order of creation and counted from 0, and
-/// where the result does, in order of arrival. Each is looked up once, before the request is
-/// judged; one that isn't there has no place.
+/// where the result or the artifact does, in order of arrival. Each is looked up once, before the
+/// request is judged; one that isn't there has no place.
 #[derive(Drop)]
 pub struct Located {
     pub(crate) named: Vec<Option<u32>>,
     pub(crate) included: Vec<Option<u32>>,
     pub(crate) row: Option<u32>,
+    pub(crate) artifact: Option<u32>,
     pub(crate) active: Option<u32>,
     pub(crate) made: Option<u32>,
 }
@@ -137,33 +163,39 @@ impl Model for Located {
       named = l.named.items;
       included = l.included.items;
       row = l.row;
+      artifact = l.artifact;
       active = l.active;
       made = l.made;
     } };
 }
 
 impl Located {
-    /// Where the invocations and the result stand that a request names. `Err` where there is no
+    /// Where the invocations and the rows stand that a request names. `Err` where there is no
     /// memory for their places.
     pub fn of(
         alloc: Global,
         table: &Table,
         results: &ResultRows,
+        artifacts: &ArtifactRows,
         request: &Request,
     ) -> Result<Located, AllocError>
         ensures { IfOk result (λ l.
-            l ≡ located table.now.rows results.now.rows (demand_of request.now)) }
+            l ≡ located table.now.rows
+            (record { results = results.now.rows; artifacts = artifacts.now.rows })
+            (demand_of request.now)) }
     {
         let demand = demand_of(request);
         let named = places_in(alloc, table, demand.named)?;
         let included = places_in(alloc, table, demand.included)?;
         let row = result_if(table, results, demand.row);
+        let artifact = artifact_if(table, artifacts, demand.artifact);
         let active = active_in(&demand, named.as_slice());
         let made = place_if(table, demand.makes);
         Ok(Located {
             named,
             included,
             row,
+            artifact,
             active,
             made,
         })
@@ -184,6 +216,13 @@ impl Located {
         ensures { result ≡ self.now.row }
     {
         self.row
+    }
+
+    /// The place of the artifact that has to be there.
+    pub fn artifact(&self) -> Option<u32>
+        ensures { result ≡ self.now.artifact }
+    {
+        self.artifact
     }
 
     /// The places of those that have to be there that are. `Err` where there is no memory for them.
@@ -216,8 +255,8 @@ fn first_missing_of<'r>(ids: &'r [InvocationId], places: &[Option<u32>]) -> Opti
 
 /// The first invocation that is named and isn't there.
 pub(crate) fn first_missing<'r>(places: &Located, demand: &Demand<'r>) -> Option<&'r InvocationId>
-    ensures { (rows : List InvocationOf) (results : List TestResult)
-        → places.now ≡ located rows results demand.now
+    ensures { (rows : List InvocationOf) (held : Held)
+        → places.now ≡ located rows held demand.now
         → FirstOf (IsMissing rows) (demand.now.named ++ demand.now.included)
         (option_map (λ id. id.now) result) }
 {
@@ -241,13 +280,41 @@ fn unplaced(name: &ResultName, place: Option<u32>) -> Option<&ResultName>
 
 /// The result that is named and isn't there.
 pub(crate) fn missing_result<'r>(places: &Located, demand: &Demand<'r>) -> Option<&'r ResultName>
-    ensures { (rows : List InvocationOf) (results : List TestResult)
-        → places.now ≡ located rows results demand.now
-        → FirstOf (IsAbsent rows results) (map result_named (option_to_list demand.now.row))
+    ensures { (rows : List InvocationOf) (held : Held)
+        → places.now ≡ located rows held demand.now
+        → FirstOf (IsAbsent rows held) (map result_named (option_to_list demand.now.row))
         (option_map (λ name. result_named name.now) result) }
 {
     match demand.row {
         Some(name) => unplaced(name, places.row),
+        None => None,
+    }
+}
+
+/// The name of an artifact, where it has no place.
+fn unplaced_artifact(name: &ArtifactName, place: Option<u32>) -> Option<&ArtifactName>
+    ensures { MatchOption place
+        (option_map (λ found. artifact_named found.now) result ≡ Some (artifact_named name.now))
+        (λ _. option_map (λ found. artifact_named found.now) result ≡ None) }
+{
+    if place.is_some() {
+        return None;
+    }
+    Some(name)
+}
+
+/// The artifact that is named and isn't there.
+pub(crate) fn missing_artifact<'r>(
+    places: &Located,
+    demand: &Demand<'r>,
+) -> Option<&'r ArtifactName>
+    ensures { (rows : List InvocationOf) (held : Held)
+        → places.now ≡ located rows held demand.now
+        → FirstOf (IsAbsent rows held) (map artifact_named (option_to_list demand.now.artifact))
+        (option_map (λ name. artifact_named name.now) result) }
+{
+    match demand.artifact {
+        Some(name) => unplaced_artifact(name, places.artifact),
         None => None,
     }
 }

@@ -1,22 +1,21 @@
 //! Whether a caller has the rights that a request takes.
 ghost use Rattle.std.specs.Prelude.{◌≡◌, ◌<◌, ◌↔◌, ◌∷◌, [], Some, List, All, IfSome, IsTrue, length};
-ghost use Rattle.test_results.specs.declared.result.TestResult.{TestResult};
 ghost use Rattle.permissions.specs.Allows.{Allows};
-ghost use Rattle.request_rules.specs.Demands.{right, rights_here, rights_in, rights_of, rights_taken};
-ghost use Rattle.request_rules.specs.Grants.{Has};
+ghost use Rattle.request_rules.specs.Rights.{right, rights_here, rights_in, rights_of, rights_taken};
+ghost use Rattle.request_demands.specs.Grants.{Has};
 ghost use Rattle.request_rules.specs.Named.{row_at};
 ghost use Rattle.request_rules.specs.Locating.{located};
-ghost use Rattle.request_rules.specs.Order.{FirstOf};
+ghost use Rattle.request_rules.specs.Held.{Held};
+ghost use Rattle.request_demands.specs.Order.{FirstOf};
 ghost use Rattle.request_rules.specs.Broken.{Lacks};
 ghost use Rattle.request_rules.specs.Askers.{IsAsker};
 
-use crate::demand::Demand;
-use crate::grants::Grant;
 use crate::holdings::Holding;
 use crate::locating::Located;
 use invocations::Table;
 use names_realms::Realm;
 use permissions::{CallerId, Permission, Policy};
+use request_demands::{Demand, Grant};
 use std::marker::Model;
 
 /// A right that a caller lacks.
@@ -27,7 +26,7 @@ pub(crate) struct Lacking<'r> {
 }
 
 impl<'r> Model for Lacking<'r> {
-    ghost use Rattle.request_rules.specs.Demands.{Right};
+    ghost use Rattle.request_rules.specs.Rights.{Right};
 
     ghost Value = { Right };
 
@@ -161,8 +160,8 @@ impl<'r> Asker<'r> {
         places: &Located,
     ) -> Option<Lacking<'r>>
         requires asker { IsAsker self.now }
-        requires places { (results : List TestResult)
-            × (places.now ≡ located table.now.rows results demand.now) }
+        requires places { (held : Held)
+            × (places.now ≡ located table.now.rows held demand.now) }
         ensures { FirstOf (Lacks self.now.policy.now self.now.caller)
             (rights_taken table.now.rows demand.now) result }
     {

@@ -3,6 +3,7 @@ use Rattle.std.proofs.Common.{◌≡◌, ◌==◌, ◌&&◌, ℕ, ℤ, List, [],
 use Rattle.std.specs.List.{AllZip}
 use Rattle.std.specs.Str.{bytes_eq}
 use Rattle.std.proofs.lemmas.Option.{none-some}
+use Rattle.names_realms.specs.declared.artifact_names.ArtifactName.{ArtifactName}
 use Rattle.names_realms.specs.declared.result_names.ResultName.{ResultName}
 use Rattle.policy_tables.specs.declared.tables.PolicyTables.{PolicyTables}
 use Rattle.invocations.specs.declared.invocation.Invocation.{Invocation}
@@ -14,14 +15,16 @@ use Rattle.invocation_world.specs.World.{World}
 use Rattle.query_pages.specs.Unseen.{AreLike}
 use Rattle.request_rules.specs.declared.rules.Rule.{Rule}
 use Rattle.request_rules.specs.declared.rules.Rule.TheVariants as rule
-use Rattle.request_rules.specs.Settings.{Settings}
-use Rattle.request_rules.specs.Named.{has_key, place_held, place_named, place_of_result}
-use Rattle.request_rules.specs.Demands.{Demand}
-use Rattle.request_rules.specs.Order.{FirstOf, Judges}
-use Rattle.request_rules.specs.Broken.{IsAbsent, IsBroken, Sought, invocation_with, order, result_named, sought}
-use Rattle.service_effects.specs.Service.{ServiceWorld}
+use Rattle.request_demands.specs.Settings.{Settings}
+use Rattle.request_rules.specs.Named.{has_key, place_held, place_named, place_of_artifact, place_of_result}
+use Rattle.request_demands.specs.Demands.{Demand}
+use Rattle.request_demands.specs.Order.{FirstOf, Judges}
+use Rattle.request_rules.specs.Broken.{IsAbsent, IsBroken, Sought, artifact_named, invocation_with, order, result_named, sought}
+use Rattle.service_effects.specs.Service.{ServiceWorld, recorded}
+use Rattle.request_effects.specs.Places.{held_in}
 use Rattle.service_core.specs.Step.{case_in}
 use Rattle.restricted_fields.proofs.ListFacts.{zip_position}
+use Rattle.restricted_fields.proofs.FileFacts.{found_files}
 use Rattle.restricted_fields.proofs.BesideFacts.{AlikeOver, with_rows}
 
 same_key : (policy : PolicyTables) (caller : ℕ) (rows : List Invocation) (key : results.Key) (a b : TestResult)
@@ -42,15 +45,18 @@ held_alike policy caller rows xs ys name (Some holder) like =
 -- in both worlds, over these invocations, each name has one place
 pub record FindAlike (rows : List Invocation) (w v : ServiceWorld) : Type 0 where
   pub results : (name : ResultName) → place_of_result rows w.results name ≡ place_of_result rows v.results name
+  pub artifacts : (name : ArtifactName) → place_of_artifact rows w.artifacts name ≡ place_of_artifact rows v.artifacts name
 
 pub found_alike : (policy : PolicyTables) (caller : ℕ) (rows : World) (w v : ServiceWorld) → AlikeOver policy caller rows w v
     → FindAlike rows.invocations w v
 found_alike policy caller rows w v like = record {
   results = λ name. held_alike policy caller rows.invocations w.results v.results name (place_named rows.invocations name.invocation) like.results;
+  artifacts = λ name. found_files policy caller rows.invocations w.artifacts v.artifacts name like.artifacts;
 }
 
 found_back : (rows : List Invocation) (w v : ServiceWorld) → FindAlike rows w v → FindAlike rows v w
-found_back rows w v same = record { results = λ name. sym (same.results name) }
+found_back rows w v same =
+    record { results = λ name. sym (same.results name); artifacts = λ name. sym (same.artifacts name) }
 
 -- ---- rules
 
@@ -67,10 +73,11 @@ judged_as this that f g [] found h = h
 judged_as this that f g (k ∷ ks) found (inl h) = inl (h.0, f k h.0 h.1, h.2)
 judged_as this that f g (k ∷ ks) found (inr h) = inr ((λ r y. h.0 r (g k r y)), judged_as this that f g ks found h.1)
 
-absent_as : (rows : List Invocation) (w v : ServiceWorld) → FindAlike rows w v → (what : Sought) → IsAbsent rows w.results what
-    → IsAbsent rows v.results what
+absent_as : (rows : List Invocation) (w v : ServiceWorld) → FindAlike rows w v → (what : Sought)
+    → IsAbsent rows (held_in (recorded w)) what → IsAbsent rows (held_in (recorded v)) what
 absent_as rows w v same (invocation_with id) h = h
 absent_as rows w v same (result_named name) h = sym (same.results name) ∙ h
+absent_as rows w v same (artifact_named name) h = sym (same.artifacts name) ∙ h
 
 broken_as : (s : Settings) (rows : World) (w v : ServiceWorld) (moment : ℤ) (asked : Asked) (caller : ℕ) (d : Demand) → d.number ≡ None
     → FindAlike rows.invocations w v → FindAlike rows.invocations v w → (k : Rule) (r : Refusal)
@@ -78,7 +85,7 @@ broken_as : (s : Settings) (rows : World) (w v : ServiceWorld) (moment : ℤ) (a
 broken_as s rows w v moment asked caller d none on back rule.RequestIdReused r h = absurd (none-some h.number (sym none ∙ h.shows))
 broken_as s rows w v moment asked caller d none on back rule.NotFound r h = record {
   what = h.what;
-  first = first_as (IsAbsent rows.invocations w.results) (IsAbsent rows.invocations v.results) (absent_as rows.invocations w v on)
+  first = first_as (IsAbsent rows.invocations (held_in (recorded w))) (IsAbsent rows.invocations (held_in (recorded v))) (absent_as rows.invocations w v on)
       (absent_as rows.invocations v w back) (sought d) (Some h.what) h.first;
   refusal_is = h.refusal_is;
 }

@@ -4,7 +4,7 @@ use Rattle.call_forms.specs.declared.asked.Asked.{Asked}
 use Rattle.call_forms.specs.declared.forms.Answer.{Answer}
 use Rattle.call_forms.specs.declared.forms.Told.{Told}
 use Rattle.call_forms.specs.declared.forms.Told.TheVariants.{Made}
-use Rattle.request_rules.specs.Settings.{Settings}
+use Rattle.request_demands.specs.Settings.{Settings}
 use Rattle.service_effects.specs.Service.{ServiceWorld}
 use Rattle.service_core.specs.History.{Entry, Leads, Tells}
 use Rattle.service_core.specs.Step.{Step}

@@ -1,3 +1,4 @@
+pub mod FileFacts
 pub mod ListFacts
 pub mod RealmFacts
 pub mod BesideFacts

@@ -3,6 +3,8 @@ use Rattle.std.proofs.Common.{◌≡◌, ◌&&◌, ℕ, ℤ, Bool, true, false, 
 use Rattle.std.specs.Str.{bytes_eq}
 use Rattle.std.proofs.lemmas.Slice.Eq.{bytes_eq-Decides}
 use Rattle.call_forms.specs.declared.asked.Asked.{Asked}
+use Rattle.artifact_forms.specs.declared.listed.ListArtifacts.{ListArtifacts}
+use Rattle.artifact_forms.specs.declared.named.GetArtifact.{GetArtifact}
 use Rattle.invocation_forms.specs.declared.named.NamedInvocation.{NamedInvocation}
 use Rattle.query_forms.specs.declared.results.QueryTestResults.{QueryTestResults}
 use Rattle.query_forms.specs.declared.single.GetTestResult.{GetTestResult}
@@ -11,7 +13,7 @@ use Rattle.message_forms.specs.declared.requests.Request.{Request}
 use Rattle.message_forms.specs.declared.requests.Request.TheVariants as asks
 use Rattle.message_forms.specs.Methods.{every_method, is_called, method_asked, method_of, name_of, service_of}
 use Rattle.message_forms.specs.Reading.{Asks}
-use Rattle.request_rules.specs.Demands.{demand_of}
+use Rattle.request_demands.specs.Demands.{demand_of}
 use Rattle.service_effects.specs.declared.effect.Effect.TheVariants as does
 use Rattle.service_effects.specs.Service.{Recorded}
 use Rattle.request_effects.specs.Effects.{effect_of}
@@ -44,21 +46,24 @@ recorder_is_other e = let no : 99 ≡ 115 = ap (λ (text : List ℕ). get_or tex
 -- what holds of each request of the service that reads
 pub by_reading : (P : Request → Type 0) → ((q : NamedInvocation) → P (asks.GetInvocation q)) → ((q : GetTestResult) → P (asks.GetTestResult q))
     → ((q : QueryTestResults) → P (asks.QueryTestResults q)) → ((q : QueryTestVariants) → P (asks.QueryTestVariants q))
+    → ((q : GetArtifact) → P (asks.GetArtifact q)) → ((q : ListArtifacts) → P (asks.ListArtifacts q))
     → (request : Request) → Reads request → P request
-by_reading P get one rows list (asks.GetInvocation q) h = get q
-by_reading P get one rows list (asks.GetTestResult q) h = one q
-by_reading P get one rows list (asks.QueryTestResults q) h = rows q
-by_reading P get one rows list (asks.QueryTestVariants q) h = list q
-by_reading P get one rows list _ h = absurd (recorder_is_other h)
+by_reading P get one rows list file files (asks.GetInvocation q) h = get q
+by_reading P get one rows list file files (asks.GetTestResult q) h = one q
+by_reading P get one rows list file files (asks.QueryTestResults q) h = rows q
+by_reading P get one rows list file files (asks.QueryTestVariants q) h = list q
+by_reading P get one rows list file files (asks.GetArtifact q) h = file q
+by_reading P get one rows list file files (asks.ListArtifacts q) h = files q
+by_reading P get one rows list file files _ h = absurd (recorder_is_other h)
 
 pub reads_no_number : (request : Request) → Reads request → (demand_of request).number ≡ None
-reads_no_number = by_reading (λ q. (demand_of q).number ≡ None) (λ q. refl) (λ q. refl) (λ q. refl) (λ q. refl)
+reads_no_number = by_reading (λ q. (demand_of q).number ≡ None) (λ q. refl) (λ q. refl) (λ q. refl) (λ q. refl) (λ q. refl) (λ q. refl)
 
 pub reads_unnumbered : (asked : Asked) (request : Request) → Reads request → numbered_of asked (demand_of request) ≡ None
 reads_unnumbered asked =
-    by_reading (λ q. numbered_of asked (demand_of q) ≡ None) (λ q. refl) (λ q. refl) (λ q. refl) (λ q. refl)
+    by_reading (λ q. numbered_of asked (demand_of q) ≡ None) (λ q. refl) (λ q. refl) (λ q. refl) (λ q. refl) (λ q. refl) (λ q. refl)
 
 pub reads_nothing : (w : Recorded) (moment : ℤ) (name : List ℕ) (request : Request) → Reads request
     → effect_of w moment name request ≡ does.Nothing
 reads_nothing w moment name =
-    by_reading (λ q. effect_of w moment name q ≡ does.Nothing) (λ q. refl) (λ q. refl) (λ q. refl) (λ q. refl)
+    by_reading (λ q. effect_of w moment name q ≡ does.Nothing) (λ q. refl) (λ q. refl) (λ q. refl) (λ q. refl) (λ q. refl) (λ q. refl)

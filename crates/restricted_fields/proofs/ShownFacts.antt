@@ -1,7 +1,18 @@
 -- What is shown to a caller of two worlds that look alike to the caller.
-use Rattle.std.proofs.Common.{◌≡◌, ℕ, Option, Some, None, refl, sym, ap, ◌∙◌, subst}
+use Rattle.std.proofs.Common.{◌≡◌, ◌++◌, ℕ, Option, Some, None, refl, sym, ap, ◌∙◌, subst}
 use Rattle.std.specs.List.{slice_get}
 use Rattle.std.proofs.lemmas.Option.{none-some}
+use Rattle.artifact_forms.specs.declared.listed.ListArtifacts.{ListArtifacts}
+use Rattle.artifact_forms.specs.declared.named.GetArtifact.{GetArtifact}
+use Rattle.artifacts.specs.declared.artifact.Artifact.{Artifact}
+use Rattle.artifacts.specs.Orders.{invocation_of}
+use Rattle.serde_json.specs.Data.{Data}
+use Rattle.serde_json.specs.Written.{compact_text}
+use Rattle.message_forms.specs.Replies.{reply_prefix}
+use Rattle.message_forms.specs.declared.requests.Request.TheVariants as asks
+use Rattle.request_demands.specs.Demands.{demand_of}
+use Rattle.request_demands.specs.Order.{IsUnbroken}
+use Rattle.request_rules.specs.Broken.{Denied}
 use Rattle.test_results.specs.declared.result.TestResult.{TestResult}
 use Rattle.call_forms.specs.declared.forms.Answer.{Answer}
 use Rattle.message_forms.specs.declared.requests.Request.{Request}
@@ -16,15 +27,16 @@ use Rattle.query_pages.proofs.ZipLemmas.{zip_back, zip_on}
 use Rattle.query_replies.specs.Pages.{reply_of, results_page, verdicts_page}
 use Rattle.query_replies.specs.Results.{seen_data}
 use Rattle.invocation_world.specs.World.{World}
-use Rattle.request_rules.specs.Settings.{Settings}
-use Rattle.request_rules.specs.Named.{place_named, place_of_result}
+use Rattle.request_demands.specs.Settings.{Settings}
+use Rattle.request_rules.specs.Named.{place_named, place_of_artifact, place_of_result}
 use Rattle.service_effects.specs.Service.{ServiceWorld, recorded}
 use Rattle.request_effects.specs.declared.shows.Showing.{Showing}
 use Rattle.request_effects.specs.declared.shows.Showing.TheVariants.{Results, Verdicts}
-use Rattle.request_effects.specs.Answers.{Answers, ShowsResult, done_with, listed_in}
-use Rattle.request_effects.specs.Shows.{answer_of, result_query, shows_of, shows_result, shows_row, verdict_query}
+use Rattle.request_effects.specs.Answers.{Answers, ShowsResult, artifact_answer, done_with, listed_in}
+use Rattle.request_effects.specs.Shows.{answer_of, artifacts_page as shown_page, result_query, shows_artifact, shows_of, shows_result, shows_row, verdict_query}
 use Rattle.service_core.specs.Step.{scene_of}
 use Rattle.restricted_fields.proofs.BesideFacts.{AlikeOver, listed_alike, with_rows}
+use Rattle.restricted_fields.proofs.FileFacts.{page_alike, same_file}
 use Rattle.restricted_fields.proofs.FoundFacts.{FindAlike}
 use Rattle.restricted_fields.proofs.ReaderFacts.{Reads, by_reading}
 
@@ -81,16 +93,46 @@ verdicts_alike s rows w v caller answer like query h =
     (listed_alike s.policy caller rows w v like) h.1 also.1 in
     (also.0, also.1, h.2 ∙ ap (λ (page : SeenVerdicts). done_with (reply_of (verdicts_page page))) same)
 
+-- an artifact that is shown whole
+same_answer : (s : Settings) (rows : World) (w v : ServiceWorld) (o : Option Artifact)
+    → artifact_answer (scene_of s (with_rows rows w)) o ≡ artifact_answer (scene_of s (with_rows rows v)) o
+same_answer s rows w v None = refl
+same_answer s rows w v (Some row) = refl
+
+file_alike : (s : Settings) (before rows : World) (w v : ServiceWorld) (caller : ℕ) (answer : Answer) → AlikeOver s.policy caller before w v
+    → (q : GetArtifact) → IsUnbroken (Denied s.policy before.invocations caller (demand_of (asks.GetArtifact q))) → (place : Option ℕ)
+    → place_of_artifact before.invocations w.artifacts q.name ≡ place
+    → AnswersOf s rows w caller (shows_artifact place) answer → AnswersOf s rows v caller (shows_artifact place) answer
+file_alike s before rows w v caller answer near q granted None at h = h
+file_alike s before rows w v caller answer near q granted (Some place) at h =
+    h ∙ (ap (artifact_answer (scene_of s (with_rows rows w)))
+    (same_file s.policy caller before.invocations w.artifacts v.artifacts q place near.artifacts granted at)
+    ∙ same_answer s rows w v (slice_get v.artifacts place))
+
+-- and a page of artifacts
+files_alike : (s : Settings) (rows : World) (w v : ServiceWorld) (caller : ℕ) (answer : Answer) → AlikeOver s.policy caller rows w v
+    → (q : ListArtifacts) (holder : Option ℕ) → AnswersOf s rows w caller (shown_page holder q) answer
+    → AnswersOf s rows v caller (shown_page holder q) answer
+files_alike s rows w v caller answer like q None h = h
+files_alike s rows w v caller answer like q (Some holder) h =
+    let also = page_alike s.policy caller rows.invocations w.artifacts v.artifacts _ h.0 like.artifacts h.1 in
+    (also.0, also.1, h.2 ∙ ap (λ (d : Data). done_with (reply_prefix ++ compact_text d)) also.2)
+
 -- What a request of the service that reads shows is found over the invocations before, and shown over those afterwards.
 pub answers_alike : (s : Settings) (before rows : World) (w v : ServiceWorld) (caller : ℕ) (answer : Answer)
-    → FindAlike before.invocations w v → AlikeOver s.policy caller rows w v → (request : Request) → Reads request
+    → FindAlike before.invocations w v → AlikeOver s.policy caller before w v → AlikeOver s.policy caller rows w v → (request : Request)
+    → Reads request → IsUnbroken (Denied s.policy before.invocations caller (demand_of request))
     → Answers (scene_of s (with_rows rows w)) caller (shows_of (recorded (with_rows before w)) request) answer
     → Answers (scene_of s (with_rows rows v)) caller (shows_of (recorded (with_rows before v)) request) answer
-answers_alike s before rows w v caller answer same like =
-    by_reading (λ q. AnswersOf s rows w caller (shows_of (recorded (with_rows before w)) q) answer
+answers_alike s before rows w v caller answer same near like =
+    by_reading (λ q. IsUnbroken (Denied s.policy before.invocations caller (demand_of q))
+    → AnswersOf s rows w caller (shows_of (recorded (with_rows before w)) q) answer
     → AnswersOf s rows v caller (shows_of (recorded (with_rows before v)) q) answer)
-    (λ q h. h ∙ row_alike s rows w v (place_named before.invocations q.id))
-    (λ q h. subst (λ (place : Option ℕ). AnswersOf s rows v caller (shows_result place) answer) (same.results q.name)
+    (λ q granted h. h ∙ row_alike s rows w v (place_named before.invocations q.id))
+    (λ q granted h. subst (λ (place : Option ℕ). AnswersOf s rows v caller (shows_result place) answer) (same.results q.name)
     (placed_alike s rows w v caller answer like (place_of_result before.invocations w.results q.name) h))
-    (λ q h. results_alike s rows w v caller answer like (result_query (recorded (with_rows before w)) q) h)
-    (λ q h. verdicts_alike s rows w v caller answer like (verdict_query (recorded (with_rows before w)) q) h)
+    (λ q granted h. results_alike s rows w v caller answer like (result_query (recorded (with_rows before w)) q) h)
+    (λ q granted h. verdicts_alike s rows w v caller answer like (verdict_query (recorded (with_rows before w)) q) h)
+    (λ q granted h. subst (λ (place : Option ℕ). AnswersOf s rows v caller (shows_artifact place) answer) (same.artifacts q.name)
+    (file_alike s before rows w v caller answer near q granted (place_of_artifact before.invocations w.artifacts q.name) refl h))
+    (λ q granted h. files_alike s rows w v caller answer like q (place_named before.invocations (invocation_of q.parent)) h)

@@ -8,10 +8,10 @@ use Rattle.call_forms.specs.declared.forms.Refusal.{Refusal}
 use Rattle.message_forms.specs.declared.requests.Request.{Request}
 use Rattle.invocation_world.specs.World.{World}
 use Rattle.invocation_world.specs.Advancing.{Advances}
-use Rattle.request_rules.specs.Settings.{Settings, caller_name}
-use Rattle.request_rules.specs.Demands.{demand_of}
-use Rattle.request_rules.specs.Numbered.{kept_at, place_kept}
-use Rattle.request_rules.specs.Broken.{Wants}
+use Rattle.request_demands.specs.Settings.{Settings, caller_name}
+use Rattle.request_demands.specs.Demands.{demand_of}
+use Rattle.request_demands.specs.Numbered.{kept_at, place_kept}
+use Rattle.request_demands.specs.Alone.{Wants}
 use Rattle.service_effects.specs.declared.effect.Effect.{Effect}
 use Rattle.service_effects.specs.declared.effect.Effect.TheVariants as does
 use Rattle.service_effects.specs.Effects.{Makes}
@@ -23,7 +23,8 @@ use Rattle.request_effects.specs.Keeps.{kept_of, with_kept}
 use Rattle.request_effects.specs.Shows.{shows_of}
 use Rattle.service_core.specs.Service.{CatchesUp}
 use Rattle.service_core.specs.Step.{Acts, IsAccepted, IsJudgedAs, IsNew, IsRefusal, IsRefusedOf, IsRepeated, IsTold, Performs, Refuses, Step, effect_for, keep_for, performed, refused, repeated, scene_of}
-use Rattle.service_core.proofs.UniqueLaws.{same_parts}
+use Rattle.service_core.proofs.ClearedLaws.{accepted_granted}
+use Rattle.service_effects.proofs.RoomLaws.{same_parts}
 use Rattle.service_laws.proofs.StepLaws.{one_step}
 use Rattle.restricted_fields.specs.Alike.{LookAlike}
 use Rattle.restricted_fields.specs.Laws.{AsksReader, UnseenChangesNoAnswer}
@@ -112,7 +113,7 @@ acts_beside : (s : Settings) (rows later : World) (w v : ServiceWorld) (moment :
 acts_beside s rows later w v moment asked c request reads made =
     let before = with_rows rows v in
     let own : Makes moment does.Nothing (recorded before) (recorded (with_rows later v)) =
-    record { rows = made.rows; results = refl; exonerations = refl } in
+    record { rows = made.rows; results = refl; exonerations = refl; artifacts = refl } in
     record {
       made = subst (λ (e : Effect). Makes moment e (recorded before) (recorded (with_rows later v)))
           (sym (reads_nothing (recorded before) moment (caller_name s c) request reads)) own;
@@ -124,7 +125,7 @@ left_same : (s : Settings) (w : ServiceWorld) (moment : ℤ) (asked : Asked) (c 
     → Acts s w moment asked c request after → after ≡ with_rows after.rows w
 left_same s w moment asked c request after reads acts =
     let made = nothing_made s w moment c request after reads acts.made in
-    same_parts after (with_rows after.rows w) refl made.results made.exonerations
+    same_parts after (with_rows after.rows w) refl made.results made.exonerations made.artifacts
     (acts.kept ∙ nothing_kept s w moment asked c request reads)
 
 -- ---- one step
@@ -166,7 +167,8 @@ performs_beside s rows w v moment asked caller after answer like reader h =
         request = request;
         accepted = accepted_beside s rows w v moment asked c request same reads h.accepted;
         acts = acts_beside s rows later w v moment asked c request reads made;
-        answers = answers_alike s rows later w v c answer same seen request reads
+        answers = answers_alike s rows later w v c answer same (subst (λ (k : ℕ). AlikeOver s.policy k rows w v) own like) seen request reads
+            (accepted_granted s (with_rows rows w) moment asked c request h.accepted)
             (subst (λ (u : ServiceWorld). Answers (scene_of s u) c (shows_of (recorded (with_rows rows w)) request) answer) left h.answers);
       });
     }
@@ -201,7 +203,7 @@ told_beside s rows w v moment asked caller after answer like reader (performed h
 
 -- due deadlines leave all but the invocations as it is
 caught_up_same : (w : ServiceWorld) (moment : ℤ) (between : ServiceWorld) → CatchesUp w moment between → between ≡ with_rows between.rows w
-caught_up_same w moment between up = same_parts between (with_rows between.rows w) refl up.due.results up.due.exonerations up.kept
+caught_up_same w moment between up = same_parts between (with_rows between.rows w) refl up.due.results up.due.exonerations up.due.artifacts up.kept
 
 pub unseen_changes_no_answer : UnseenChangesNoAnswer
 unseen_changes_no_answer s caller one other moment asked after also answer told like reader step mirror =
@@ -217,6 +219,7 @@ unseen_changes_no_answer s caller one other moment asked after also answer told 
         rows = subst (λ (old : World). Advances old moment rows) like.rows up.due.rows;
         results = refl;
         exonerations = refl;
+        artifacts = refl;
       };
       kept = refl;
     } in

@@ -5,7 +5,7 @@ use Rattle.call_forms.specs.declared.asked.Asked.{Asked}
 use Rattle.call_forms.specs.declared.forms.Answer.{Answer}
 use Rattle.call_forms.specs.declared.forms.Told.{Told}
 use Rattle.call_forms.specs.declared.forms.Told.TheVariants.{Made}
-use Rattle.request_rules.specs.Settings.{Settings, caller_of}
+use Rattle.request_demands.specs.Settings.{Settings, caller_of}
 use Rattle.service_effects.specs.Service.{ServiceWorld}
 use Rattle.service_core.specs.History.{Entry, IsLegal}
 use Rattle.service_core.specs.Step.{Step}

@@ -1,6 +1,7 @@
 //! Laws of the definitions that the contracts cite. These functions do nothing: what each of them
 //! ensures is the law.
-ghost use Rattle.result_forms.specs.Laws.{AsksForOne, AsksOfForm, WritesPlain, ShowsPlainResults, ShowsPlainExonerations};
+ghost use Rattle.result_forms.specs.Laws.{AsksForOne, AsksOfForm, WritesPlain, ShowsPlainResults};
+ghost use Rattle.result_forms.specs.Laws.{ShowsPlainExonerations};
 ghost use Rattle.result_forms.specs.Methods.{results_form, exonerations_form};
 
 /// One body asks for one batch of results at most.

@@ -1,6 +1,9 @@
 //! The names of the members of batches and of their rows.
 ghost use Rattle.std.specs.Prelude.{◌≡◌};
-ghost use Rattle.result_forms.specs.Names.{invocation, request_id, requests, test_result, test_exoneration, test_id, result_id, variant, expected, status, summary_html, start_time, duration, tags, failure_reason, primary_error_message, properties, explanation_html, name, variant_hash, exoneration_id};
+ghost use Rattle.result_forms.specs.Names.{invocation, request_id, requests, test_result, test_exoneration, test_id};
+ghost use Rattle.result_forms.specs.Names.{result_id, variant, expected, status, summary_html, start_time, duration};
+ghost use Rattle.result_forms.specs.Names.{tags, failure_reason, primary_error_message, properties, explanation_html};
+ghost use Rattle.result_forms.specs.Names.{name, variant_hash, exoneration_id};
 
 use json_fields::Name;
 

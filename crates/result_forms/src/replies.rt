@@ -6,7 +6,8 @@ ghost use Rattle.name_parts.specs.Escapes.{escaped};
 ghost use Rattle.names_realms.specs.Variants.{label_of};
 ghost use Rattle.result_forms.specs.Members.{put_some};
 ghost use Rattle.result_forms.specs.Names.{variant_hash};
-ghost use Rattle.result_forms.specs.Replies.{name_of_result, result_data, exoneration_id, name_of_exoneration, exoneration_data};
+ghost use Rattle.result_forms.specs.Replies.{name_of_result, result_data, exoneration_id, name_of_exoneration};
+ghost use Rattle.result_forms.specs.Replies.{exoneration_data};
 
 use crate::members::put_some;
 use crate::names::{exoneration_id, name, variant_hash};

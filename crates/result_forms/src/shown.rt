@@ -3,7 +3,8 @@ ghost use Rattle.std.specs.Prelude.{◌≡◌, Some, IfOk, OnOk, fold, option_ma
 ghost use Rattle.serde_json.specs.Data.{string, object, no_members};
 ghost use Rattle.serde_json.specs.View.{view, members_view};
 ghost use Rattle.text_kinds.specs.Statuses.{status_name};
-ghost use Rattle.result_forms.specs.Shown.{as_text, text_shown, flag_shown, tags_shown, put_pair, variant_shown, reason_shown, properties_shown, right_object};
+ghost use Rattle.result_forms.specs.Shown.{as_text, text_shown, flag_shown, tags_shown, put_pair, variant_shown};
+ghost use Rattle.result_forms.specs.Shown.{reason_shown, properties_shown, right_object};
 
 use crate::members::{Shown, list_value, put_some};
 use crate::names::primary_error_message;

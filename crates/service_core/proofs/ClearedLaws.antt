@@ -6,14 +6,16 @@ use Rattle.kept_replies.specs.declared.reply.KeptReply.{KeptReply}
 use Rattle.kept_replies.specs.Kept.{IsFree, IsWord}
 use Rattle.request_rules.specs.declared.rules.Rule.{Rule}
 use Rattle.request_rules.specs.declared.rules.Rule.TheVariants as rule
-use Rattle.request_rules.specs.Settings.{Settings, HasNames, caller_name}
-use Rattle.request_rules.specs.Demands.{demand_of}
-use Rattle.request_rules.specs.Order.{IsUnbroken}
-use Rattle.request_rules.specs.Broken.{IsBroken, NotFound, RequestIdReused, order}
-use Rattle.request_rules.proofs.Judged.{IsAmong, unbroken_each}
-use Rattle.request_rules.proofs.NumberLaws.{free_number, number_is_word}
-use Rattle.request_rules.proofs.PolicyLaws.{caller_is_there, name_is}
+use Rattle.request_demands.specs.Settings.{Settings, HasNames, caller_name}
+use Rattle.request_demands.specs.Demands.{demand_of}
+use Rattle.request_demands.specs.Order.{IsUnbroken}
+use Rattle.request_rules.specs.Broken.{Denied, IsBroken, NotFound, RequestIdReused, order}
+use Rattle.request_demands.proofs.Judged.{IsAmong, unbroken_each}
+use Rattle.request_demands.proofs.NumberLaws.{number_is_word}
+use Rattle.request_rules.proofs.ReuseLaws.{free_number}
+use Rattle.request_demands.proofs.PolicyLaws.{caller_is_there, name_is}
 use Rattle.service_effects.specs.Fitting.{ArePlaced, IsTimely, Suits}
+use Rattle.request_effects.specs.Places.{held_in}
 use Rattle.request_effects.specs.Planned.{IsSafe}
 use Rattle.request_effects.proofs.KeepLaws.{kept_is, numbered_is}
 use Rattle.request_effects.proofs.SafeLaws.{placed, suits}
@@ -40,6 +42,9 @@ not_found_among = search rules
 
 not_active_among : IsAmong rule.NotActive order
 not_active_among = search rules
+
+denied_among : IsAmong rule.Denied order
+denied_among = search rules
 
 deadline_among : IsAmong rule.DeadlineRange order
 deadline_among = search rules
@@ -75,9 +80,15 @@ effect_placed s w moment caller request = placed (recorded w) moment (caller_nam
 
 -- each invocation that it names is there
 pub accepted_found : (s : Settings) (w : ServiceWorld) (moment : ℤ) (asked : Asked) (caller : ℕ) (request : Request)
-    → IsAccepted s w moment asked caller request → IsUnbroken (NotFound w.rows.invocations w.results (demand_of request))
+    → IsAccepted s w moment asked caller request → IsUnbroken (NotFound w.rows.invocations (held_in (recorded w)) (demand_of request))
 accepted_found s w moment asked caller request h =
     unbroken s w moment asked caller request (record { new = h.new; judged = h.judged }) rule.NotFound not_found_among
+
+-- the caller has each right that it takes
+pub accepted_granted : (s : Settings) (w : ServiceWorld) (moment : ℤ) (asked : Asked) (caller : ℕ) (request : Request)
+    → IsAccepted s w moment asked caller request → IsUnbroken (Denied s.policy w.rows.invocations caller (demand_of request))
+accepted_granted s w moment asked caller request h =
+    unbroken s w moment asked caller request (record { new = h.new; judged = h.judged }) rule.Denied denied_among
 
 -- no other request had its number
 pub unused : (s : Settings) (w : ServiceWorld) (moment : ℤ) (asked : Asked) (caller : ℕ) (request : Request)

@@ -3,3 +3,4 @@ pub mod HistoryLaws
 pub mod UniqueLaws
 pub mod PlanLaws
 pub mod ServeLaws
+pub mod RoomLaws

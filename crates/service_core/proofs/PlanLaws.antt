@@ -3,15 +3,13 @@ use Rattle.std.proofs.Common.{◌≡◌, ◌<◌, ℕ, ℤ, List, Option, Some, 
 use Rattle.std.specs.Prelude.{IfSome}
 use Rattle.std.proofs.lemmas.Option.{same_Some}
 use Rattle.kept_replies.specs.declared.reply.KeptReply.{KeptReply}
-use Rattle.test_results.specs.declared.exoneration.TestExoneration.{TestExoneration}
-use Rattle.test_results.specs.declared.result.TestResult.{TestResult}
 use Rattle.call_forms.specs.declared.asked.Asked.{Asked}
 use Rattle.call_forms.specs.declared.forms.Answer.{Answer}
 use Rattle.message_forms.specs.declared.requests.Request.{Request}
 use Rattle.invocation_world.specs.World.{World}
 use Rattle.invocation_world.proofs.ValidFacts.{valid_settles}
-use Rattle.request_rules.specs.Demands.{demand_of}
-use Rattle.request_rules.specs.Settings.{Settings, caller_name}
+use Rattle.request_demands.specs.Demands.{demand_of}
+use Rattle.request_demands.specs.Settings.{Settings, caller_name}
 use Rattle.service_effects.specs.declared.effect.Effect.{Effect}
 use Rattle.service_effects.specs.declared.effect.Effect.TheVariants as does
 use Rattle.request_effects.specs.Answers.{Answers}
@@ -26,6 +24,7 @@ use Rattle.request_effects.specs.Keeps.{kept_of, numbered_of, with_kept}
 use Rattle.request_effects.specs.Shows.{shows_of}
 use Rattle.service_effects.proofs.EffectLaws.{effects_change}
 use Rattle.service_effects.proofs.RefusedLaws.{unrefused}
+use Rattle.service_effects.proofs.RoomLaws.{same_parts, same_recorded}
 use Rattle.request_effects.proofs.KeepLaws.{nothing_kept}
 use Rattle.service_core.specs.declared.plan.Prepared.{Prepared}
 use Rattle.service_core.specs.declared.plan.Prepared.TheVariants as prepared
@@ -39,7 +38,6 @@ use Rattle.service_effects.specs.States as tables
 use Rattle.service_effects.specs.declared.tables.Tables.{Tables}
 use Rattle.service_core.specs.Step.{IsTold, Performs, effect_for, keep_for, performed, scene_of}
 use Rattle.service_core.proofs.ClearedLaws.{IsCleared, kept_free}
-use Rattle.service_core.proofs.UniqueLaws.{same_parts}
 
 -- what is to be kept can be kept where there is room
 can_keep : (s : Settings) (core : CoreState) (moment : ℤ) (asked : Asked) (caller : ℕ) (request : Request) (keep : Option KeptReply)
@@ -71,7 +69,7 @@ comes_prepared s core moment asked caller request (prepared.Answered answer) tim
     let w : Recorded = recorded_in core.held in
     let effect : Effect = effect_for s (world_in core) moment caller request in
     let same : Makes moment does.Nothing w w =
-    record { rows = valid_settles moment w.rows timely.valid; results = refl; exonerations = refl } in
+    record { rows = valid_settles moment w.rows timely.valid; results = refl; exonerations = refl; artifacts = refl } in
     let made : Makes moment effect w w = subst (λ (e : Effect). Makes moment e w w) (sym comes.2.0) same in
     record {
       caller = caller;
@@ -115,14 +113,7 @@ prepared_in s old new moment asked caller request p same timely h comes =
 -- a core with another room has the same world
 pub same_world : (old new : CoreState) → IsRoomier old new → world_in new ≡ world_in old
 same_world old new roomier =
-    same_parts (world_in new) (world_in old) roomier.held.world.world roomier.held.results roomier.held.exonerations roomier.kept
-
--- tables with another room record the same
-pub same_recorded : (old new : Tables) → tables.IsRoomier old new → recorded_in new ≡ recorded_in old
-same_recorded old new roomier =
-    ap (λ (p : World). record { rows = p; results = new.results.rows; exonerations = new.exonerations.rows }) roomier.world.world
-    ∙ (ap (λ (p : List TestResult). record { rows = old.world.world; results = p; exonerations = new.exonerations.rows }) roomier.results
-    ∙ ap (λ (p : List TestExoneration). record { rows = old.world.world; results = old.results.rows; exonerations = p }) roomier.exonerations)
+    same_parts (world_in new) (world_in old) roomier.held.world.world roomier.held.results roomier.held.exonerations roomier.held.artifacts roomier.kept
 
 -- a plan that was carried out is told as it was planned
 pub told_of : (s : Settings) (old mid : CoreState) (moment : ℤ) (asked : Asked) (p : Prepared) (plan : PlanState) (result : Option Answer)

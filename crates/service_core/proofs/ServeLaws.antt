@@ -2,7 +2,8 @@
 use Rattle.std.proofs.Common.{◌≡◌, ◌≢◌, ℕ, ℤ, ◌≤ℤ◌, Bool, List, Option, Some, None, refl, sym, ap, ◌∙◌, subst, inl, inr}
 use Rattle.std.specs.Prelude.{slice_get}
 use Rattle.invocations.specs.declared.invocation.Invocation.{Invocation}
-use Rattle.test_results.specs.declared.result.TestResult.{TestResult}
+use Rattle.request_rules.specs.Held.{Held}
+use Rattle.request_effects.specs.Places.{held_in}
 use Rattle.call_forms.specs.declared.asked.Asked.{Asked}
 use Rattle.call_forms.specs.declared.forms.Answer.{Answer}
 use Rattle.call_forms.specs.declared.forms.Refusal.{Refusal}
@@ -12,19 +13,19 @@ use Rattle.call_forms.specs.declared.forms.Told.TheVariants.{Made, Standin as In
 use Rattle.call_forms.specs.Rules.{refusal_answer}
 use Rattle.kept_replies.specs.declared.reply.KeptReply.{KeptReply}
 use Rattle.invocation_world.specs.World.{IsCallMoment, IsValid}
-use Rattle.request_rules.specs.declared.reading.Call.{Call}
-use Rattle.request_rules.specs.declared.numbers.NumberCheck.{NumberCheck}
-use Rattle.request_rules.specs.declared.numbers.NumberCheck.TheVariants.{Repeat}
+use Rattle.request_demands.specs.declared.reading.Call.{Call}
+use Rattle.request_demands.specs.declared.numbers.NumberCheck.{NumberCheck}
+use Rattle.request_demands.specs.declared.numbers.NumberCheck.TheVariants.{Repeat}
 use Rattle.request_rules.specs.declared.rules.Rule.{Rule}
-use Rattle.request_rules.specs.declared.reading.Understood.{Understood}
-use Rattle.request_rules.specs.declared.reading.Understood.TheVariants.{Refused}
-use Rattle.request_rules.specs.Settings.{Settings, caller_name}
-use Rattle.request_rules.specs.Demands.{demand_of}
-use Rattle.request_rules.specs.Numbered.{IsNumbered, IsRepeatOf}
-use Rattle.request_rules.proofs.NumberLaws.{fresh_as}
-use Rattle.request_rules.specs.Order.{Judges}
+use Rattle.request_demands.specs.declared.reading.Understood.{Understood}
+use Rattle.request_demands.specs.declared.reading.Understood.TheVariants.{Refused}
+use Rattle.request_demands.specs.Settings.{Settings, caller_name}
+use Rattle.request_demands.specs.Demands.{demand_of}
+use Rattle.request_demands.specs.Numbered.{IsNumbered, IsRepeatOf}
+use Rattle.request_demands.proofs.NumberLaws.{fresh_as}
+use Rattle.request_demands.specs.Order.{Judges}
 use Rattle.request_rules.specs.Broken.{IsBroken, order}
-use Rattle.request_rules.specs.Understood.{IsCallOf, IsUnderstood}
+use Rattle.request_demands.specs.Understood.{IsCallOf, IsUnderstood}
 use Rattle.service_effects.specs.Fitting.{IsTimely}
 use Rattle.request_effects.specs.Keeps.{kept_answer, with_kept}
 use Rattle.service_core.specs.declared.plan.Work.{Work}
@@ -53,15 +54,15 @@ pub caught_up : (old : CoreState) (after : ServiceWorld) (moment : ℤ) → IsVa
 caught_up old after moment valid call later due = advanced_timely old.held.world.world after.rows moment valid call later due.due.rows
 
 -- whatever was found of a call among these rows, which are those of a world
-pub found_there : (s : Settings) (w : ServiceWorld) (moment : ℤ) (rows : List Invocation) (held : List TestResult) (asked : Asked) (call : Call)
-    (ks : List Rule) (found : Option Refusal) → rows ≡ w.rows.invocations → held ≡ w.results → ks ≡ order
-    → Judges (IsBroken (record { settings = s; rows = rows; results = held; kept = w.kept; moment = moment; asked = asked; caller = call.caller }) (demand_of call.request)) ks found
+pub found_there : (s : Settings) (w : ServiceWorld) (moment : ℤ) (rows : List Invocation) (held : Held) (asked : Asked) (call : Call)
+    (ks : List Rule) (found : Option Refusal) → rows ≡ w.rows.invocations → held ≡ held_in (recorded w) → ks ≡ order
+    → Judges (IsBroken (record { settings = s; rows = rows; held = held; kept = w.kept; moment = moment; asked = asked; caller = call.caller }) (demand_of call.request)) ks found
     → IsJudgedAs s w moment asked call.caller call.request found
 found_there s w moment rows held asked call ks found same same_held all judged =
-    let Found : List Invocation → List TestResult → List Rule → Type 0 =
-    λ rs hs ls. Judges (IsBroken (record { settings = s; rows = rs; results = hs; kept = w.kept; moment = moment; asked = asked; caller = call.caller }) (demand_of call.request)) ls found in
-    subst (λ (ls : List Rule). Found w.rows.invocations w.results ls) all
-    (subst (λ (hs : List TestResult). Found w.rows.invocations hs ks) same_held
+    let Found : List Invocation → Held → List Rule → Type 0 =
+    λ rs hs ls. Judges (IsBroken (record { settings = s; rows = rs; held = hs; kept = w.kept; moment = moment; asked = asked; caller = call.caller }) (demand_of call.request)) ls found in
+    subst (λ (ls : List Rule). Found w.rows.invocations (held_in (recorded w)) ls) all
+    (subst (λ (hs : Held). Found w.rows.invocations hs ks) same_held
     (subst (λ (rs : List Invocation). Found rs held ks) same judged))
 
 pub refuses_first : (s : Settings) (w : ServiceWorld) (moment : ℤ) (asked : Asked) (call : Call) (r : Refusal) (answer : Answer)

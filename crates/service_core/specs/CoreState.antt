@@ -20,6 +20,7 @@ world_in core = record {
   rows = core.held.world.world;
   results = core.held.results.rows;
   exonerations = core.held.exonerations.rows;
+  artifacts = core.held.artifacts.rows;
   kept = core.keeps.kept;
 }
 

@@ -20,5 +20,6 @@ counts_of w = record {
   finalized = count_by is_finalized w.rows.invocations;
   results = length w.results;
   exonerations = length w.exonerations;
+  artifacts = length w.artifacts;
   kept = length w.kept;
 }

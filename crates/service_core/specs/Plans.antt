@@ -6,7 +6,7 @@ use Rattle.call_forms.specs.declared.forms.Answer.{Answer}
 use Rattle.call_forms.specs.declared.asked.Asked.{Asked}
 use Rattle.message_forms.specs.declared.requests.Request.{Request}
 use Rattle.invocation_world.specs.World.{IsCallMoment}
-use Rattle.request_rules.specs.Settings.{Settings}
+use Rattle.request_demands.specs.Settings.{Settings}
 use Rattle.service_effects.specs.declared.tables.Tables.{Tables}
 use Rattle.service_effects.specs.Effects.{Makes}
 use Rattle.service_effects.specs.Fitting as effects

@@ -8,13 +8,15 @@ use Rattle.call_forms.specs.declared.forms.Refusal.{Refusal}
 use Rattle.call_forms.specs.Rules.{refusal_answer}
 use Rattle.message_forms.specs.declared.requests.Request.{Request}
 use Rattle.invocation_world.specs.World.{latest_call}
-use Rattle.request_rules.specs.Settings.{Settings, caller_name}
-use Rattle.request_rules.specs.Demands.{demand_of}
-use Rattle.request_rules.specs.Order.{IsUnbroken, Judges}
-use Rattle.request_rules.specs.Broken.{Case, IsBroken, IsRefusedAlone, IsRepeat, Wants, order}
+use Rattle.request_demands.specs.Settings.{Settings, caller_name}
+use Rattle.request_demands.specs.Demands.{demand_of}
+use Rattle.request_demands.specs.Order.{IsUnbroken, Judges}
+use Rattle.request_rules.specs.Broken.{Case, IsBroken, IsRepeat, order}
+use Rattle.request_demands.specs.Alone.{IsRefusedAlone, Wants}
 use Rattle.service_effects.specs.declared.effect.Effect.{Effect}
 use Rattle.service_effects.specs.Effects.{Makes}
 use Rattle.request_effects.specs.Effects.{effect_of}
+use Rattle.request_effects.specs.Places.{held_in}
 use Rattle.request_effects.specs.Keeps.{kept_answer, kept_of, numbered_of, with_kept}
 use Rattle.service_effects.specs.Refused.{EffectRefused}
 use Rattle.service_effects.specs.Service.{ServiceWorld, recorded}
@@ -32,7 +34,7 @@ abbrev pub case_in : Settings → ServiceWorld → ℤ → Asked → ℕ → Cas
 case_in s w moment asked caller = record {
   settings = s;
   rows = w.rows.invocations;
-  results = w.results;
+  held = held_in (recorded w);
   kept = w.kept;
   moment = moment;
   asked = asked;

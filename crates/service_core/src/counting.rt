@@ -15,6 +15,7 @@ pub struct Counts {
     pub finalized: u64,
     pub results: u64,
     pub exonerations: u64,
+    pub artifacts: u64,
     pub kept: u64,
 }
 
@@ -38,6 +39,7 @@ impl Core {
             finalized: rows.iter().filter(|row| is_finalized(row)).count() as u64,
             results: self.tables.results.rows().len() as u64,
             exonerations: self.tables.exonerations.rows().len() as u64,
+            artifacts: self.tables.artifacts.rows().len() as u64,
             kept: self.kept.replies().len() as u64,
         }
     }

@@ -1,13 +1,13 @@
 //! The plan of a request that breaks no rule for what is demanded.
 ghost use Rattle.std.specs.Prelude.{◌≡◌, ◌<◌, IfOk, IfSome, length};
 ghost use Rattle.call_forms.specs.declared.asked.Asked.{Asked};
-ghost use Rattle.request_rules.specs.Demands.{demand_of};
-ghost use Rattle.request_rules.specs.Locating.{located};
-ghost use Rattle.request_rules.specs.Settings.{caller_name};
-ghost use Rattle.request_rules.specs.Understood.{IsDigested};
+ghost use Rattle.request_demands.specs.Demands.{demand_of};
+ghost use Rattle.request_demands.specs.Settings.{caller_name};
+ghost use Rattle.request_demands.specs.Understood.{IsDigested};
 ghost use Rattle.service_effects.specs.Fitting.{Fits, HasRoom, IsTimely};
 ghost use Rattle.request_effects.specs.Answers.{Fits as ShowsFit};
 ghost use Rattle.request_effects.specs.Keeps.{kept_of};
+ghost use Rattle.request_effects.specs.Places.{located_in};
 ghost use Rattle.request_effects.specs.Planned.{IsSafe};
 ghost use Rattle.request_effects.specs.Shows.{shows_of};
 ghost use Rattle.service_effects.specs.States.{recorded_in};
@@ -22,10 +22,11 @@ use message_forms::Request;
 use names_realms::Moment;
 use permissions::Policy;
 use query_pages::Asker;
+use request_demands::Call;
 use request_effects::{
     Context, Numbered, Showing, keep_of, numbered_of, plan_change, show, shows_of,
 };
-use request_rules::{Call, Located};
+use request_rules::Located;
 use service_effects::{Change, Effect, Planned};
 use std::alloc::{AllocError, Global};
 
@@ -95,8 +96,7 @@ impl Core {
     ) -> Result<Prepared, AllocError>
         requires there { call.caller < length policy.now.users }
         requires places { found.now.places.now
-            ≡ located self.old.held.world.world.invocations self.old.held.results.rows
-            (demand_of call.request) }
+            ≡ located_in (recorded_in self.old.held) (demand_of call.request) }
         requires shows { found.now.shows.now ≡ shows_of (recorded_in self.old.held) call.request }
         requires timely { IsTimely self.old.held.world.world moment }
         requires safe { IsSafe self.old.held.world.world moment
@@ -137,8 +137,7 @@ impl Core {
     ) -> Result<Prepared, AllocError>
         requires there { call.caller < length policy.now.users }
         requires places { places.now
-            ≡ located self.old.held.world.world.invocations self.old.held.results.rows
-            (demand_of call.request) }
+            ≡ located_in (recorded_in self.old.held) (demand_of call.request) }
         requires timely { IsTimely self.old.held.world.world moment }
         requires safe { IsSafe self.old.held.world.world moment
             (caller_name (record { policy = policy.now }) call.caller) call.request }
@@ -200,8 +199,7 @@ impl Core {
         requires safe { IsSafe self.old.held.world.world context.now.moment context.now.name.now
             request }
         requires places { context.now.located.now
-            ≡ located self.old.held.world.world.invocations self.old.held.results.rows
-            (demand_of request) }
+            ≡ located_in (recorded_in self.old.held) (demand_of request) }
         requires free { IsFreeFor self.old.keeps.kept context.now.name.now numbered }
         ensures roomier { IsRoomier self.old self.new }
         ensures prepared { IfOk result (IsPreparedAgain self.new (again_of self.old

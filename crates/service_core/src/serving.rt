@@ -1,14 +1,15 @@
 //! The core: the world in memory, and its steps.
-ghost use Rattle.std.specs.Prelude.{◌≡◌, ◌≢◌, ℕ, ◌≤ℤ◌, ◌<◌, Bool, pos, IfOk, MatchBool, None, Some, OnErr, OnOk, length, slice_get};
+ghost use Rattle.std.specs.Prelude.{◌≡◌, ◌≢◌, ℕ, ◌≤ℤ◌, ◌<◌, Bool, pos, IfOk, MatchBool, None, Some, OnErr, OnOk};
+ghost use Rattle.std.specs.Prelude.{length, slice_get};
 ghost use Rattle.std.specs.Int.{int_min, int_max};
 ghost use Rattle.kept_replies.specs.declared.reply.KeptReply.{KeptReply};
 ghost use Rattle.invocation_world.specs.World.{IsCallMoment, IsValid, latest_call};
 ghost use Rattle.invocation_world.specs.Advancing.{IsDueAt, IsQuiet};
-ghost use Rattle.request_rules.specs.Demands.{demand_of};
-ghost use Rattle.request_rules.specs.Locating.{located};
-ghost use Rattle.request_rules.specs.Numbered.{IsNumbered};
-ghost use Rattle.request_rules.specs.Settings.{caller_name};
-ghost use Rattle.request_rules.specs.Understood.{IsCallOf, IsUnderstood};
+ghost use Rattle.request_demands.specs.Demands.{demand_of};
+ghost use Rattle.request_effects.specs.Places.{located_in};
+ghost use Rattle.request_demands.specs.Numbered.{IsNumbered};
+ghost use Rattle.request_demands.specs.Settings.{caller_name};
+ghost use Rattle.request_demands.specs.Understood.{IsCallOf, IsUnderstood};
 ghost use Rattle.service_effects.specs.Fitting.{IsTimely};
 ghost use Rattle.service_core.specs.CoreState.{IsRoomier, more_changes, world_in};
 ghost use Rattle.service_effects.specs.Service.{empty_service};
@@ -18,7 +19,7 @@ ghost use Rattle.service_core.specs.Step.{moment_of};
 ghost use Rattle.service_core.specs.Plans.{CanDo, CanKeep, Carries, Fits, IsPrepared, Works};
 ghost use Rattle.request_effects.specs.Keeps.{kept_answer, with_kept};
 ghost use Rattle.call_forms.specs.declared.asked.Asked.{Asked};
-ghost use Rattle.service_core.specs.Judged.{IsAnswered, TellsRefusal};
+ghost use Rattle.service_core.specs.Judged.{IsAnswered, TellsJudged, TellsRefusal};
 ghost use Rattle.service_core.specs.History.{Serves};
 
 use crate::plan::{Plan, Prepared, Work};
@@ -27,10 +28,9 @@ use invocations::Invocation;
 use kept_replies::{KeptReplies, Ready};
 use names_realms::Moment;
 use permissions::Policy;
+use request_demands::{Call, NumberCheck, Understood, check_number};
 use request_effects::show_kept;
-use request_rules::{
-    Call, Located, NumberCheck, Rule, Situation, Understood, check_number, holdings_for,
-};
+use request_rules::{Located, Rule, Situation, holdings_for};
 use service_effects::{Tables, carry_out};
 use std::alloc::{AllocError, Global};
 use std::marker::Model;
@@ -146,8 +146,7 @@ impl Core {
     ) -> Result<Option<Answer>, AllocError>
         requires there { call.now.caller < length policy.now.users }
         requires places { found.now.places.now
-            ≡ located self.now.held.world.world.invocations self.now.held.results.rows
-            (demand_of call.now.request) }
+            ≡ located_in (recorded_in self.now.held) (demand_of call.now.request) }
         ensures valid { IfOk result (λ _. IsValid self.now.held.world.world) }
         ensures told { (asked : Asked) → IsCallOf (record { policy = policy.now }) asked call.now
             → IsNumbered self.now.keeps.kept
@@ -161,6 +160,7 @@ impl Core {
             policy,
             table: self.tables.world.table(),
             results: &self.tables.results,
+            artifacts: &self.tables.artifacts,
             moment,
             holdings: holdings.as_slice(),
             located: found.places,
@@ -190,42 +190,66 @@ impl Core {
         show_kept(alloc, &self.tables, policy, &self.kept.reply(place).answer)
     }
 
-    /// What a caller's request comes to at this moment that is no repeat, by what its number comes
-    /// to.
-    fn prepare_new(
-        &mut self,
+    /// Where all stands that a call names that is no repeat, or the refusal of the rule for what is
+    /// demanded that it breaks, by what its number comes to. `Err` where there is no memory.
+    fn judge(
+        &self,
         alloc: Global,
         policy: &Policy,
         moment: Moment,
-        call: Call,
+        call: &Call,
         number: NumberCheck,
-    ) -> Result<Prepared, AllocError>
-        requires in_range { IsCallMoment moment }
-        requires later { self.old.held.world.world.last ≤ℤ moment }
-        requires quiet { IsQuiet self.old.held.world.world moment }
+    ) -> Result<Result<Located, Prepared>, AllocError>
+        requires there { call.now.caller < length policy.now.users }
         requires other { (place : ℕ) → number ≢ NumberCheck.Repeat place }
-        requires call { (asked : Asked) × IsCallOf (record { policy = policy.now }) asked call
-            × IsNumbered self.old.keeps.kept
-            (caller_name (record { policy = policy.now }) call.caller) asked
-            (demand_of call.request) number }
-        ensures roomier { IsRoomier self.old self.new }
-        ensures prepared { (asked : Asked) → IsCallOf (record { policy = policy.now }) asked call
-            → IsNumbered self.old.keeps.kept
-            (caller_name (record { policy = policy.now }) call.caller) asked
-            (demand_of call.request) number
-            → IfOk result (IsPrepared (record { policy = policy.now }) self.new moment asked) }
+        ensures { (asked : Asked) → IsCallOf (record { policy = policy.now }) asked call.now
+            → IsNumbered self.now.keeps.kept
+            (caller_name (record { policy = policy.now }) call.now.caller) asked
+            (demand_of call.now.request) number
+            → IfOk result (TellsJudged (record { policy = policy.now }) self.now moment asked
+            call.now) }
     {
-        let _ = policy.tables();
-        let table = self.tables.world.table();
-        let places = Located::of(alloc, table, &self.tables.results, &call.request)?;
+        let tables = &self.tables;
+        let table = tables.world.table();
+        let places = Located::of(
+            alloc,
+            table,
+            &tables.results,
+            &tables.artifacts,
+            &call.request,
+        )?;
         let found = LookedUp {
             places: &places,
             number,
         };
-        if let Some(answer) = self.refused(alloc, policy, moment, &call, &found)? {
-            return Ok(Prepared::Refused(answer));
+        match self.refused(alloc, policy, moment, call, &found)? {
+            Some(answer) => Ok(Err(Prepared::Refused(answer))),
+            None => Ok(Ok(places)),
         }
-        self.plan(alloc, policy, moment, call, &places)
+    }
+
+    /// Where all stands that a call names, or what it comes to where it isn't to be planned: a
+    /// refusal, or the answer to a repeat. `Err` where there is no memory.
+    fn assess(
+        &self,
+        alloc: Global,
+        policy: &Policy,
+        moment: Moment,
+        call: &Call,
+    ) -> Result<Result<Located, Prepared>, AllocError>
+        requires call { (asked : Asked) × IsCallOf (record { policy = policy.now }) asked call.now }
+        ensures { (asked : Asked) → IsCallOf (record { policy = policy.now }) asked call.now
+            → IfOk result (TellsJudged (record { policy = policy.now }) self.now moment asked
+            call.now) }
+    {
+        let number = check_number(alloc, &self.kept, policy.name_of(call.caller), call)?;
+        match number {
+            NumberCheck::Repeat(place) => {
+                Ok(Err(Prepared::Repeated(self.kept_answer(alloc, policy, place)?)))
+            }
+            NumberCheck::New => self.judge(alloc, policy, moment, call, number),
+            NumberCheck::Reused => self.judge(alloc, policy, moment, call, number),
+        }
     }
 
     /// What a caller's request comes to at this moment.
@@ -244,13 +268,10 @@ impl Core {
         ensures prepared { (asked : Asked) → IsCallOf (record { policy = policy.now }) asked call
             → IfOk result (IsPrepared (record { policy = policy.now }) self.new moment asked) }
     {
-        let number = check_number(alloc, &self.kept, policy.name_of(call.caller), &call)?;
-        match number {
-            NumberCheck::Repeat(place) => {
-                Ok(Prepared::Repeated(self.kept_answer(alloc, policy, place)?))
-            }
-            NumberCheck::New => self.prepare_new(alloc, policy, moment, call, number),
-            NumberCheck::Reused => self.prepare_new(alloc, policy, moment, call, number),
+        let _ = policy.tables();
+        match self.assess(alloc, policy, moment, &call)? {
+            Ok(places) => self.plan(alloc, policy, moment, call, &places),
+            Err(prepared) => Ok(prepared),
         }
     }
 

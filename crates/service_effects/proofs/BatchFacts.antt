@@ -47,11 +47,11 @@ given_key holder rows at row within is =
     key_is (given holder rows) at (with_holder holder row) (omega (arith, within, length-map rows (with_holder holder)))
     (sym (get_or-map (with_holder holder) rows at row (with_holder holder row) within ∙ ap (with_holder holder) (sym is)))
 
-some_place : (o : Option ℕ) → is_some o ≡ true → (place : ℕ) × (o ≡ Some place)
+pub some_place : (o : Option ℕ) → is_some o ≡ true → (place : ℕ) × (o ≡ Some place)
 some_place None e = let no : false ≡ true = e in cc
 some_place (Some place) e = (place, refl)
 
-no_place : (o : Option ℕ) → is_some o ≡ false → o ≡ None
+pub no_place : (o : Option ℕ) → is_some o ≡ false → o ≡ None
 no_place None e = refl
 no_place (Some place) e = let no : true ≡ false = e in cc
 

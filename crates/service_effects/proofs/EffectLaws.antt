@@ -4,6 +4,8 @@ use Rattle.std.specs.Prelude.{slice_get}
 use Rattle.std.proofs.Common.{true}
 use Rattle.std.proofs.lemmas.Bool.{cases_lt}
 use Rattle.std.proofs.lemmas.Option.{same_Some}
+use Rattle.artifacts.specs.declared.artifact.Artifact.{Artifact}
+use Rattle.artifacts.specs.Artifacts as files
 use Rattle.names_realms.specs.declared.pairs.Pair.{Pair}
 use Rattle.names_realms.specs.declared.states.State.TheVariants.{Active}
 use Rattle.inclusion_graph.specs.Edges.{edges_from, fresh, targets_of}
@@ -27,7 +29,7 @@ use Rattle.std.proofs.lemmas.Bool.{cond-true}
 use Rattle.service_effects.specs.declared.effect.Effect.{Effect}
 use Rattle.service_effects.specs.declared.effect.Effect.TheVariants as does
 use Rattle.service_effects.specs.Service.{Recorded}
-use Rattle.service_effects.specs.Effects.{Does, Makes, exonerations_after, results_after}
+use Rattle.service_effects.specs.Effects.{Does, Makes, artifacts_after, exonerations_after, results_after}
 use Rattle.service_effects.specs.Fitting.{IsIncludable, IsTimely, Suits}
 use Rattle.service_effects.specs.Refused.{IsUnrefused, table_full}
 use Rattle.service_effects.specs.Laws.{EffectsAreChanges}
@@ -116,6 +118,8 @@ rows_valid w after moment (does.Results batch) timely may unbroken acts =
     settled_valid moment (with_moment moment w.rows) after (noted_valid w.rows moment timely) acts
 rows_valid w after moment (does.Exonerations batch) timely may unbroken acts =
     settled_valid moment (with_moment moment w.rows) after (noted_valid w.rows moment timely) acts
+rows_valid w after moment (does.Artifacts batch) timely may unbroken acts =
+    settled_valid moment (with_moment moment w.rows) after (noted_valid w.rows moment timely) acts
 
 -- ---- other worlds
 
@@ -203,6 +207,9 @@ some_results batch some none = some (ap results.holders_of none)
 some_exonerations : (batch : List TestExoneration) → exonerations.holders_of batch ≢ [] → batch ≢ []
 some_exonerations batch some none = some (ap exonerations.holders_of none)
 
+some_artifacts : (batch : List Artifact) → files.holders_of batch ≢ [] → batch ≢ []
+some_artifacts batch some none = some (ap files.holders_of none)
+
 leaves_other : (w after : Recorded) (moment : ℤ) (effect : Effect) → IsTimely w.rows moment → Suits w.rows moment effect
     → IsUnrefused w effect → Makes moment effect w after → effect ≢ does.Nothing → after ≢ w
 leaves_other w after moment does.Nothing timely may unbroken makes some = absurd (some refl)
@@ -219,6 +226,9 @@ leaves_other w after moment (does.Results batch) timely may unbroken makes some 
 leaves_other w after moment (does.Exonerations batch) timely may unbroken makes some =
     λ same. longer w.exonerations batch after.exonerations (some_exonerations batch may.some) makes.exonerations
     (ap (λ (v : Recorded). v.exonerations) same)
+leaves_other w after moment (does.Artifacts batch) timely may unbroken makes some =
+    λ same. longer w.artifacts batch.rows after.artifacts (some_artifacts batch.rows may.batch.some) makes.artifacts
+    (ap (λ (v : Recorded). v.artifacts) same)
 
 -- the invocations stay, where nothing is done
 pub stays_same : (w after : World) (moment : ℤ) (effect : Effect) → IsTimely w moment → Does moment effect w after → effect ≡ does.Nothing
@@ -226,11 +236,15 @@ pub stays_same : (w after : World) (moment : ℤ) (effect : Effect) → IsTimely
 stays_same w after moment effect timely acts is =
     after_is moment w after timely.valid (subst (λ (e : Effect). Does moment e w after) is acts)
 
-same_recorded : (v w : Recorded) → v.rows ≡ w.rows → v.results ≡ w.results → v.exonerations ≡ w.exonerations → v ≡ w
-same_recorded v w rows results exonerations =
-    let Of : World → List TestResult → List TestExoneration → Recorded = λ a b c. record { rows = a; results = b; exonerations = c } in
-    ap (λ (a : World). Of a v.results v.exonerations) rows
-    ∙ (ap (λ (b : List TestResult). Of w.rows b v.exonerations) results ∙ ap (Of w.rows w.results) exonerations)
+same_recorded : (v w : Recorded) → v.rows ≡ w.rows → v.results ≡ w.results → v.exonerations ≡ w.exonerations → v.artifacts ≡ w.artifacts
+    → v ≡ w
+same_recorded v w rows results exonerations artifacts =
+    let Of : World → List TestResult → List TestExoneration → List Artifact → Recorded =
+    λ a b c d. record { rows = a; results = b; exonerations = c; artifacts = d } in
+    ap (λ (a : World). Of a v.results v.exonerations v.artifacts) rows
+    ∙ (ap (λ (b : List TestResult). Of w.rows b v.exonerations v.artifacts) results
+    ∙ (ap (λ (c : List TestExoneration). Of w.rows w.results c v.artifacts) exonerations
+    ∙ ap (Of w.rows w.results w.exonerations) artifacts))
 
 pub all_stays_same : (w after : Recorded) (moment : ℤ) (effect : Effect) → IsTimely w.rows moment → Makes moment effect w after
     → effect ≡ does.Nothing → after ≡ w
@@ -238,6 +252,7 @@ all_stays_same w after moment effect timely makes is =
     same_recorded after w (stays_same w.rows after.rows moment effect timely makes.rows is)
     (makes.results ∙ ap (λ (e : Effect). results_after e w.results) is)
     (makes.exonerations ∙ ap (λ (e : Effect). exonerations_after e w.exonerations) is)
+    (makes.artifacts ∙ ap (λ (e : Effect). artifacts_after e w.artifacts) is)
 
 pub effects_change : EffectsAreChanges
 effects_change w after moment effect timely may unbroken makes =

@@ -4,3 +4,5 @@ pub mod RefusedLaws
 pub mod DoneFacts
 pub mod BatchFacts
 pub mod SoundLaws
+pub mod FileFacts
+pub mod RoomLaws

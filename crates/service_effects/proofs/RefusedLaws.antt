@@ -3,6 +3,13 @@ use Rattle.std.proofs.Common.{◌≡◌, ◌≢◌, ◌⊎◌, ◌+◌, ℕ, ℤ
 use Rattle.std.specs.Prelude.{slice_get, All}
 use Rattle.std.proofs.lemmas.List.Elements.{All-head}
 use Rattle.std.proofs.lemmas.Bool.{cases_lt}
+use Rattle.artifacts.specs.declared.artifact.Artifact.{Artifact}
+use Rattle.artifacts.specs.declared.faults.ArtifactFault.{ArtifactFault}
+use Rattle.artifacts.specs.declared.faults.ArtifactFault.TheVariants as file
+use Rattle.artifacts.specs.Artifacts as files
+use Rattle.artifacts.specs.Batches as artifacts
+use Rattle.artifacts.specs.Requests.{DigestedState, IsSaidRight}
+use Rattle.artifacts.proofs.FaultLemmas as file_faults
 use Rattle.call_forms.specs.declared.forms.Refusal.{Refusal}
 use Rattle.invocations.specs.declared.invocation.Invocation.{Invocation}
 use Rattle.test_results.specs.declared.exoneration.TestExoneration.{TestExoneration}
@@ -18,7 +25,7 @@ use Rattle.service_effects.specs.declared.effect.Effect.TheVariants as does
 use Rattle.service_effects.specs.declared.tables.Tables.{Tables}
 use Rattle.service_effects.specs.Service.{Recorded}
 use Rattle.service_effects.specs.Fitting.{HasRoom, Suits, holder_in}
-use Rattle.service_effects.specs.Refused.{AreExonerationsRefused, AreResultsRefused, EffectRefused, IsUnrefused, IsExonerationsRefusal, IsResultsRefusal, name_by, repeated, table_full, taken, too_many}
+use Rattle.service_effects.specs.Refused.{AreArtifactsRefused, AreExonerationsRefused, AreResultsRefused, EffectRefused, IsUnrefused, IsArtifactsRefusal, IsExonerationsRefusal, IsResultsRefusal, file_name, hash_wrong, name_by, repeated, size_wrong, table_full, taken, too_many}
 use Rattle.service_effects.specs.States.{recorded_in}
 
 -- ---- batches
@@ -101,6 +108,46 @@ pub exonerations_can : (w : Recorded) (batch : List TestExoneration) → ((r : R
 exonerations_can w batch unbroken =
     elim (exonerations_refused_or_not w batch) [ inl refused ↦ absurd (unbroken refused.0 refused.1) | inr can ↦ can ]
 
+one_of_artifacts : (batch : DigestedState) (fault : ArtifactFault) (r p : Refusal) → IsArtifactsRefusal batch fault r
+    → IsArtifactsRefusal batch fault p → r ≡ p
+one_of_artifacts batch (file.TooMany count) r p this that = this ∙ sym that
+one_of_artifacts batch (file.Repeated first second) r p this that = this ∙ sym that
+one_of_artifacts batch (file.SizeWrong at said found) r p this that = this ∙ sym that
+one_of_artifacts batch (file.HashWrong at said found) r p this that = this ∙ sym that
+one_of_artifacts batch (file.Taken at) r p this that = this ∙ sym that
+one_of_artifacts batch (file.Full count) r p this that = this ∙ sym that
+one_of_artifacts batch file.Memory r p this that = absurd this
+
+refused_artifacts : (batch : DigestedState) (fault : ArtifactFault) → fault ≢ file.Memory → (r : Refusal) × IsArtifactsRefusal batch fault r
+refused_artifacts batch (file.TooMany count) other = (too_many count, refl)
+refused_artifacts batch (file.Repeated first second) other = (repeated first second, refl)
+refused_artifacts batch (file.SizeWrong at said found) other = (size_wrong at said found, refl)
+refused_artifacts batch (file.HashWrong at said found) other = (hash_wrong at said found, refl)
+refused_artifacts batch (file.Taken at) other = (taken (file_name (slice_get batch.rows at)), refl)
+refused_artifacts batch (file.Full count) other = (table_full (codes "artifacts") count, refl)
+refused_artifacts batch file.Memory other = absurd (other refl)
+
+artifacts_refused_or_not : (w : Recorded) (batch : DigestedState)
+    → ((r : Refusal) × AreArtifactsRefused w batch r)
+    ⊎ artifacts.CanCome w.artifacts (holder_in (files.holders_of batch.rows)) batch
+artifacts_refused_or_not w batch =
+    elim (file_faults.fault_or_can_come w.artifacts (holder_in (files.holders_of batch.rows)) batch) [
+      | inl can ↦ inr can
+      | inr has ↦ let r = refused_artifacts batch has.0 has.1 in
+          inl (r.0, record { fault = has.0; has = has.2; refusal_is = r.1 })
+    ]
+
+artifacts_unrefused : (w : Recorded) (batch : DigestedState) → artifacts.CanCome w.artifacts (holder_in (files.holders_of batch.rows)) batch
+    → ((r : Refusal) → ¬ AreArtifactsRefused w batch r)
+artifacts_unrefused w batch can r h =
+    subst (λ (f : ArtifactFault). IsArtifactsRefusal batch f r)
+    (file_faults.one_fault w.artifacts (holder_in (files.holders_of batch.rows)) batch h.fault file.Memory h.has can) h.refusal_is
+
+pub artifacts_can : (w : Recorded) (batch : DigestedState) → ((r : Refusal) → ¬ AreArtifactsRefused w batch r)
+    → artifacts.CanCome w.artifacts (holder_in (files.holders_of batch.rows)) batch
+artifacts_can w batch unbroken =
+    elim (artifacts_refused_or_not w batch) [ inl refused ↦ absurd (unbroken refused.0 refused.1) | inr can ↦ can ]
+
 -- ---- effects
 
 -- it is told in one way
@@ -119,6 +166,12 @@ one_refusal w (does.Exonerations batch) r p this that =
     one_of_exonerations that.fault r p
     (subst (λ (f : BatchFault). IsExonerationsRefusal f r)
     (one_fault.1 w.exonerations (holder_in (exonerations.holders_of batch)) (length batch) this.fault that.fault this.has that.has)
+    this.refusal_is)
+    that.refusal_is
+one_refusal w (does.Artifacts batch) r p this that =
+    one_of_artifacts batch that.fault r p
+    (subst (λ (f : ArtifactFault). IsArtifactsRefusal batch f r)
+    (file_faults.one_fault w.artifacts (holder_in (files.holders_of batch.rows)) batch this.fault that.fault this.has that.has)
     this.refusal_is)
     that.refusal_is
 
@@ -141,6 +194,8 @@ refused_or_not w (does.Results batch) =
     elim (results_refused_or_not w batch) [ inl refused ↦ inl refused | inr can ↦ inr (results_unrefused w batch can) ]
 refused_or_not w (does.Exonerations batch) =
     elim (exonerations_refused_or_not w batch) [ inl refused ↦ inl refused | inr can ↦ inr (exonerations_unrefused w batch can) ]
+refused_or_not w (does.Artifacts batch) =
+    elim (artifacts_refused_or_not w batch) [ inl refused ↦ inl refused | inr can ↦ inr (artifacts_unrefused w batch can) ]
 
 -- ---- what can be done isn't refused
 
@@ -172,6 +227,18 @@ exonerations_have_room held batch some fits =
     exonerations_unrefused (recorded_in held) batch
     (subst (λ (h : ℕ). exonerations.CanAdd held.exonerations.rows h (length batch)) (sym holder_is) fits.can)
 
+pub holder_of_files : (holder : ℕ) (batch : List Artifact) → files.holders_of batch ≢ [] → All (λ row. row.holder ≡ holder) batch
+    → holder_in (files.holders_of batch) ≡ holder
+holder_of_files holder [] some held = absurd (some refl)
+holder_of_files holder (row ∷ rows) some held = All-head (λ (r : Artifact). r.holder ≡ holder) row rows held
+
+artifacts_have_room : (held : Tables) (batch : DigestedState) → files.holders_of batch.rows ≢ [] → artifacts.Fits held.artifacts batch.rows
+    → IsSaidRight batch (length batch.rows) → ((r : Refusal) → ¬ AreArtifactsRefused (recorded_in held) batch r)
+artifacts_have_room held batch some fits said =
+    artifacts_unrefused (recorded_in held) batch
+    (subst (λ (h : ℕ). artifacts.CanCome held.artifacts.rows h batch) (sym (holder_of_files fits.holder batch.rows some fits.held))
+    (record { said = said; can = fits.can }))
+
 pub unrefused : (held : Tables) (moment : ℤ) (effect : Effect) → Suits held.world.world moment effect → HasRoom held effect
     → IsUnrefused (recorded_in held) effect
 unrefused held moment does.Nothing may room r never = never
@@ -181,3 +248,4 @@ unrefused held moment (does.End place) may room r never = never
 unrefused held moment (does.Include plan) may room r full = let many = full.0 in omega (arith, room.0, many)
 unrefused held moment (does.Results batch) may room r refused = results_have_room held batch may.some room r refused
 unrefused held moment (does.Exonerations batch) may room r refused = exonerations_have_room held batch may.some room r refused
+unrefused held moment (does.Artifacts batch) may room r refused = artifacts_have_room held batch may.batch.some room.0 room.1 r refused

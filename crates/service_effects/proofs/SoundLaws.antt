@@ -5,6 +5,10 @@ use Rattle.std.proofs.lemmas.Bool.{cases_Bool, cond-false, cond-true}
 use Rattle.std.proofs.lemmas.List.{length-map}
 use Rattle.std.proofs.lemmas.List.Elements.{All-append, All-cons, All-head, All-nil, All-tail, All-weaker}
 use Rattle.std.proofs.lemmas.Option.{slice_get_within}
+use Rattle.artifacts.specs.declared.artifact.Artifact.{Artifact}
+use Rattle.artifacts.specs.Artifacts as files
+use Rattle.artifacts.specs.Requests.{DigestedState}
+use Rattle.artifacts.proofs.TableLemmas as file_tables
 use Rattle.names_realms.specs.declared.pairs.Pair.{Pair}
 use Rattle.names_realms.specs.declared.states.State.TheVariants.{Active}
 use Rattle.inclusion_graph.specs.declared.edge.Edge.{Edge}
@@ -23,14 +27,14 @@ use Rattle.invocation_world.specs.Changes.{is_update, updated, with_edges, with_
 use Rattle.invocation_world.proofs.RowFacts.{row_in}
 use Rattle.service_effects.specs.declared.effect.Effect.{Effect}
 use Rattle.service_effects.specs.declared.effect.Effect.TheVariants as does
-use Rattle.service_effects.specs.Service.{AreExonerations, AreResults, IsSound, Recorded}
+use Rattle.service_effects.specs.Service.{AreArtifacts, AreExonerations, AreResults, IsSound, Recorded}
 use Rattle.service_effects.specs.Effects.{Does, Makes, with_effect}
-use Rattle.service_effects.specs.Fitting.{ArePlaced, IsBatchFor, IsTimely, Suits, holder_in}
+use Rattle.service_effects.specs.Fitting.{AreArtifactsFor, ArePlaced, IsBatchFor, IsTimely, Suits, holder_in}
 use Rattle.service_effects.specs.Refused.{IsUnrefused}
 use Rattle.service_effects.specs.Laws.{EffectsKeepValid}
 use Rattle.service_effects.proofs.IdFacts.{ids_settled}
 use Rattle.service_effects.proofs.EffectLaws.{rows_valid}
-use Rattle.service_effects.proofs.RefusedLaws.{exonerations_can, results_can}
+use Rattle.service_effects.proofs.RefusedLaws.{artifacts_can, exonerations_can, results_can}
 
 -- ---- invocations become no fewer
 
@@ -71,6 +75,7 @@ effect_count moment (does.End place) w = omega (arith, changed_count (begun mome
 effect_count moment (does.Include plan) w = omega (arith, edges_count moment (edges_from plan.from plan.targets) w)
 effect_count moment (does.Results batch) w = omega arith
 effect_count moment (does.Exonerations batch) w = omega arith
+effect_count moment (does.Artifacts batch) w = omega arith
 
 pub rows_no_fewer : (moment : ℤ) (effect : Effect) (w after : World) → Does moment effect w after
     → length w.invocations ≤ length after.invocations
@@ -139,6 +144,32 @@ exonerations_added w more batch after sound le may at unbroken is =
           (λ row same. omega (arith, same, there, le)) batch own);
     })
 
+all_filed : (holder : ℕ) (batch : List Artifact) → All (λ h. h ≡ holder) (files.holders_of batch) → All (λ row. row.holder ≡ holder) batch
+all_filed holder [] one = All-nil (λ (row : Artifact). row.holder ≡ holder)
+all_filed holder (row ∷ rows) one =
+    All-cons (λ (r : Artifact). r.holder ≡ holder) row rows (All-head (λ h. h ≡ holder) row.holder (files.holders_of rows) one)
+    (all_filed holder rows (All-tail (λ h. h ≡ holder) row.holder (files.holders_of rows) one))
+
+artifacts_added : (w : Recorded) (more : ℕ) (batch : DigestedState) (after : List Artifact)
+    → AreArtifacts (length w.rows.invocations) w.artifacts → length w.rows.invocations ≤ more → AreArtifactsFor w.rows batch
+    → IsUnrefused w (does.Artifacts batch) → after ≡ w.artifacts ++ batch.rows → AreArtifacts more after
+artifacts_added w more batch after sound le may unbroken is =
+    let holder = holder_in (files.holders_of batch.rows) in
+    let own = all_filed holder batch.rows may.batch.one in
+    let there = batch_there w.rows (files.holders_of batch.rows) may.batch in
+    subst (AreArtifacts more) (sym is) (record {
+      table = file_tables.table_with w.artifacts batch.rows holder own may.hashed (artifacts_can w batch unbroken).can sound.table;
+      held = All-append (λ (row : Artifact). row.holder < more) w.artifacts batch.rows
+          (held_later (λ (row : Artifact). row.holder) (length w.rows.invocations) more w.artifacts le sound.held)
+          (All-weaker (λ (row : Artifact). row.holder ≡ holder) (λ (row : Artifact). row.holder < more)
+          (λ row same. omega (arith, same, there, le)) batch.rows own);
+    })
+
+artifacts_later : (more count : ℕ) (rows after : List Artifact) → AreArtifacts count rows → count ≤ more → after ≡ rows → AreArtifacts more after
+artifacts_later more count rows after sound le is =
+    subst (AreArtifacts more) (sym is)
+    (record { table = sound.table; held = held_later (λ (row : Artifact). row.holder) count more rows le sound.held })
+
 results_later : (more count : ℕ) (rows after : List TestResult) → AreResults count rows → count ≤ more → after ≡ rows → AreResults more after
 results_later more count rows after sound le is =
     subst (AreResults more) (sym is)
@@ -165,37 +196,52 @@ module _ (w after : Recorded) (moment : ℤ) (effect : Effect) (sound : IsSound 
   exonerations_kept is =
       exonerations_later (length after.rows.invocations) (length w.rows.invocations) w.exonerations after.exonerations sound.exonerations no_fewer is
 
+  pub artifacts_kept : after.artifacts ≡ w.artifacts → AreArtifacts (length after.rows.invocations) after.artifacts
+  artifacts_kept is =
+      artifacts_later (length after.rows.invocations) (length w.rows.invocations) w.artifacts after.artifacts sound.artifacts no_fewer is
+
   pub sound_with : AreResults (length after.rows.invocations) after.results → AreExonerations (length after.rows.invocations) after.exonerations
-      → IsSound after
-  sound_with results exonerations = record {
+      → AreArtifacts (length after.rows.invocations) after.artifacts → IsSound after
+  sound_with results exonerations artifacts = record {
     rows = rows_valid w after.rows moment effect timely may unbroken makes.rows;
     results = results;
     exonerations = exonerations;
+    artifacts = artifacts;
   }
 
-  pub sound_so : after.results ≡ w.results → after.exonerations ≡ w.exonerations → IsSound after
-  sound_so results exonerations = sound_with (results_kept results) (exonerations_kept exonerations)
+  pub sound_so : after.results ≡ w.results → after.exonerations ≡ w.exonerations → after.artifacts ≡ w.artifacts → IsSound after
+  sound_so results exonerations artifacts =
+      sound_with (results_kept results) (exonerations_kept exonerations) (artifacts_kept artifacts)
 
 pub effect_sound : EffectsKeepValid
 effect_sound w after moment does.Nothing sound timely may at unbroken makes =
-    sound_so w after moment does.Nothing sound timely may unbroken makes makes.results makes.exonerations
+    sound_so w after moment does.Nothing sound timely may unbroken makes makes.results makes.exonerations makes.artifacts
 effect_sound w after moment (does.Add row) sound timely may at unbroken makes =
-    sound_so w after moment (does.Add row) sound timely may unbroken makes makes.results makes.exonerations
+    sound_so w after moment (does.Add row) sound timely may unbroken makes makes.results makes.exonerations makes.artifacts
 effect_sound w after moment (does.Update place deadline tags) sound timely may at unbroken makes =
-    sound_so w after moment (does.Update place deadline tags) sound timely may unbroken makes makes.results makes.exonerations
+    sound_so w after moment (does.Update place deadline tags) sound timely may unbroken makes makes.results makes.exonerations makes.artifacts
 effect_sound w after moment (does.End place) sound timely may at unbroken makes =
-    sound_so w after moment (does.End place) sound timely may unbroken makes makes.results makes.exonerations
+    sound_so w after moment (does.End place) sound timely may unbroken makes makes.results makes.exonerations makes.artifacts
 effect_sound w after moment (does.Include plan) sound timely may at unbroken makes =
-    sound_so w after moment (does.Include plan) sound timely may unbroken makes makes.results makes.exonerations
+    sound_so w after moment (does.Include plan) sound timely may unbroken makes makes.results makes.exonerations makes.artifacts
 effect_sound w after moment (does.Results batch) sound timely may at unbroken makes =
     let effect : Effect = does.Results batch in
     sound_with w after moment effect sound timely may unbroken makes
     (results_added w (length after.rows.invocations) batch after.results sound.results
     (no_fewer w after moment effect sound timely may unbroken makes) may unbroken makes.results)
     (exonerations_kept w after moment effect sound timely may unbroken makes makes.exonerations)
+    (artifacts_kept w after moment effect sound timely may unbroken makes makes.artifacts)
 effect_sound w after moment (does.Exonerations batch) sound timely may at unbroken makes =
     let effect : Effect = does.Exonerations batch in
     sound_with w after moment effect sound timely may unbroken makes
     (results_kept w after moment effect sound timely may unbroken makes makes.results)
     (exonerations_added w (length after.rows.invocations) batch after.exonerations sound.exonerations
     (no_fewer w after moment effect sound timely may unbroken makes) may at unbroken makes.exonerations)
+    (artifacts_kept w after moment effect sound timely may unbroken makes makes.artifacts)
+effect_sound w after moment (does.Artifacts batch) sound timely may at unbroken makes =
+    let effect : Effect = does.Artifacts batch in
+    sound_with w after moment effect sound timely may unbroken makes
+    (results_kept w after moment effect sound timely may unbroken makes makes.results)
+    (exonerations_kept w after moment effect sound timely may unbroken makes makes.exonerations)
+    (artifacts_added w (length after.rows.invocations) batch after.artifacts sound.artifacts
+    (no_fewer w after moment effect sound timely may unbroken makes) may unbroken makes.artifacts)

@@ -1,6 +1,9 @@
 -- When an effect can be done.
 use Rattle.std.specs.Prelude.{⊤, ◌≡◌, ◌≢◌, ℕ, ℤ, ◌+◌, ◌<◌, ◌≤◌, ◌<ℤ◌, ◌≤ℤ◌, true, List, [], ◌∷◌, All, Option, Some, length, slice_get}
 use Rattle.std.specs.Option.{ForSome}
+use Rattle.artifacts.specs.Artifacts as files
+use Rattle.artifacts.specs.Batches as artifacts
+use Rattle.artifacts.specs.Requests.{DigestedState, IsSaidRight}
 use Rattle.names_realms.specs.declared.pairs.Pair.{Pair}
 use Rattle.names_realms.specs.declared.states.State.TheVariants.{Active}
 use Rattle.inclusion_graph.specs.Edges.{fresh, targets_of}
@@ -63,6 +66,11 @@ pub record IsBatchFor (w : World) (holders : List ℕ) : Type 0 where
   pub one : All (λ holder. holder ≡ holder_in holders) holders
   pub active : IsInState Active w.invocations (holder_in holders)
 
+-- So has one of artifacts, each of which has the hash of its contents.
+pub record AreArtifactsFor (w : World) (given : DigestedState) : Type 0 where
+  pub batch : IsBatchFor w (files.holders_of given.rows)
+  pub hashed : All files.HasItsHash given.rows
+
 -- The effect is one that a valid world can have at this moment, if no table is full.
 abbrev pub Suits : World → ℤ → Effect → Type 0
 Suits w moment does.Nothing = ⊤
@@ -72,19 +80,15 @@ Suits w moment (does.End place) = IsInState Active w.invocations place
 Suits w moment (does.Include plan) = IsIncludable w plan
 Suits w moment (does.Results batch) = IsBatchFor w (results.holders_of batch)
 Suits w moment (does.Exonerations batch) = IsBatchFor w (exonerations.holders_of batch)
+Suits w moment (does.Artifacts batch) = AreArtifactsFor w batch
 
 -- Exonerations have their places behind those of their holder.
 abbrev pub ArePlaced : List TestExoneration → Effect → Type 0
-ArePlaced rows does.Nothing = ⊤
-ArePlaced rows (does.Add row) = ⊤
-ArePlaced rows (does.Update place deadline tags) = ⊤
-ArePlaced rows (does.End place) = ⊤
-ArePlaced rows (does.Include plan) = ⊤
-ArePlaced rows (does.Results batch) = ⊤
 ArePlaced rows (does.Exonerations batch) =
     (asked : List TestExoneration) × (batch ≡ exonerations.given
     (holder_in (exonerations.holders_of batch))
     (length (exonerations.places_in rows (holder_in (exonerations.holders_of batch)))) asked)
+ArePlaced rows _ = ⊤
 
 -- There is place in the tables for what the effect adds, and room in memory.
 abbrev pub HasRoom : Tables → Effect → Type 0
@@ -98,6 +102,8 @@ HasRoom held (does.Include plan) =
     × (length plan.targets ≤ held.world.room.inclusions)
 HasRoom held (does.Results batch) = batches.Fits held.results batch
 HasRoom held (does.Exonerations batch) = exonerations.Fits held.exonerations batch
+HasRoom held (does.Artifacts batch) =
+    artifacts.Fits held.artifacts batch.rows × IsSaidRight batch (length batch.rows)
 
 -- The effect can be done at this moment, without memory.
 pub record Fits (held : Tables) (moment : ℤ) (effect : Effect) : Type 0 where

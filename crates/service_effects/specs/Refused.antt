@@ -1,6 +1,14 @@
 -- Rules of what a request does, which are asked after those of what it demands.
 use Rattle.std.specs.Prelude.{◌≡◌, ℕ, ◌+◌, ◌<◌, ◌≤◌, List, [], ◌++◌, Option, Some, None, codes, decimal, length, slice_get, slice_index_or}
+use Rattle.artifacts.specs.declared.artifact.Artifact.{Artifact}
+use Rattle.artifacts.specs.declared.faults.ArtifactFault.{ArtifactFault}
+use Rattle.artifacts.specs.declared.faults.ArtifactFault.TheVariants as file
+use Rattle.artifacts.specs.Artifacts as files
+use Rattle.artifacts.specs.Batches as artifacts
+use Rattle.artifacts.specs.Requests.{DigestedState}
 use Rattle.call_forms.specs.declared.forms.Refusal.{Refusal}
+use Rattle.hex.specs.Hex.{encode_lower}
+use Rattle.names_realms.specs.ArtifactNames.{artifact_name}
 use Rattle.names_realms.specs.ResultNames.{result_name}
 use Rattle.invocations.specs.declared.invocation.Invocation.{Invocation}
 use Rattle.invocations.specs.Rows.{ids_of}
@@ -27,7 +35,19 @@ too_many count = refusal 15 (decimal count)
 abbrev pub repeated : ℕ → ℕ → Refusal
 repeated first second = refusal 16 (decimal first ++ (codes " " ++ decimal second))
 
--- Rule 19: no result has the name of one of its rows.
+-- Rules 17 and 18: what is said of the size and of the hash of one of its artifacts is right.
+abbrev pub size_wrong : ℕ → ℕ → ℕ → Refusal
+size_wrong at said found =
+    refusal 17 (decimal at ++ (codes " " ++ (decimal said ++ (codes " " ++ decimal found))))
+
+abbrev pub hash_text : List ℕ → List ℕ
+hash_text hash = codes "sha256:" ++ encode_lower hash
+
+abbrev pub hash_wrong : ℕ → List ℕ → List ℕ → Refusal
+hash_wrong at said found =
+    refusal 18 (decimal at ++ (codes " " ++ (hash_text said ++ (codes " " ++ hash_text found))))
+
+-- Rule 19: no result and no artifact has the name of one of its rows.
 abbrev pub taken : List ℕ → Refusal
 taken name = refusal 19 name
 
@@ -60,6 +80,21 @@ IsExonerationsRefusal (Taken at) r = ⊥
 IsExonerationsRefusal (Full count) r = r ≡ table_full (codes "exonerations") count
 IsExonerationsRefusal Memory r = ⊥
 
+-- the name of an artifact
+abbrev pub file_name : Option Artifact → List ℕ
+file_name None = []
+file_name (Some row) = artifact_name row.name
+
+-- And one of artifacts.
+abbrev pub IsArtifactsRefusal : DigestedState → ArtifactFault → Refusal → Type 0
+IsArtifactsRefusal batch (file.TooMany count) r = r ≡ too_many count
+IsArtifactsRefusal batch (file.Repeated first second) r = r ≡ repeated first second
+IsArtifactsRefusal batch (file.SizeWrong at said found) r = r ≡ size_wrong at said found
+IsArtifactsRefusal batch (file.HashWrong at said found) r = r ≡ hash_wrong at said found
+IsArtifactsRefusal batch (file.Taken at) r = r ≡ taken (file_name (slice_get batch.rows at))
+IsArtifactsRefusal batch (file.Full count) r = r ≡ table_full (codes "artifacts") count
+IsArtifactsRefusal batch file.Memory r = ⊥
+
 -- The first fault of a batch, in the table as it stands, is the one that it is refused for.
 pub record AreResultsRefused (w : Recorded) (batch : List TestResult) (r : Refusal) : Type 0 where
   pub fault : BatchFault
@@ -72,6 +107,11 @@ pub record AreExonerationsRefused (w : Recorded) (batch : List TestExoneration) 
   pub has : exonerations.IsBatchFault w.exonerations (holder_in (exonerations.holders_of batch))
       (length batch) fault
   pub refusal_is : IsExonerationsRefusal fault r
+
+pub record AreArtifactsRefused (w : Recorded) (batch : DigestedState) (r : Refusal) : Type 0 where
+  pub fault : ArtifactFault
+  pub has : artifacts.IsBatchFault w.artifacts (holder_in (files.holders_of batch.rows)) batch fault
+  pub refusal_is : IsArtifactsRefusal batch fault r
 
 -- An effect is refused, by the first rule that it breaks. There are at most 65,536 invocations, and
 -- at most 262,144 inclusions, with the new ones; and a batch can come into its table.
@@ -87,6 +127,7 @@ EffectRefused w (does.Include plan) r =
     × (r ≡ table_full (codes "inclusions") (length w.rows.inclusions))
 EffectRefused w (does.Results batch) r = AreResultsRefused w batch r
 EffectRefused w (does.Exonerations batch) r = AreExonerationsRefused w batch r
+EffectRefused w (does.Artifacts batch) r = AreArtifactsRefused w batch r
 
 -- It is not refused.
 abbrev pub IsUnrefused : Recorded → Effect → Type 0

@@ -33,5 +33,9 @@ pub fn carry_out(tables: &mut Tables, change: Change)
             tables.exonerations.commit(batch);
             tables.world.note_change(moment);
         }
+        Effect::Artifacts(batch) => {
+            tables.artifacts.commit(batch);
+            tables.world.note_change(moment);
+        }
     }
 }

@@ -2,6 +2,7 @@
 ghost use Rattle.std.specs.Prelude.{◌≡◌, ◌↔◌, IsTrue};
 
 use crate::faults::EffectFault;
+use artifacts::ArtifactBatch;
 use inclusion_graph::EdgePlan;
 use invocations::Invocation;
 use lists::Listed;
@@ -30,6 +31,8 @@ pub enum Effect {
     Results(ResultBatch),
     /// These exonerations are added.
     Exonerations(ExonerationBatch),
+    /// These artifacts are added.
+    Artifacts(ArtifactBatch),
 }
 
 impl Effect {
@@ -45,6 +48,7 @@ impl Effect {
             Effect::Include(_) => false,
             Effect::Results(_) => false,
             Effect::Exonerations(_) => false,
+            Effect::Artifacts(_) => false,
         }
     }
 }

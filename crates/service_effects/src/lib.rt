@@ -1,6 +1,7 @@
 //! What the service holds in memory, and what is done to it, as data.
 #![tactic(auto)]
 
+mod artifact_batches;
 mod batches;
 mod doing;
 mod effect;
@@ -9,6 +10,7 @@ mod laws;
 mod names;
 mod tables;
 
+pub use artifact_batches::plan_artifacts;
 pub use batches::{plan_exonerations, plan_results};
 pub use doing::carry_out;
 pub use effect::{Change, Effect, Planned};

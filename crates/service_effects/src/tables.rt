@@ -3,6 +3,7 @@ ghost use Rattle.std.specs.Prelude.{◌≡◌, IfOk};
 ghost use Rattle.service_effects.specs.Service.{empty_service, recorded};
 ghost use Rattle.service_effects.specs.States.{recorded_in};
 
+use artifacts::ArtifactRows;
 use invocation_world::InvocationWorld;
 use std::alloc::{AllocError, Global};
 use test_results::{ExonerationRows, ResultRows};
@@ -13,6 +14,7 @@ pub struct Tables {
     pub world: InvocationWorld,
     pub results: ResultRows,
     pub exonerations: ExonerationRows,
+    pub artifacts: ArtifactRows,
 }
 
 impl Tables {
@@ -24,6 +26,7 @@ impl Tables {
             world: InvocationWorld::new(alloc)?,
             results: ResultRows::new(alloc)?,
             exonerations: ExonerationRows::new(alloc)?,
+            artifacts: ArtifactRows::new(alloc)?,
         })
     }
 }

@@ -39,3 +39,4 @@ effect_keeps Holds w moment (does.Include plan) may kept =
     edges_keep Holds moment w (edges_from plan.from plan.targets) kept.when_same
 effect_keeps Holds w moment (does.Results batch) may kept = kept.when_same
 effect_keeps Holds w moment (does.Exonerations batch) may kept = kept.when_same
+effect_keeps Holds w moment (does.Artifacts batch) may kept = kept.when_same

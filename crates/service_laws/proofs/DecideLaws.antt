@@ -4,11 +4,11 @@ use Rattle.kept_replies.specs.declared.reply.KeptReply.{KeptReply}
 use Rattle.call_forms.specs.declared.asked.Asked.{Asked}
 use Rattle.call_forms.specs.declared.forms.Refusal.{Refusal}
 use Rattle.message_forms.specs.declared.requests.Request.{Request}
-use Rattle.request_rules.specs.Settings.{Settings}
-use Rattle.request_rules.specs.Demands.{demand_of}
+use Rattle.request_demands.specs.Settings.{Settings}
+use Rattle.request_demands.specs.Demands.{demand_of}
 use Rattle.request_rules.specs.Broken.{Case, IsBroken, order}
 use Rattle.request_rules.proofs.Decided.{broken_told, repeat_or_not}
-use Rattle.request_rules.proofs.Judged.{judged_there}
+use Rattle.request_demands.proofs.Judged.{judged_there}
 use Rattle.service_effects.specs.Service.{ServiceWorld}
 use Rattle.service_core.specs.Step.{IsFresh, IsJudgedAs, IsRepeated, case_in}
 

@@ -6,6 +6,10 @@ use Rattle.std.proofs.lemmas.List.Elements.{All-head, All-tail, All-weaker}
 use Rattle.names_realms.specs.declared.states.State.TheVariants.{Active, Finalized}
 use Rattle.inclusion_graph.specs.Edges.{edges_from}
 use Rattle.invocations.specs.Rows.{IsInState}
+use Rattle.artifacts.specs.declared.artifact.Artifact.{Artifact}
+use Rattle.artifacts.specs.Artifacts as artifacts
+use Rattle.artifacts.specs.Places.{places_of as files_of}
+use Rattle.artifacts.proofs.PlaceLemmas.{places_others as files_others}
 use Rattle.test_results.specs.declared.exoneration.TestExoneration.{TestExoneration}
 use Rattle.test_results.specs.declared.result.TestResult.{TestResult}
 use Rattle.test_results.specs.Exonerations as exonerations
@@ -17,14 +21,14 @@ use Rattle.invocation_world.specs.Changes.{with_edges}
 use Rattle.invocation_world.specs.Laws.{KeepsFinal}
 use Rattle.invocation_world.proofs.FinalFacts.{advance_final, begin_final, both_final, inclusions_final, itself_final, moment_final, row_final, settling_final, update_final}
 use Rattle.invocation_world.proofs.RowFacts.{active≢finalized, apart, row_in, state_is}
-use Rattle.request_rules.specs.Settings.{Settings, HasNames}
+use Rattle.request_demands.specs.Settings.{Settings, HasNames}
 use Rattle.service_effects.specs.declared.effect.Effect.{Effect}
 use Rattle.service_effects.specs.declared.effect.Effect.TheVariants as does
-use Rattle.service_effects.specs.Effects.{exonerations_after, results_after, with_effect}
+use Rattle.service_effects.specs.Effects.{artifacts_after, exonerations_after, results_after, with_effect}
 use Rattle.service_effects.specs.Fitting.{IsBatchFor, IsTimely, Suits, holder_in}
 use Rattle.service_effects.proofs.EffectLaws.{all_new}
 use Rattle.service_effects.specs.Service.{Recorded, ServiceWorld, recorded}
-use Rattle.service_core.specs.Service as services
+use Rattle.service_laws.specs.Validity as services
 use Rattle.service_core.specs.History.{Entry, IsLegal, Leads}
 use Rattle.service_laws.specs.Laws.{FinalStays}
 use Rattle.service_laws.proofs.MoveLaws.{IsMoved, Moves, tells_moves}
@@ -45,6 +49,7 @@ effect_final w moment (does.Include plan) valid may =
     (inclusions_final moment w plan.from plan.targets valid may.active)
 effect_final w moment (does.Results batch) valid may = moment_final moment w
 effect_final w moment (does.Exonerations batch) valid may = moment_final moment w
+effect_final w moment (does.Artifacts batch) valid may = moment_final moment w
 
 pub moved_final : (s : Settings) (w : Recorded) (moment : ℤ) (after : Recorded) → HasNames s → IsTimely w.rows moment → IsMoved s w moment after
     → KeepsFinal w.rows after.rows
@@ -84,26 +89,32 @@ pub record Holds (w after : Recorded) : Type 0 where
       → results.places_in after.results place ≡ results.places_in w.results place
   pub exonerations : (place : ℕ) → IsInState Finalized w.rows.invocations place
       → exonerations.places_in after.exonerations place ≡ exonerations.places_in w.exonerations place
+  pub artifacts : (place : ℕ) → IsInState Finalized w.rows.invocations place
+      → artifacts.places_in after.artifacts place ≡ artifacts.places_in w.artifacts place
 
-holds_same : (w after : Recorded) → after.results ≡ w.results → after.exonerations ≡ w.exonerations → Holds w after
-holds_same w after same others = record {
+holds_same : (w after : Recorded) → after.results ≡ w.results → after.exonerations ≡ w.exonerations → after.artifacts ≡ w.artifacts → Holds w after
+holds_same w after same others files = record {
   results = λ place is. ap (λ (rows : List TestResult). results.places_in rows place) same;
   exonerations = λ place is. ap (λ (rows : List TestExoneration). exonerations.places_in rows place) others;
+  artifacts = λ place is. ap (λ (rows : List Artifact). artifacts.places_in rows place) files;
 }
 
 holds_both : (a b c : Recorded) → StaysFinal a.rows b.rows → Holds a b → Holds b c → Holds a c
 holds_both a b c still first second = record {
   results = λ place is. second.results place (still place is) ∙ first.results place is;
   exonerations = λ place is. second.exonerations place (still place is) ∙ first.exonerations place is;
+  artifacts = λ place is. second.artifacts place (still place is) ∙ first.artifacts place is;
 }
 
 -- others of which none is a holder's
-none_more : (holders more : List ℕ) (holder : ℕ) → All (λ (x : ℕ). x ≢ holder) more → places_of (holders ++ more) holder ≡ places_of holders holder
-none_more holders [] holder none = ap (λ (hs : List ℕ). places_of hs holder) (append-nil holders)
-none_more holders (x ∷ more) holder none =
-    let other : x ≢ holder = All-head (λ (y : ℕ). y ≢ holder) x more none in
-    ap (λ (hs : List ℕ). places_of hs holder) (sym (append_assoc holders (x ∷ []) more))
-    ∙ (none_more (holders ++ x ∷ []) more holder (All-tail (λ (y : ℕ). y ≢ holder) x more none) ∙ places_others holders x holder other)
+module _ (places : List ℕ → ℕ → List ℕ)
+    (others : (holders : List ℕ) (other holder : ℕ) → other ≢ holder → places (holders ++ other ∷ []) holder ≡ places holders holder) where
+  none_more : (holders more : List ℕ) (holder : ℕ) → All (λ (x : ℕ). x ≢ holder) more → places (holders ++ more) holder ≡ places holders holder
+  none_more holders [] holder none = ap (λ (hs : List ℕ). places hs holder) (append-nil holders)
+  none_more holders (x ∷ more) holder none =
+      let other : x ≢ holder = All-head (λ (y : ℕ). y ≢ holder) x more none in
+      ap (λ (hs : List ℕ). places hs holder) (sym (append_assoc holders (x ∷ []) more))
+      ∙ (none_more (holders ++ x ∷ []) more holder (All-tail (λ (y : ℕ). y ≢ holder) x more none) ∙ others holders x holder other)
 
 -- a batch's holder is active
 none_final : (w : World) (holders : List ℕ) (place : ℕ) → IsBatchFor w holders → IsInState Finalized w.invocations place
@@ -122,8 +133,9 @@ results_kept w moment (does.End at) rows place may is = refl
 results_kept w moment (does.Include plan) rows place may is = refl
 results_kept w moment (does.Results batch) rows place may is =
     ap (λ (hs : List ℕ). places_of hs place) (map-append (λ (r : TestResult). r.holder) rows batch)
-    ∙ none_more (results.holders_of rows) (results.holders_of batch) place (none_final w (results.holders_of batch) place may is)
+    ∙ none_more places_of places_others (results.holders_of rows) (results.holders_of batch) place (none_final w (results.holders_of batch) place may is)
 results_kept w moment (does.Exonerations batch) rows place may is = refl
+results_kept w moment (does.Artifacts batch) rows place may is = refl
 
 exonerations_kept : (w : World) (moment : ℤ) (effect : Effect) (rows : List TestExoneration) (place : ℕ) → Suits w moment effect
     → IsInState Finalized w.invocations place → exonerations.places_in (exonerations_after effect rows) place ≡ exonerations.places_in rows place
@@ -135,13 +147,28 @@ exonerations_kept w moment (does.Include plan) rows place may is = refl
 exonerations_kept w moment (does.Results batch) rows place may is = refl
 exonerations_kept w moment (does.Exonerations batch) rows place may is =
     ap (λ (hs : List ℕ). places_of hs place) (map-append (λ (r : TestExoneration). r.holder) rows batch)
-    ∙ none_more (exonerations.holders_of rows) (exonerations.holders_of batch) place
+    ∙ none_more places_of places_others (exonerations.holders_of rows) (exonerations.holders_of batch) place
     (none_final w (exonerations.holders_of batch) place may is)
+exonerations_kept w moment (does.Artifacts batch) rows place may is = refl
+
+artifacts_kept : (w : World) (moment : ℤ) (effect : Effect) (rows : List Artifact) (place : ℕ) → Suits w moment effect
+    → IsInState Finalized w.invocations place → artifacts.places_in (artifacts_after effect rows) place ≡ artifacts.places_in rows place
+artifacts_kept w moment does.Nothing rows place may is = refl
+artifacts_kept w moment (does.Add row) rows place may is = refl
+artifacts_kept w moment (does.Update at deadline tags) rows place may is = refl
+artifacts_kept w moment (does.End at) rows place may is = refl
+artifacts_kept w moment (does.Include plan) rows place may is = refl
+artifacts_kept w moment (does.Results batch) rows place may is = refl
+artifacts_kept w moment (does.Exonerations batch) rows place may is = refl
+artifacts_kept w moment (does.Artifacts batch) rows place may is =
+    ap (λ (hs : List ℕ). files_of hs place) (map-append (λ (r : Artifact). r.holder) rows batch.rows)
+    ∙ none_more files_of files_others (artifacts.holders_of rows) (artifacts.holders_of batch.rows) place
+    (none_final w (artifacts.holders_of batch.rows) place may.batch is)
 
 moved_holds : (s : Settings) (w : Recorded) (moment : ℤ) (after : Recorded) → HasNames s → IsTimely w.rows moment → IsMoved s w moment after
     → Holds w after
 moved_holds s w moment after names timely (inl same) =
-    holds_same w after (ap (λ (v : Recorded). v.results) same) (ap (λ (v : Recorded). v.exonerations) same)
+    holds_same w after (ap (λ (v : Recorded). v.results) same) (ap (λ (v : Recorded). v.exonerations) same) (ap (λ (v : Recorded). v.artifacts) same)
 moved_holds s w moment after names timely (inr done) =
     let may = done.suits names timely in
     record {
@@ -151,13 +178,16 @@ moved_holds s w moment after names timely (inr done) =
       exonerations = λ place is.
           ap (λ (rows : List TestExoneration). exonerations.places_in rows place) done.made.exonerations
           ∙ exonerations_kept w.rows moment done.effect w.exonerations place may is;
+      artifacts = λ place is.
+          ap (λ (rows : List Artifact). artifacts.places_in rows place) done.made.artifacts
+          ∙ artifacts_kept w.rows moment done.effect w.artifacts place may is;
     }
 
 moves_holds : (s : Settings) (w : Recorded) (moment : ℤ) (after : Recorded) → HasNames s → IsValid w.rows → IsCallMoment moment
     → w.rows.last ≤ℤ moment → Moves s w moment after → Holds w after
 moves_holds s w moment after names valid call later h =
     holds_both w h.between after (still_final w.rows h.between.rows (advance_final moment w.rows h.between.rows h.due.rows))
-    (holds_same w h.between h.due.results h.due.exonerations)
+    (holds_same w h.between h.due.results h.due.exonerations h.due.artifacts)
     (moved_holds s h.between moment after names (advanced_timely w.rows h.between.rows moment valid call later h.due.rows) h.moved)
 
 leads_holds : (s : Settings) (w : ServiceWorld) (e : Entry) (after : ServiceWorld) → HasNames s → Leads s w e after → IsValid w.rows
@@ -165,7 +195,7 @@ leads_holds : (s : Settings) (w : ServiceWorld) (e : Entry) (after : ServiceWorl
 leads_holds s w e after names leads valid =
     elim (tells_moves s w e e.told after leads.tells) [
       | inl same ↦ holds_same (recorded w) (recorded after) (ap (λ (v : ServiceWorld). v.results) same)
-          (ap (λ (v : ServiceWorld). v.exonerations) same)
+          (ap (λ (v : ServiceWorld). v.exonerations) same) (ap (λ (v : ServiceWorld). v.artifacts) same)
       | inr moves ↦ moves_holds s (recorded w) e.moment (recorded after) names valid leads.moment leads.later moves
     ]
 
@@ -177,7 +207,8 @@ Stays w v = KeepsFinal w.rows v.rows × Holds (recorded w) (recorded v)
 legal_stays : (s : Settings) (w : ServiceWorld) (h : List Entry) (v : ServiceWorld) → HasNames s → services.IsValid w → IsLegal s w h v → Stays w v
 legal_stays s w [] v names valid end = (
   same_final w.rows v.rows (ap (λ (u : ServiceWorld). u.rows) end),
-  holds_same (recorded w) (recorded v) (ap (λ (u : ServiceWorld). u.results) end) (ap (λ (u : ServiceWorld). u.exonerations) end),
+  holds_same (recorded w) (recorded v) (ap (λ (u : ServiceWorld). u.results) end) (ap (λ (u : ServiceWorld). u.exonerations) end)
+      (ap (λ (u : ServiceWorld). u.artifacts) end),
 )
 legal_stays s w (e ∷ h) v names valid legal =
     let between = legal.0 in
@@ -190,4 +221,4 @@ legal_stays s w (e ∷ h) v names valid legal =
 
 pub final_stays : FinalStays
 final_stays s w h v names valid legal =
-    let both = legal_stays s w h v names valid legal in (both.0, record { results = both.1.results; exonerations = both.1.exonerations })
+    let both = legal_stays s w h v names valid legal in (both.0, record { results = both.1.results; exonerations = both.1.exonerations; artifacts = both.1.artifacts })

@@ -23,13 +23,13 @@ use Rattle.invocation_world.proofs.BegunFacts.{all_begun_at, due_begun}
 use Rattle.invocation_world.proofs.RowFacts.{active≢finalizing, active≢finalized, finalizing≢finalized, all_at, apart, changed_other, state_is}
 use Rattle.invocation_world.proofs.SettleFacts.{ended_or_same, row_stays}
 use Rattle.invocation_world.proofs.ValidFacts.{all_begin, valid_settled}
-use Rattle.request_rules.specs.Settings.{Settings, HasNames}
+use Rattle.request_demands.specs.Settings.{Settings, HasNames}
 use Rattle.service_laws.specs.Finality.{CarriesInTime, EndsInTime, IsInTime, ToldInTime}
 use Rattle.service_effects.specs.declared.effect.Effect.{Effect}
 use Rattle.service_effects.specs.Effects.{with_effect}
 use Rattle.service_effects.specs.Fitting.{IsTimely, Suits}
 use Rattle.service_effects.specs.Service.{Recorded, ServiceWorld, recorded}
-use Rattle.service_core.specs.Service as services
+use Rattle.service_laws.specs.Validity as services
 use Rattle.service_core.specs.Step.{Step}
 use Rattle.service_core.specs.History.{Entry, Leads, Tells}
 use Rattle.service_laws.specs.Laws.{FinalInTime}

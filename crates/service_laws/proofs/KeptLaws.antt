@@ -5,9 +5,11 @@ use Rattle.std.proofs.Math.Seq.{drop-append_seam}
 use Rattle.std.proofs.lemmas.List.{length-map, map-append, take_all}
 use Rattle.std.proofs.lemmas.List.Elements.{All-append, All-cons, All-nil, All-weaker}
 use Rattle.std.proofs.lemmas.Option.{none-some, same_Some, slice_get_within}
+use Rattle.artifacts.specs.declared.artifact.Artifact.{Artifact}
+use Rattle.artifacts.specs.Artifacts as artifacts
 use Rattle.invocations.proofs.RowLemmas.{at_end}
 use Rattle.kept_replies.specs.declared.reply.KeptAnswer.{KeptAnswer}
-use Rattle.kept_replies.specs.declared.reply.KeptAnswer.TheVariants.{Created, Results, Exonerations}
+use Rattle.kept_replies.specs.declared.reply.KeptAnswer.TheVariants.{Created, Results, Exonerations, Artifacts}
 use Rattle.kept_replies.specs.declared.reply.KeptReply.{KeptReply}
 use Rattle.kept_replies.specs.Kept.{IsAlone}
 use Rattle.kept_replies.proofs.KeptLemmas.{alone_more}
@@ -17,7 +19,7 @@ use Rattle.test_results.specs.declared.exoneration.TestExoneration.{TestExonerat
 use Rattle.test_results.specs.declared.result.TestResult.{TestResult}
 use Rattle.test_results.specs.Exonerations as exonerations
 use Rattle.test_results.specs.Results as results
-use Rattle.request_rules.specs.Settings.{HasNames, Settings, caller_name}
+use Rattle.request_demands.specs.Settings.{HasNames, Settings, caller_name}
 use Rattle.service_effects.specs.declared.effect.Effect.{Effect}
 use Rattle.service_effects.specs.declared.effect.Effect.TheVariants as does
 use Rattle.service_effects.specs.Effects.{Makes}
@@ -26,7 +28,7 @@ use Rattle.request_effects.specs.Keeps.{answer_kept, with_kept}
 use Rattle.request_effects.proofs.KeepLaws.{kept_is}
 use Rattle.service_effects.specs.Service.{Recorded, ServiceWorld, recorded}
 use Rattle.request_effects.specs.Shows.{part_of}
-use Rattle.service_core.specs.Service.{AreOneBatch, StandsIn}
+use Rattle.service_laws.specs.Validity.{AreOneBatch, StandsIn}
 use Rattle.service_core.specs.Step.{IsTold, Performs, effect_for, keep_for, performed, refused, repeated}
 use Rattle.service_core.proofs.ClearedLaws.{accepted_suits, kept_free}
 use Rattle.service_laws.proofs.StayLaws.{settled_stay, still_within}
@@ -58,6 +60,9 @@ answer_stays old new (Results first count) lasts stands =
 answer_stays old new (Exonerations first count) lasts stands =
     batch_stays (exonerations.holders_of old.exonerations) (exonerations.holders_of new.exonerations) first count
     (map_grows (λ (r : TestExoneration). r.holder) old.exonerations new.exonerations lasts.exonerations) stands
+answer_stays old new (Artifacts first count) lasts stands =
+    batch_stays (artifacts.holders_of old.artifacts) (artifacts.holders_of new.artifacts) first count
+    (map_grows (λ (r : Artifact). r.holder) old.artifacts new.artifacts lasts.artifacts) stands
 
 pub well_later : (old new : Recorded) (kept : List KeptReply) → Lasts old new → IsKeptWell old kept → IsKeptWell new kept
 well_later old new kept lasts well = record {
@@ -109,6 +114,9 @@ answer_stands w after moment (does.Results batch) answer may is made =
 answer_stands w after moment (does.Exonerations batch) answer may is made =
     subst (StandsIn after) (same_Some (Exonerations (length w.exonerations) (length batch)) answer is)
     (batch_comes (λ (r : TestExoneration). r.holder) w.exonerations batch after.exonerations made.exonerations may.some may.one)
+answer_stands w after moment (does.Artifacts batch) answer may is made =
+    subst (StandsIn after) (same_Some (Artifacts (length w.artifacts) (length batch.rows)) answer is)
+    (batch_comes (λ (r : Artifact). r.holder) w.artifacts batch.rows after.artifacts made.artifacts may.batch.some may.batch.one)
 
 kept_more : (s : Settings) (w : ServiceWorld) (moment : ℤ) (asked : Asked) (after : ServiceWorld) (answer : Answer)
     (p : Performs s w moment asked after answer) (keep : Option KeptReply) → Suits w.rows moment (effect_for s w moment p.caller p.request)

@@ -2,11 +2,14 @@ pub mod DecideLaws
 pub mod ThereLaws
 pub mod StepLaws
 pub mod ChangeLaws
+pub mod HolderLaws
 pub mod MoveLaws
 pub mod StayLaws
 pub mod TableLaws
 pub mod KeptLaws
 pub mod ValidLaws
+pub mod EmptyLaws
 pub mod FinalLaws
 pub mod FinalityLaws
 pub mod OnceLaws
+pub mod ShownLaws

@@ -5,8 +5,8 @@ use Rattle.call_forms.specs.declared.forms.Answer.{Answer}
 use Rattle.call_forms.specs.declared.forms.Standin.TheVariants.{Unavailable, Memory, Spent}
 use Rattle.call_forms.specs.declared.forms.Told.{Told}
 use Rattle.call_forms.specs.declared.forms.Told.TheVariants.{Made, Standin as Instead}
-use Rattle.request_rules.specs.Settings.{Settings, HasNames}
-use Rattle.request_rules.specs.Order.{IsUnbroken}
+use Rattle.request_demands.specs.Settings.{Settings, HasNames, caller_name}
+use Rattle.request_demands.specs.Order.{IsUnbroken}
 use Rattle.service_effects.specs.declared.effect.Effect.{Effect}
 use Rattle.service_effects.specs.Effects.{Makes}
 use Rattle.service_effects.specs.Fitting.{ArePlaced, IsTimely, Suits}
@@ -16,12 +16,15 @@ use Rattle.service_core.specs.Service.{CarriesDue}
 use Rattle.service_core.specs.Step.{IsTold, effect_for, performed, refused, repeated}
 use Rattle.service_core.specs.History.{DoesNoMore, Entry, Tells}
 use Rattle.service_core.proofs.ClearedLaws.{accepted_suits, effect_placed}
+use Rattle.message_forms.proofs.FormLaws.{asked_is_of_form}
+use Rattle.service_laws.proofs.HolderLaws.{NameTheirHolders, effect_named}
 
 -- One effect is done, which suits a world at whose moment nothing is due.
 pub record IsDone (s : Settings) (w : Recorded) (moment : ℤ) (after : Recorded) : Type 0 where
   pub effect : Effect
   pub suits : HasNames s → IsTimely w.rows moment → Suits w.rows moment effect
   pub placed : ArePlaced w.exonerations effect
+  pub named : NameTheirHolders w.rows.invocations effect
   pub room : IsUnbroken (EffectRefused w effect)
   pub made : Makes moment effect w after
 
@@ -37,6 +40,8 @@ told_moved s w moment asked after answer (performed p) =
       effect = effect_for s w moment p.caller p.request;
       suits = λ names timely. accepted_suits s w moment asked p.caller p.request names timely p.accepted;
       placed = effect_placed s w moment p.caller p.request;
+      named = effect_named (recorded w) moment (caller_name s p.caller) p.request
+          (asked_is_of_form asked.service asked.method asked.body p.request p.accepted.new.wants.asks);
       room = p.accepted.room;
       made = p.acts.made;
     })

@@ -1,19 +1,23 @@
 -- Each numbered request acts once.
-use Rattle.std.proofs.Common.{◌≡◌, ◌⊎◌, ◌<◌, ℕ, zero, suc, ℤ, List, [], ◌∷◌, ◌++◌, length, drop, Option, Some, None, option_map, refl, sym, ap, ◌∙◌, subst, inl, inr, arith, append_assoc, append-nil}
+use Rattle.std.proofs.Common.{◌≡◌, ◌≢◌, ◌⊎◌, ◌<◌, ℕ, zero, suc, ℤ, List, [], ◌∷◌, ◌++◌, length, drop, Option, Some, None, option_map, refl, sym, ap, ◌∙◌, subst, inl, inr, arith, append_assoc, append-nil}
 use Rattle.std.specs.List.{All}
 use Rattle.std.proofs.lemmas.List.{length-map}
 use Rattle.std.specs.Prelude.{Contains, slice_get}
 use Rattle.std.proofs.lemmas.List.Elements.{All-contains, All-drop, All-head, All-take}
 use Rattle.std.proofs.lemmas.Option.{none-some, same_Some, slice_get-get_or}
+use Rattle.artifacts.specs.declared.artifact.Artifact.{Artifact}
+use Rattle.artifacts.specs.declared.new_artifact.NewArtifact.{NewArtifact}
+use Rattle.artifacts.specs.Batches as files
+use Rattle.artifacts.specs.Orders.{invocation_of}
+use Rattle.artifacts.specs.Requests.{artifact_of, digested}
 use Rattle.names_realms.specs.declared.pairs.Pair.{Pair}
 use Rattle.invocations.specs.declared.invocation.Invocation.{Invocation}
-use Rattle.invocations.specs.Rows.{ids_of}
 use Rattle.test_results.specs.declared.exoneration.TestExoneration.{TestExoneration}
 use Rattle.test_results.specs.declared.result.TestResult.{TestResult}
 use Rattle.test_results.specs.Batches as results
 use Rattle.test_results.specs.Exonerations as exonerations
 use Rattle.kept_replies.specs.declared.reply.KeptAnswer.{KeptAnswer}
-use Rattle.kept_replies.specs.declared.reply.KeptAnswer.TheVariants.{Created, Results, Exonerations}
+use Rattle.kept_replies.specs.declared.reply.KeptAnswer.TheVariants.{Created, Results, Exonerations, Artifacts}
 use Rattle.kept_replies.specs.declared.reply.KeptReply.{KeptReply}
 use Rattle.kept_replies.specs.Kept.{IsAlone}
 use Rattle.kept_replies.proofs.FirstLemmas.{place_is}
@@ -25,38 +29,44 @@ use Rattle.call_forms.specs.declared.forms.Told.{Told}
 use Rattle.call_forms.specs.declared.forms.Told.TheVariants.{Made, Standin as Instead}
 use Rattle.message_forms.specs.declared.requests.Request.{Request}
 use Rattle.message_forms.specs.declared.requests.Request.TheVariants as asks
-use Rattle.request_rules.specs.Settings.{Settings, caller_name}
-use Rattle.request_rules.specs.Demands.{Demand, demand_of}
-use Rattle.request_rules.specs.Numbered.{digest_of, kept_for}
-use Rattle.request_rules.specs.Broken.{IsAbsent, NotFound, Sought, Wants, invocation_with, of_invocation, sought}
+use Rattle.request_demands.specs.Settings.{Settings, caller_name}
+use Rattle.request_demands.specs.Demands.{Demand, demand_of, of_artifacts}
+use Rattle.request_demands.specs.Numbered.{digest_of, kept_for}
+use Rattle.request_rules.specs.Broken.{IsAbsent, NotFound, Sought, invocation_with, of_invocation, sought}
+use Rattle.request_demands.specs.Alone.{Wants}
+use Rattle.request_rules.specs.Held.{Held}
 use Rattle.request_rules.specs.Named.{place_named}
-use Rattle.request_rules.specs.Order.{FirstOf, IsUnbroken}
-use Rattle.request_rules.proofs.NumberLaws.{found_digest, kept_there}
-use Rattle.request_rules.proofs.ReadLaws.{wanted_alone}
-use Rattle.request_rules.proofs.RuleFacts.{one_caller, one_request}
+use Rattle.message_forms.specs.Forms.{IsOfForm}
+use Rattle.message_forms.proofs.FormLaws.{asked_is_of_form}
+use Rattle.request_demands.specs.Order.{FirstOf, IsUnbroken}
+use Rattle.request_demands.proofs.NumberLaws.{kept_there}
+use Rattle.request_rules.proofs.ReuseLaws.{found_digest}
+use Rattle.request_demands.proofs.ReadLaws.{wanted_alone}
+use Rattle.request_demands.proofs.AloneFacts.{one_caller, one_request}
 use Rattle.service_effects.specs.declared.effect.Effect.{Effect}
 use Rattle.request_effects.specs.declared.shows.Showing.{Showing}
 use Rattle.request_effects.specs.declared.shows.Showing.TheVariants.{Alike}
 use Rattle.request_effects.specs.Answers.{Answers}
-use Rattle.request_effects.specs.Effects.{effect_of, exonerations_at, results_at}
+use Rattle.request_effects.specs.Effects.{artifacts_at, effect_of, exonerations_at, place_of_batch, results_at}
+use Rattle.request_effects.specs.Places.{held_in}
 use Rattle.request_effects.specs.Laws.{shows_added}
 use Rattle.service_effects.specs.Service.{IsSound, Recorded, ServiceWorld, recorded}
-use Rattle.service_effects.proofs.IdFacts.{id_at}
 use Rattle.request_effects.specs.Keeps.{answer_kept, as_made, kept_answer, kept_of, made_answer, numbered_of, with_kept}
-use Rattle.request_effects.specs.Shows.{done, exonerations_reply, exonerations_shown, part_of, results_reply, results_shown, shown_with, shows_exonerations, shows_of, shows_results}
+use Rattle.request_effects.specs.Shows.{artifacts_reply, done, exonerations_reply, exonerations_shown, part_of, results_reply, results_shown, shown_with, shows_artifacts, shows_exonerations, shows_of, shows_results}
 use Rattle.message_forms.specs.declared.replies.Reply.TheVariants as reply
-use Rattle.request_rules.specs.Understood.{token_for}
+use Rattle.request_demands.specs.Understood.{token_for}
 use Rattle.request_effects.specs.declared.keeping.Numbered.{Numbered}
 use Rattle.request_effects.specs.declared.shows.Shows.TheVariants as shows
 use Rattle.request_effects.proofs.KeepLaws.{kept_is_first}
-use Rattle.service_core.specs.Service.{CatchesUp, StandsIn}
+use Rattle.service_core.specs.Service.{CatchesUp}
+use Rattle.service_laws.specs.Validity.{StandsIn}
 use Rattle.service_core.specs.Step.{IsRefusal, IsRepeated, IsTold, Performs, effect_for, keep_for, performed, refused, repeated, scene_of}
 use Rattle.service_core.specs.History.{DoesNoMore, Entry, Tells}
 use Rattle.service_laws.specs.Laws.{FirstIsKept, IsSameInvocation, KeptStays, NumbersActOnce}
 use Rattle.service_core.proofs.ClearedLaws.{accepted_found, accepted_suits, unused}
 use Rattle.service_laws.proofs.ValidLaws.{legal_keeps_valid}
 use Rattle.request_effects.proofs.FitLaws.{length_given}
-use Rattle.service_laws.proofs.StayLaws.{AllStay, there_at}
+use Rattle.service_laws.proofs.StayLaws.{AllStay, same_id, there_at}
 use Rattle.service_laws.proofs.TableLaws.{Lasts, due_lasts, lasts_both, legal_lasts, part_stays}
 use Rattle.service_laws.proofs.StepLaws.{never_repeated}
 
@@ -113,12 +123,6 @@ same_answer s deadline tags row later same =
     ap (λ (id : List ℕ). done (Some (token_for s id)) (reply.Invocation (shown_with (as_made deadline tags later) []))) same.id
     ∙ ap (λ (r : Invocation). done (Some (token_for s row.id)) (reply.Invocation (shown_with r []))) (same_made deadline tags row later same)
 
-same_id : (old new : List Invocation) (p : ℕ) → AllStay old new → p < length old → slice_get (ids_of new) p ≡ slice_get (ids_of old) p
-same_id old new p stay low =
-    let row = there_at old p low in
-    let later = stay p row.0 row.1 in
-    id_at new p later.0 later.1 ∙ (ap (λ (id : List ℕ). Some id) later.2.id ∙ sym (id_at old p row.0 row.1))
-
 results_last : (old new : List Invocation) (rows : List TestResult) → AllStay old new
     → All (λ (r : TestResult). r.holder < length old) rows → results_reply new rows ≡ results_reply old rows
 results_last old new [] stay held = refl
@@ -155,6 +159,9 @@ answer_lasts s old new (Exonerations first count) lasts sound stands =
     (omega (arith, stands.there, length-map old.exonerations (λ (r : TestExoneration). r.holder))))
     ∙ exonerations_last old.rows.invocations new.rows.invocations (part_of first count old.exonerations) lasts.rows
     (all_part (λ (r : TestExoneration). r.holder < length old.rows.invocations) first count old.exonerations sound.exonerations.held))
+answer_lasts s old new (Artifacts first count) lasts sound stands =
+    ap (λ (rows : List Artifact). done None (artifacts_reply rows)) (part_stays old.artifacts new.artifacts first count lasts.artifacts
+    (omega (arith, stands.there, length-map old.artifacts (λ (r : Artifact). r.holder))))
 
 -- ---- a request under a number that is kept
 
@@ -254,7 +261,7 @@ numbers_act_once s w h v e after reply caller request names valid legal leads ke
 -- ---- the first answer is the one that is kept
 
 -- what a request names is there where it breaks no rule
-named_found : (rows : List Invocation) (held : List TestResult) (d : Demand) (id : List ℕ) → IsUnbroken (NotFound rows held d)
+named_found : (rows : List Invocation) (held : Held) (d : Demand) (id : List ℕ) → IsUnbroken (NotFound rows held d)
     → sought d ≡ invocation_with id ∷ [] → place_named rows id ≡ None → ⊥
 named_found rows held d id found names missing =
     found (of_invocation 8 id) (record {
@@ -283,25 +290,46 @@ exonerations_keep w (Some holder) rows found = (
       (length_given holder (length (exonerations.places_in w.exonerations holder)) rows),
 )
 
+artifacts_keep : (w : Recorded) (o : Option ℕ) (news : List NewArtifact) → (o ≡ None → ⊥)
+    → Keeps w (artifacts_at o news) (Alike (shows_artifacts w o (length news)))
+artifacts_keep w None news found = absurd (found refl)
+artifacts_keep w (Some holder) news found = (
+  _,
+  refl,
+  ap (λ (n : ℕ). Alike (shows.Artifacts (length w.artifacts) n))
+      (sym (length-map (digested news).rows (files.with_holder holder) ∙ length-map news artifact_of)),
+)
+
+-- of a batch of artifacts the invocation is there, where it has one
+pub batch_found : (rows : List Invocation) (held : Held) (number : Option (List ℕ)) (news : List NewArtifact) → news ≢ []
+    → IsUnbroken (NotFound rows held (of_artifacts number news)) → place_of_batch rows news ≡ None → ⊥
+batch_found rows held number [] some found = absurd (some refl)
+batch_found rows held number (first ∷ others) some found =
+    named_found rows held (of_artifacts number (first ∷ others)) (invocation_of first.name.parent) found refl
+
 -- a request that has a number adds something
 numbered_keeps : (w : Recorded) (moment : ℤ) (name number : List ℕ) (request : Request)
-    → IsUnbroken (NotFound w.rows.invocations w.results (demand_of request)) → (demand_of request).number ≡ Some number
+    → IsOfForm request → IsUnbroken (NotFound w.rows.invocations (held_in w) (demand_of request)) → (demand_of request).number ≡ Some number
     → Keeps w (effect_of w moment name request) (shows_of w request)
-numbered_keeps w moment name number (asks.CreateInvocation q) found e = (_, refl, refl)
-numbered_keeps w moment name number (asks.BatchCreateTestResults q) found e =
+numbered_keeps w moment name number (asks.CreateInvocation q) forms found e = (_, refl, refl)
+numbered_keeps w moment name number (asks.BatchCreateTestResults q) forms found e =
     results_keep w (place_named w.rows.invocations q.invocation) q.requests
-    (named_found w.rows.invocations w.results (demand_of (asks.BatchCreateTestResults q)) q.invocation found refl)
-numbered_keeps w moment name number (asks.BatchCreateTestExonerations q) found e =
+    (named_found w.rows.invocations (held_in w) (demand_of (asks.BatchCreateTestResults q)) q.invocation found refl)
+numbered_keeps w moment name number (asks.BatchCreateTestExonerations q) forms found e =
     exonerations_keep w (place_named w.rows.invocations q.invocation) q.requests
-    (named_found w.rows.invocations w.results (demand_of (asks.BatchCreateTestExonerations q)) q.invocation found refl)
-numbered_keeps w moment name number _ found e = absurd (none-some number e)
+    (named_found w.rows.invocations (held_in w) (demand_of (asks.BatchCreateTestExonerations q)) q.invocation found refl)
+numbered_keeps w moment name number (asks.BatchCreateArtifacts q) forms found e =
+    artifacts_keep w (place_of_batch w.rows.invocations q.requests) q.requests
+    (batch_found w.rows.invocations (held_in w) q.request_id q.requests forms.some found)
+numbered_keeps w moment name number _ forms found e = absurd (none-some number e)
 
 pub first_is_kept : FirstIsKept
 first_is_kept s w moment asked after answer number names timely p e =
     let name = caller_name s p.caller in
     let effect = effect_for s w moment p.caller p.request in
     let found = accepted_found s w moment asked p.caller p.request p.accepted in
-    let keeps = numbered_keeps (recorded w) moment name number p.request found e in
+    let forms = asked_is_of_form asked.service asked.method asked.body p.request p.accepted.new.wants.asks in
+    let keeps = numbered_keeps (recorded w) moment name number p.request forms found e in
     let reply : KeptReply = record { caller = name; number = number; digest = digest_of asked; answer = keeps.0 } in
     let numbered : numbered_of asked (demand_of p.request) ≡ Some (record { number = number; digest = digest_of asked }) =
     ap (option_map (λ (n : List ℕ). record { number = n; digest = digest_of asked })) e in

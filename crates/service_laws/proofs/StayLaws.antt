@@ -16,7 +16,7 @@ use Rattle.invocation_world.specs.Changes.{is_update, updated, with_row_updated}
 use Rattle.invocation_world.proofs.RowFacts.{changed_here, changed_other}
 use Rattle.invocation_world.proofs.SettleFacts.{ended_or_same}
 use Rattle.invocation_world.proofs.ValidFacts.{all_begin}
-use Rattle.request_rules.specs.Settings.{Settings}
+use Rattle.request_demands.specs.Settings.{Settings}
 use Rattle.request_rules.specs.Named.{place_named}
 use Rattle.request_rules.proofs.PlaceLaws.{place_holds, placed}
 use Rattle.service_effects.proofs.IdFacts.{id_at}
@@ -47,6 +47,13 @@ still_within old new p stay low =
     let row = there_at old p low in
     let later = stay p row.0 row.1 in
     slice_get_within new p later.0 later.1
+
+-- and has its id
+pub same_id : (old new : List Invocation) (p : ℕ) → AllStay old new → p < length old → slice_get (ids_of new) p ≡ slice_get (ids_of old) p
+same_id old new p stay low =
+    let row = there_at old p low in
+    let later = stay p row.0 row.1 in
+    id_at new p later.0 later.1 ∙ (ap (λ (id : List ℕ). Some id) later.2.id ∙ sym (id_at old p row.0 row.1))
 
 itself : (row : Invocation) → IsSameInvocation row row
 itself row = record { id = refl; realm = refl; creator = refl; created = refl }
@@ -163,6 +170,7 @@ effect_stay w moment (does.End place) = changed_stay (begun moment) (begun_kept 
 effect_stay w moment (does.Include plan) = edges_keep AllStay moment w (edges_from plan.from plan.targets) (all_stay w.invocations)
 effect_stay w moment (does.Results batch) = all_stay w.invocations
 effect_stay w moment (does.Exonerations batch) = all_stay w.invocations
+effect_stay w moment (does.Artifacts batch) = all_stay w.invocations
 
 pub acted_stay : (w : World) (moment : ℤ) (effect : Effect) (after : World) → Does moment effect w after
     → AllStay w.invocations after.invocations

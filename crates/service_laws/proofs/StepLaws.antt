@@ -4,14 +4,16 @@ use Rattle.call_forms.specs.declared.asked.Asked.{Asked}
 use Rattle.call_forms.specs.declared.forms.Answer.{Answer}
 use Rattle.call_forms.specs.Rules.{refusal_answer}
 use Rattle.message_forms.specs.declared.requests.Request.{Request}
-use Rattle.request_rules.specs.Settings.{Settings}
+use Rattle.request_demands.specs.Settings.{Settings}
 use Rattle.call_forms.specs.declared.forms.Refusal.{Refusal}
-use Rattle.request_rules.specs.Demands.{demand_of}
+use Rattle.request_demands.specs.Demands.{demand_of}
 use Rattle.kept_replies.specs.declared.reply.KeptReply.{KeptReply}
-use Rattle.request_rules.specs.Broken.{IsBroken, Wants, order}
-use Rattle.request_rules.proofs.Judged.{one_judged as one_told}
-use Rattle.request_rules.proofs.ReadLaws.{wanted_alone}
-use Rattle.request_rules.proofs.RuleFacts.{one_broken, one_caller, one_refused_alone, one_request}
+use Rattle.request_rules.specs.Broken.{IsBroken, order}
+use Rattle.request_demands.specs.Alone.{Wants}
+use Rattle.request_demands.proofs.Judged.{one_judged as one_told}
+use Rattle.request_demands.proofs.ReadLaws.{wanted_alone}
+use Rattle.request_demands.proofs.AloneFacts.{one_caller, one_refused_alone, one_request}
+use Rattle.request_rules.proofs.RuleFacts.{one_broken}
 use Rattle.service_effects.specs.Effects.{with_effect}
 use Rattle.request_effects.specs.Keeps.{kept_answer}
 use Rattle.request_effects.specs.Answers.{Answers}
@@ -21,7 +23,8 @@ use Rattle.service_effects.proofs.EffectLaws.{one_settling}
 use Rattle.service_effects.proofs.RefusedLaws.{one_refusal as one_of_effect}
 use Rattle.service_effects.specs.Service.{ServiceWorld, recorded}
 use Rattle.service_core.specs.Step.{Acts, IsAccepted, IsJudgedAs, IsNew, IsRefusal, IsRefusedOf, IsRepeated, IsTold, Performs, Refuses, Repeats, case_in, effect_for, performed, refused, repeated, scene_of}
-use Rattle.service_core.proofs.UniqueLaws.{one_between, same_parts}
+use Rattle.service_effects.proofs.RoomLaws.{same_parts}
+use Rattle.service_core.proofs.UniqueLaws.{one_between}
 use Rattle.service_laws.specs.Laws.{StepsAreUnique}
 
 -- of what a caller wants one thing is told
@@ -116,7 +119,7 @@ one_performed s w moment asked v r x q this that =
     (subst (λ (p : Request). Acts s w moment asked this.caller p v) request this.acts) in
     let rows : v.rows ≡ x.rows = one_settling moment (with_effect moment (effect_for s w moment that.caller that.request) w.rows) v.rows x.rows acts.made.rows that.acts.made.rows in
     let same : v ≡ x = same_parts v x rows (acts.made.results ∙ sym that.acts.made.results)
-    (acts.made.exonerations ∙ sym that.acts.made.exonerations) (acts.kept ∙ sym that.acts.kept) in (
+    (acts.made.exonerations ∙ sym that.acts.made.exonerations) (acts.made.artifacts ∙ sym that.acts.made.artifacts) (acts.kept ∙ sym that.acts.kept) in (
       same,
       one_answer (scene_of s x) that.caller (shows_of (recorded w) that.request) r q
           (subst (λ (c : ℕ). Answers (scene_of s x) c (shows_of (recorded w) that.request) r) caller

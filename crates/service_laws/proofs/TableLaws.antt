@@ -1,17 +1,18 @@
 -- What is recorded lasts: rows stay, and others come behind them.
 use Rattle.std.proofs.Common.{◌≡◌, ◌≤◌, ◌+◌, ℕ, ℤ, List, [], ◌∷◌, ◌++◌, inl, inr, refl, sym, ap, ◌∙◌, subst, length, take, drop, arith, append_assoc}
 use Rattle.std.proofs.lemmas.List.{append-nil, drop-append-le, length-drop, take-append-le}
+use Rattle.artifacts.specs.declared.artifact.Artifact.{Artifact}
 use Rattle.test_results.specs.declared.exoneration.TestExoneration.{TestExoneration}
 use Rattle.test_results.specs.declared.result.TestResult.{TestResult}
-use Rattle.request_rules.specs.Settings.{Settings}
+use Rattle.request_demands.specs.Settings.{Settings}
 use Rattle.service_effects.specs.declared.effect.Effect.{Effect}
 use Rattle.service_effects.specs.declared.effect.Effect.TheVariants as does
-use Rattle.service_effects.specs.Effects.{Makes, exonerations_after, results_after}
+use Rattle.service_effects.specs.Effects.{Makes, artifacts_after, exonerations_after, results_after}
 use Rattle.service_effects.specs.Service.{Recorded, ServiceWorld, recorded}
 use Rattle.request_effects.specs.Shows.{part_of}
 use Rattle.service_core.specs.Service.{CarriesDue}
 use Rattle.service_core.specs.History.{Entry, IsLegal, Leads}
-use Rattle.service_laws.specs.Laws.{ExonerationsStay, ResultsStay}
+use Rattle.service_laws.specs.Laws.{ArtifactsStay, ExonerationsStay, ResultsStay}
 use Rattle.service_laws.proofs.MoveLaws.{IsMoved, Moves, tells_moves}
 use Rattle.service_laws.proofs.StayLaws.{AllStay, acted_stay, advance_stay, all_stay, stay_both}
 
@@ -35,17 +36,19 @@ part_stays {A} old new first count grows low =
     ap (λ (xs : List A). part_of first count xs) grows.1
     ∙ (ap (take count) (drop-append-le first old grows.0 front) ∙ take-append-le count (drop first old) grows.0 back)
 
--- the invocations stay, each the same one, and results and exonerations come behind the others
+-- the invocations stay, each the same one, and results, exonerations and artifacts come behind the others
 pub record Lasts (old new : Recorded) : Type 0 where
   pub rows : AllStay old.rows.invocations new.rows.invocations
   pub results : Grows old.results new.results
   pub exonerations : Grows old.exonerations new.exonerations
+  pub artifacts : Grows old.artifacts new.artifacts
 
 itself : (w : Recorded) → Lasts w w
 itself w = record {
   rows = all_stay w.rows.invocations;
   results = grow_same w.results w.results refl;
   exonerations = grow_same w.exonerations w.exonerations refl;
+  artifacts = grow_same w.artifacts w.artifacts refl;
 }
 
 pub lasts_same : (old new : Recorded) → new ≡ old → Lasts old new
@@ -56,6 +59,7 @@ lasts_both a b c first second = record {
   rows = stay_both a.rows.invocations b.rows.invocations c.rows.invocations first.rows second.rows;
   results = grow_both a.results b.results c.results first.results second.results;
   exonerations = grow_both a.exonerations b.exonerations c.exonerations first.exonerations second.exonerations;
+  artifacts = grow_both a.artifacts b.artifacts c.artifacts first.artifacts second.artifacts;
 }
 
 results_more : (effect : Effect) (rows : List TestResult) → Grows rows (results_after effect rows)
@@ -66,6 +70,7 @@ results_more (does.End place) rows = grow_same rows rows refl
 results_more (does.Include plan) rows = grow_same rows rows refl
 results_more (does.Results batch) rows = (batch, refl)
 results_more (does.Exonerations batch) rows = grow_same rows rows refl
+results_more (does.Artifacts batch) rows = grow_same rows rows refl
 
 exonerations_more : (effect : Effect) (rows : List TestExoneration) → Grows rows (exonerations_after effect rows)
 exonerations_more does.Nothing rows = grow_same rows rows refl
@@ -75,15 +80,28 @@ exonerations_more (does.End place) rows = grow_same rows rows refl
 exonerations_more (does.Include plan) rows = grow_same rows rows refl
 exonerations_more (does.Results batch) rows = grow_same rows rows refl
 exonerations_more (does.Exonerations batch) rows = (batch, refl)
+exonerations_more (does.Artifacts batch) rows = grow_same rows rows refl
+
+artifacts_more : (effect : Effect) (rows : List Artifact) → Grows rows (artifacts_after effect rows)
+artifacts_more does.Nothing rows = grow_same rows rows refl
+artifacts_more (does.Add row) rows = grow_same rows rows refl
+artifacts_more (does.Update place deadline tags) rows = grow_same rows rows refl
+artifacts_more (does.End place) rows = grow_same rows rows refl
+artifacts_more (does.Include plan) rows = grow_same rows rows refl
+artifacts_more (does.Results batch) rows = grow_same rows rows refl
+artifacts_more (does.Exonerations batch) rows = grow_same rows rows refl
+artifacts_more (does.Artifacts batch) rows = (batch.rows, refl)
 
 pub made_lasts : (w : Recorded) (moment : ℤ) (effect : Effect) (after : Recorded) → Makes moment effect w after → Lasts w after
 made_lasts w moment effect after made =
     let results = results_more effect w.results in
     let exonerations = exonerations_more effect w.exonerations in
+    let artifacts = artifacts_more effect w.artifacts in
     record {
       rows = acted_stay w.rows moment effect after.rows made.rows;
       results = (results.0, made.results ∙ results.1);
       exonerations = (exonerations.0, made.exonerations ∙ exonerations.1);
+      artifacts = (artifacts.0, made.artifacts ∙ artifacts.1);
     }
 
 pub due_lasts : (w : Recorded) (moment : ℤ) (after : Recorded) → CarriesDue w moment after → Lasts w after
@@ -91,6 +109,7 @@ due_lasts w moment after due = record {
   rows = advance_stay moment w.rows after.rows due.rows;
   results = grow_same w.results after.results due.results;
   exonerations = grow_same w.exonerations after.exonerations due.exonerations;
+  artifacts = grow_same w.artifacts after.artifacts due.artifacts;
 }
 
 moved_lasts : (s : Settings) (w : Recorded) (moment : ℤ) (after : Recorded) → IsMoved s w moment after → Lasts w after
@@ -118,3 +137,6 @@ results_stay s w h v legal = (legal_lasts s w h v legal).results
 
 pub exonerations_stay : ExonerationsStay
 exonerations_stay s w h v legal = (legal_lasts s w h v legal).exonerations
+
+pub artifacts_stay : ArtifactsStay
+artifacts_stay s w h v legal = (legal_lasts s w h v legal).artifacts

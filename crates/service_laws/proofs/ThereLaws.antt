@@ -5,13 +5,13 @@ use Rattle.call_forms.specs.declared.forms.Refusal.{Refusal}
 use Rattle.call_forms.specs.Rules.{refusal_answer}
 use Rattle.message_forms.specs.declared.requests.Request.{Request}
 use Rattle.invocation_world.proofs.ExistFacts.{advance_there, settling_there}
-use Rattle.request_rules.specs.Settings.{Settings}
-use Rattle.request_rules.specs.Order.{IsUnbroken}
+use Rattle.request_demands.specs.Settings.{Settings}
+use Rattle.request_demands.specs.Order.{IsUnbroken}
 use Rattle.kept_replies.specs.declared.reply.KeptReply.{KeptReply}
-use Rattle.request_rules.specs.Broken.{Wants}
-use Rattle.request_rules.proofs.Decided.{said}
+use Rattle.request_demands.specs.Alone.{Wants}
+use Rattle.request_demands.proofs.Said.{said}
 use Rattle.service_effects.specs.declared.effect.Effect.{Effect}
-use Rattle.service_effects.specs.Effects.{exonerations_after, results_after, with_effect}
+use Rattle.service_effects.specs.Effects.{artifacts_after, exonerations_after, results_after, with_effect}
 use Rattle.service_effects.specs.Refused.{EffectRefused}
 use Rattle.service_effects.specs.Service.{ServiceWorld, recorded}
 use Rattle.request_effects.specs.Keeps.{kept_answer, with_kept}
@@ -67,6 +67,7 @@ performed_there s w moment asked between caller request advances new judged room
       rows = settled.0;
       results = results_after effect between.results;
       exonerations = exonerations_after effect between.exonerations;
+      artifacts = artifacts_after effect between.artifacts;
       kept = with_kept between.kept (keep_for s between moment asked caller request);
     } in
     let shown = answer_there (scene_of s after) caller (shows_of (recorded between) request) in
@@ -80,7 +81,7 @@ performed_there s w moment asked between caller request advances new judged room
           caller = caller;
           request = request;
           accepted = record { new = new; judged = judged; room = room };
-          acts = record { made = record { rows = settled.1; results = refl; exonerations = refl }; kept = refl };
+          acts = record { made = record { rows = settled.1; results = refl; exonerations = refl; artifacts = refl }; kept = refl };
           answers = shown.1;
         });
       };
@@ -110,9 +111,10 @@ wanted_there s w moment asked between caller request advances wants =
 pub step_there : HasSteps
 step_there s w moment asked =
     let due = advance_there moment w.rows in
-    let between : ServiceWorld = record { rows = due.0; results = w.results; exonerations = w.exonerations; kept = w.kept } in
+    let between : ServiceWorld =
+    record { rows = due.0; results = w.results; exonerations = w.exonerations; artifacts = w.artifacts; kept = w.kept } in
     let advances : CatchesUp w moment between =
-    record { due = record { rows = due.1; results = refl; exonerations = refl }; kept = refl } in
+    record { due = record { rows = due.1; results = refl; exonerations = refl; artifacts = refl }; kept = refl } in
     elim (said s asked) [
       | inl h ↦ refused_there s w moment asked between h.0 advances (inl h.1)
       | inr h ↦ wanted_there s w moment asked between h.0 h.1 advances h.2

@@ -1,5 +1,7 @@
 -- Laws of steps and histories.
 use Rattle.std.specs.Prelude.{◌≡◌, ◌⊎◌, ℕ, ℤ, List, [], ◌∷◌, ◌++◌, Contains, Some, length, slice_get}
+use Rattle.artifacts.specs.declared.artifact.Artifact.{Artifact}
+use Rattle.artifacts.specs.Artifacts as artifacts
 use Rattle.call_forms.specs.declared.asked.Asked.{Asked}
 use Rattle.call_forms.specs.declared.forms.Answer.{Answer}
 use Rattle.names_realms.specs.declared.states.State.TheVariants.{Finalized}
@@ -9,17 +11,17 @@ use Rattle.test_results.specs.declared.exoneration.TestExoneration.{TestExonerat
 use Rattle.test_results.specs.declared.result.TestResult.{TestResult}
 use Rattle.test_results.specs.Exonerations as exonerations
 use Rattle.test_results.specs.Results as results
-use Rattle.request_rules.specs.Settings.{Settings, HasNames, caller_name}
-use Rattle.request_rules.specs.Demands.{demand_of}
-use Rattle.request_rules.specs.Numbered.{digest_of}
-use Rattle.request_rules.specs.Broken.{Wants}
+use Rattle.request_demands.specs.Settings.{Settings, HasNames, caller_name}
+use Rattle.request_demands.specs.Demands.{demand_of}
+use Rattle.request_demands.specs.Numbered.{digest_of}
+use Rattle.request_demands.specs.Alone.{Wants}
 use Rattle.request_rules.specs.Named.{place_named}
 use Rattle.service_effects.specs.declared.effect.Effect.{Effect}
 use Rattle.service_effects.specs.declared.effect.Effect.TheVariants as does
 use Rattle.service_effects.specs.Effects.{Does}
 use Rattle.service_effects.specs.Fitting.{IsTimely}
 use Rattle.request_effects.specs.Keeps.{kept_answer}
-use Rattle.service_effects.specs.Service.{ServiceWorld}
+use Rattle.service_effects.specs.Service.{ServiceWorld, empty_service}
 use Rattle.call_forms.specs.declared.forms.Told.TheVariants.{Made}
 use Rattle.kept_replies.specs.declared.reply.KeptReply.{KeptReply}
 use Rattle.kept_replies.specs.Kept.{IsFor}
@@ -28,7 +30,8 @@ use Rattle.invocation_world.specs.World.{World}
 use Rattle.invocation_world.specs.World as worlds
 use Rattle.invocation_world.specs.Laws.{KeepsFinal}
 use Rattle.service_laws.specs.Finality.{AllInTime}
-use Rattle.service_core.specs.Service.{CatchesUp, IsValid}
+use Rattle.service_core.specs.Service.{CatchesUp}
+use Rattle.service_laws.specs.Validity.{IsValid}
 use Rattle.service_core.specs.Step.{Performs, Step, scene_of}
 use Rattle.service_core.specs.History.{Entry, Leads, IsLegal}
 
@@ -50,6 +53,10 @@ StepsAreUnique =
     (s : Settings) (w : ServiceWorld) (moment : ℤ) (asked : Asked)
     (v : ServiceWorld) (r : Answer) (x : ServiceWorld) (q : Answer)
     → Step s w moment asked v r → Step s w moment asked x q → (v ≡ x) × (r ≡ q)
+
+-- The world in which nothing is recorded is valid.
+abbrev pub EmptyIsValid : Type 0
+EmptyIsValid = IsValid empty_service
 
 -- A history from a valid world leads to a valid one, where the names of users have their form. So
 -- no two invocations ever have one id.
@@ -73,8 +80,8 @@ RowsStay =
     → (later : Invocation) × (slice_get v.rows.invocations place ≡ Some later)
     × IsSameInvocation row later
 
--- A history takes no test result away, and no exoneration: those that it adds stand behind the
--- others, each of which stays as it is.
+-- A history takes no test result away, no exoneration and no artifact: those that it adds stand
+-- behind the others, each of which stays as it is.
 abbrev pub ResultsStay : Type 0
 ResultsStay =
     (s : Settings) (w : ServiceWorld) (h : List Entry) (v : ServiceWorld) → IsLegal s w h v
@@ -84,6 +91,11 @@ abbrev pub ExonerationsStay : Type 0
 ExonerationsStay =
     (s : Settings) (w : ServiceWorld) (h : List Entry) (v : ServiceWorld) → IsLegal s w h v
     → (more : List TestExoneration) × (v.exonerations ≡ w.exonerations ++ more)
+
+abbrev pub ArtifactsStay : Type 0
+ArtifactsStay =
+    (s : Settings) (w : ServiceWorld) (h : List Entry) (v : ServiceWorld) → IsLegal s w h v
+    → (more : List Artifact) × (v.artifacts ≡ w.artifacts ++ more)
 
 -- An effect leaves each invocation at its place, found by its id, and a new one after the others:
 -- so what a request shows by a place is the invocation that it names, or makes.
@@ -99,13 +111,15 @@ ShownIsNamed =
     → Does moment effect w after
     → StaysNamed w effect after
 
--- What is final holds the test results and exonerations that it did.
+-- What is final holds the test results, exonerations and artifacts that it did.
 pub record HoldsSame (w after : ServiceWorld) : Type 0 where
   pub results : (place : ℕ) → IsInState Finalized w.rows.invocations place
       → results.places_in after.results place ≡ results.places_in w.results place
   pub exonerations : (place : ℕ) → IsInState Finalized w.rows.invocations place
       → exonerations.places_in after.exonerations place
       ≡ exonerations.places_in w.exonerations place
+  pub artifacts : (place : ℕ) → IsInState Finalized w.rows.invocations place
+      → artifacts.places_in after.artifacts place ≡ artifacts.places_in w.artifacts place
 
 -- What is final stays as it is, with all that it holds and reaches.
 abbrev pub FinalStays : Type 0

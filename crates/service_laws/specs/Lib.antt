@@ -1,2 +1,4 @@
 pub mod Finality
 pub mod Laws
+pub mod Shown
+pub mod Validity

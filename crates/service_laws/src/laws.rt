@@ -1,5 +1,8 @@
 //! Laws of steps and histories. These functions do nothing: what each of them ensures is the law.
-ghost use Rattle.service_laws.specs.Laws.{ExonerationsStay, FinalInTime, FinalStays, FirstIsKept, HasSteps, KeptStays, LegalKeepsValid, NumbersActOnce, ResultsStay, RowsStay, ShownIsNamed, StepsAreUnique};
+ghost use Rattle.service_laws.specs.Laws.{ArtifactsStay, EmptyIsValid, ExonerationsStay, FinalInTime, FinalStays};
+ghost use Rattle.service_laws.specs.Laws.{FirstIsKept, HasSteps, KeptStays, LegalKeepsValid, NumbersActOnce, ResultsStay, RowsStay};
+ghost use Rattle.service_laws.specs.Laws.{ShownIsNamed, StepsAreUnique};
+ghost use Rattle.service_laws.specs.Shown.{RecordedIsShown};
 
 /// Each request at a moment leads from each world to some world, with some answer.
 pub fn a_step_is_there()
@@ -9,6 +12,11 @@ pub fn a_step_is_there()
 /// A request at a moment leads from a world to one world alone, with one answer.
 pub fn one_step()
     ensures { StepsAreUnique }
+{}
+
+/// The world in which nothing is recorded is valid.
+pub fn empty_is_valid()
+    ensures { EmptyIsValid }
 {}
 
 /// No two invocations ever have one id: a history from a valid world leads to a valid one.
@@ -29,6 +37,17 @@ pub fn results_stay()
 /// Nor an exoneration.
 pub fn exonerations_stay()
     ensures { ExonerationsStay }
+{}
+
+/// Nor an artifact.
+pub fn artifacts_stay()
+    ensures { ArtifactsStay }
+{}
+
+/// What was recorded is shown as it was given, however long after: each answer to a request for an
+/// artifact shows it whole, with the SHA-256 of its contents, or refuses.
+pub fn recorded_is_shown()
+    ensures { RecordedIsShown }
 {}
 
 /// An effect leaves each invocation at its place, found by its id, and a new one after the others.

@@ -7,7 +7,7 @@ use Rattle.recorded_calls.specs.declared.command.CallKind.{CallKind}
 use Rattle.invocation_world.specs.Advancing.{IsDueAt}
 use Rattle.invocation_world.specs.World.{IsCallMoment}
 use Rattle.recorded_calls.specs.Commands.{command_bytes, ticked}
-use Rattle.request_rules.specs.Settings.{HasNames, Settings, caller_name}
+use Rattle.request_demands.specs.Settings.{HasNames, Settings, caller_name}
 use Rattle.service_effects.specs.declared.effect.Effect.TheVariants as does
 use Rattle.service_effects.specs.Fitting.{IsTimely}
 use Rattle.service_effects.specs.Service.{ServiceWorld, recorded}
@@ -21,7 +21,7 @@ use Rattle.service_core.proofs.ClearedLaws.{accepted_suits}
 use Rattle.service_core.proofs.PlanLaws.{kept_same}
 use Rattle.service_replay.proofs.ReplayLaws.{kind_is_there, recorded_is_replayed, tick_is_replayed}
 use Rattle.service_core.proofs.ServeLaws.{ticked as ticked_so}
-use Rattle.service_core.proofs.UniqueLaws.{same_parts}
+use Rattle.service_effects.proofs.RoomLaws.{same_parts}
 use Rattle.service_machine.specs.Machines.{IsCommandOf, IsFit}
 use Rattle.service_machine.specs.Leading.{carries_there}
 use Rattle.service_machine.proofs.MachineLaws.{replays_are_alone}
@@ -37,7 +37,7 @@ plan_changes s w moment asked plan names timely is = λ nothing.
     (accepted_suits s w moment asked is.caller is.request names timely is.accepted) is.accepted.room acts.made).0 nothing in
     is.changes after there.1
     (same_parts after w (ap (λ r. r.rows) same) (ap (λ r. r.results) same) (ap (λ r. r.exonerations) same)
-    (acts.kept ∙ sym (kept_same s w moment asked is.caller is.request nothing)))
+    (ap (λ r. r.artifacts) same) (acts.kept ∙ sym (kept_same s w moment asked is.caller is.request nothing)))
 
 -- what was planned is recorded
 pub plan_recorded : (s : Settings) (w : ServiceWorld) (moment : ℤ) (asked : Asked) (plan : PlanState) (after : ServiceWorld) → HasNames s

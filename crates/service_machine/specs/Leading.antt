@@ -2,7 +2,8 @@
 -- machine asks for.
 use Rattle.std.proofs.Common.{◌≡◌, ℕ, List, refl}
 use Rattle.invocation_world.proofs.ExistFacts.{advance_there, settling_there}
-use Rattle.service_effects.specs.Effects.{exonerations_after, results_after, with_effect}
+use Rattle.service_effects.specs.Effects.{artifacts_after, exonerations_after, results_after}
+use Rattle.service_effects.specs.Effects.{with_effect}
 use Rattle.service_effects.specs.Service.{Recorded, ServiceWorld, recorded}
 use Rattle.request_effects.specs.Keeps.{with_kept}
 use Rattle.service_core.specs.declared.plan.Work.{Work}
@@ -14,8 +15,13 @@ use Rattle.service_machine.specs.Machines.{IsFit, Plays, RecordedState}
 pub works_there : (w : Recorded) (x : Work) → (after : Recorded) × Works w x after
 works_there w (work.Tick moment) =
     let due = advance_there moment w.rows in (
-      record { rows = due.0; results = w.results; exonerations = w.exonerations },
-      record { rows = due.1; results = refl; exonerations = refl },
+      record {
+        rows = due.0;
+        results = w.results;
+        exonerations = w.exonerations;
+        artifacts = w.artifacts;
+      },
+      record { rows = due.1; results = refl; exonerations = refl; artifacts = refl },
     )
 works_there w (work.Change change) =
     let settled = settling_there change.moment (with_effect change.moment change.effect w.rows) in (
@@ -23,8 +29,9 @@ works_there w (work.Change change) =
         rows = settled.0;
         results = results_after change.effect w.results;
         exonerations = exonerations_after change.effect w.exonerations;
+        artifacts = artifacts_after change.effect w.artifacts;
       },
-      record { rows = settled.1; results = refl; exonerations = refl },
+      record { rows = settled.1; results = refl; exonerations = refl; artifacts = refl },
     )
 
 -- each plan carries each world on to some world
@@ -36,6 +43,7 @@ carries_there w plan =
         rows = made.0.rows;
         results = made.0.results;
         exonerations = made.0.exonerations;
+        artifacts = made.0.artifacts;
         kept = with_kept w.kept plan.keep;
       },
       record { made = made.1; kept = refl },

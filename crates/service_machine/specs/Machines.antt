@@ -3,7 +3,7 @@ use Rattle.std.specs.Prelude.{◌≡◌, ℕ, ◌^◌, ◌<◌, ℤ, List, Some,
 use Rattle.result_journal.specs.Grammar.{IsBody}
 use Rattle.call_forms.specs.declared.asked.Asked.{Asked}
 use Rattle.recorded_calls.specs.declared.command.CallKind.{CallKind}
-use Rattle.request_rules.specs.Settings.{Settings, caller_name, caller_of}
+use Rattle.request_demands.specs.Settings.{Settings, caller_name, caller_of}
 use Rattle.service_effects.specs.Service.{ServiceWorld}
 use Rattle.service_core.specs.CoreState.{CoreState, PlanState, world_in}
 use Rattle.service_core.specs.Plans.{Carries, Fits}

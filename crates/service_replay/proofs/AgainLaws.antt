@@ -1,7 +1,6 @@
 -- How a recorded request is done again, and why it is out of place.
 use Rattle.std.proofs.Common.{◌≡◌, ℕ, ℤ, List, Option, Some, None, Result, Ok, Err, refl, sym, ap, ◌∙◌, subst}
 use Rattle.std.proofs.lemmas.Option.{none-some}
-use Rattle.test_results.specs.declared.result.TestResult.{TestResult}
 use Rattle.kept_replies.specs.declared.reply.KeptReply.{KeptReply}
 use Rattle.kept_replies.specs.Kept.{KeptState}
 use Rattle.call_forms.specs.declared.asked.Asked.{Asked}
@@ -12,12 +11,14 @@ use Rattle.message_forms.specs.Reading.{Asks}
 use Rattle.message_forms.proofs.FormLaws.{asked_is_of_form}
 use Rattle.recorded_calls.specs.Commands.{CallSaid, IsCallSayable}
 use Rattle.invocation_world.specs.World.{World}
-use Rattle.request_rules.specs.declared.numbers.NumberCheck.{NumberCheck}
-use Rattle.request_rules.specs.declared.numbers.NumberCheck.TheVariants.{New, Repeat, Reused}
-use Rattle.request_rules.specs.Again.{IsRight, IsUnused, asked_again}
-use Rattle.request_rules.specs.Demands.{Demand, demand_of}
-use Rattle.request_rules.specs.Numbered.{IsNumbered}
-use Rattle.request_rules.proofs.NumberLaws.{number_is_word}
+use Rattle.request_demands.specs.declared.numbers.NumberCheck.{NumberCheck}
+use Rattle.request_demands.specs.declared.numbers.NumberCheck.TheVariants.{New, Repeat, Reused}
+use Rattle.request_rules.specs.Again.{IsRight, IsUnused}
+use Rattle.request_rules.specs.Held.{Held}
+use Rattle.request_demands.specs.Numbered.{asked_again}
+use Rattle.request_demands.specs.Demands.{Demand, demand_of}
+use Rattle.request_demands.specs.Numbered.{IsNumbered}
+use Rattle.request_demands.proofs.NumberLaws.{number_is_word}
 use Rattle.service_effects.specs.Refused.{IsUnrefused}
 use Rattle.service_effects.specs.Service.{ServiceWorld, recorded}
 use Rattle.request_effects.specs.declared.keeping.Numbered.{Numbered}
@@ -82,10 +83,10 @@ free_again kept name asked request (Some numbered) asks unused is =
 
 -- ---- what is right is safe
 
-pub right_is_safe : (w : World) (results : List TestResult) (call : CallSaid) (method : Method) (request : Request)
-    → IsRight w.invocations results call.moment (demand_of request) → Asks (service_of method) (name_of method) call.body request
+pub right_is_safe : (w : World) (held : Held) (call : CallSaid) (method : Method) (request : Request)
+    → IsRight w.invocations held call.moment (demand_of request) → Asks (service_of method) (name_of method) call.body request
     → IsCallSayable call → IsSafe w call.moment call.caller request
-right_is_safe w results call method request right asks sayable = record {
+right_is_safe w held call method request right asks sayable = record {
   active = right.active;
   reach = right.reach;
   itself = right.apart;

@@ -21,15 +21,17 @@ use Rattle.recorded_calls.specs.declared.command.CallKind.TheVariants as kind
 use Rattle.recorded_calls.specs.Commands.{CallSaid, Said, called, ticked}
 use Rattle.recorded_calls.proofs.CommandLaws.{one_command}
 use Rattle.request_rules.specs.declared.rules.Rule.TheVariants as rule
-use Rattle.request_rules.specs.Again.{IsRight, IsUnused, asked_again}
+use Rattle.request_rules.specs.Again.{IsRight, IsUnused}
+use Rattle.request_demands.specs.Numbered.{asked_again}
 use Rattle.request_rules.specs.Broken.{IsBroken, RequestIdReused, order}
-use Rattle.request_rules.specs.Demands.{Demand, demand_of}
-use Rattle.request_rules.specs.Numbered.{IsRepeatOf, digest_of, kept_for}
-use Rattle.request_rules.specs.Order.{IsUnbroken}
-use Rattle.request_rules.specs.Settings.{HasNames, Settings, caller_name}
-use Rattle.request_rules.proofs.Judged.{IsAmong, unbroken_each}
-use Rattle.request_rules.proofs.NumberLaws.{found_digest, kept_there, unnumbered}
-use Rattle.request_rules.proofs.PolicyLaws.{caller_is_there, name_is}
+use Rattle.request_demands.specs.Demands.{Demand, demand_of}
+use Rattle.request_demands.specs.Numbered.{IsRepeatOf, digest_of, kept_for}
+use Rattle.request_demands.specs.Order.{IsUnbroken}
+use Rattle.request_demands.specs.Settings.{HasNames, Settings, caller_name}
+use Rattle.request_demands.proofs.Judged.{IsAmong, unbroken_each}
+use Rattle.request_demands.proofs.NumberLaws.{kept_there, unnumbered}
+use Rattle.request_rules.proofs.ReuseLaws.{found_digest}
+use Rattle.request_demands.proofs.PolicyLaws.{caller_is_there, name_is}
 use Rattle.service_effects.specs.declared.effect.Effect.TheVariants as does
 use Rattle.service_effects.specs.Effects.{with_effect}
 use Rattle.service_effects.specs.Fitting.{IsTimely}
@@ -38,10 +40,12 @@ use Rattle.service_effects.proofs.EffectLaws.{one_settling}
 use Rattle.request_effects.specs.declared.keeping.Numbered.{Numbered}
 use Rattle.request_effects.specs.Effects.{effect_of}
 use Rattle.request_effects.specs.Keeps.{kept_of, numbered_of, with_kept}
+use Rattle.request_effects.specs.Places.{held_in}
 use Rattle.service_core.specs.Step.{Acts, IsAccepted, case_in, effect_for, keep_for}
 use Rattle.service_replay.specs.Replay.{ActsAgain, IsKindOf, RecordedIsReplayed, Replays, ReplaysAreUnique, ReplaysCall, ReplaysSaid, TickIsReplayed, command_of, effect_again, keep_again, recorded_method}
 use Rattle.service_core.proofs.ClearedLaws.{IsCleared, accepted_found, safe, unused}
-use Rattle.service_core.proofs.UniqueLaws.{one_between, same_parts}
+use Rattle.service_effects.proofs.RoomLaws.{same_parts}
+use Rattle.service_core.proofs.UniqueLaws.{one_between}
 
 -- ---- one world
 
@@ -50,7 +54,8 @@ one_act : (w : ServiceWorld) (call : CallSaid) (method : Method) (request : Requ
 one_act w call method request v x this that =
     same_parts v x
     (one_settling call.moment (with_effect call.moment (effect_again w call request) w.rows) v.rows x.rows this.made.rows that.made.rows)
-    (this.made.results ∙ sym that.made.results) (this.made.exonerations ∙ sym that.made.exonerations) (this.kept ∙ sym that.kept)
+    (this.made.results ∙ sym that.made.results) (this.made.exonerations ∙ sym that.made.exonerations)
+    (this.made.artifacts ∙ sym that.made.artifacts) (this.kept ∙ sym that.kept)
 
 -- what a recorded call asks for by the method that it was for
 pub asks_as : (w : ServiceWorld) (call : CallSaid) (method : Method) (next : ServiceWorld) → recorded_method call.kind ≡ Some method
@@ -153,6 +158,7 @@ kind_there w moment name (asks.FinalizeInvocation q) changes = (kind.FinalizeInv
 kind_there w moment name (asks.UpdateIncludedInvocations q) changes = (kind.UpdateIncludedInvocations, refl)
 kind_there w moment name (asks.BatchCreateTestResults q) changes = (kind.BatchCreateTestResults, refl)
 kind_there w moment name (asks.BatchCreateTestExonerations q) changes = (kind.BatchCreateTestExonerations, refl)
+kind_there w moment name (asks.BatchCreateArtifacts q) changes = (kind.BatchCreateArtifacts, refl)
 kind_there w moment name _ changes = absurd (changes refl)
 
 -- ---- what was accepted
@@ -161,7 +167,7 @@ too_many_among : IsAmong rule.TooMany order
 too_many_among = search rules
 
 right_as : (s : Settings) (w : ServiceWorld) (moment : ℤ) (asked : Asked) (caller : ℕ) (request : Request) → HasNames s
-    → IsAccepted s w moment asked caller request → IsRight w.rows.invocations w.results moment (demand_of request)
+    → IsAccepted s w moment asked caller request → IsRight w.rows.invocations (held_in (recorded w)) moment (demand_of request)
 right_as s w moment asked caller request names accepted =
     let cleared : IsCleared s w moment asked caller request = record { new = accepted.new; judged = accepted.judged } in
     let safely = safe s w moment asked caller request names cleared in

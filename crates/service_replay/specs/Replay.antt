@@ -1,5 +1,5 @@
 -- Recorded commands, and the world to which each leads.
-use Rattle.std.specs.Prelude.{⊤, ◌≡◌, ◌≢◌, ℕ, ◌^◌, ◌<◌, ℤ, ◌≤ℤ◌, List, Option, Some, None, Result, Ok, Err, length}
+use Rattle.std.specs.Prelude.{⊤, ◌≡◌, ◌≢◌, ℕ, ◌^◌, ◌<◌, ℤ, ◌≤ℤ◌, List, Option, Some, Result, Ok, Err, length}
 use Rattle.kept_replies.specs.declared.reply.KeptReply.{KeptReply}
 use Rattle.call_forms.specs.declared.asked.Asked.{Asked}
 use Rattle.message_forms.specs.declared.requests.Method.{Method}
@@ -12,9 +12,10 @@ use Rattle.recorded_calls.specs.declared.command.CallKind.TheVariants as kind
 use Rattle.recorded_calls.specs.Commands.{CallSaid, IsCommand, Said, called, command_bytes, ticked}
 use Rattle.invocation_world.specs.Advancing.{IsDueAt, IsQuiet}
 use Rattle.invocation_world.specs.World.{IsCallMoment}
-use Rattle.request_rules.specs.Again.{IsRight, IsUnused, asked_again}
-use Rattle.request_rules.specs.Demands.{demand_of}
-use Rattle.request_rules.specs.Settings.{HasNames, Settings, caller_name}
+use Rattle.request_rules.specs.Again.{IsRight, IsUnused}
+use Rattle.request_demands.specs.Numbered.{asked_again}
+use Rattle.request_demands.specs.Demands.{demand_of}
+use Rattle.request_demands.specs.Settings.{HasNames, Settings, caller_name}
 use Rattle.service_effects.specs.declared.effect.Effect.{Effect}
 use Rattle.service_effects.specs.declared.effect.Effect.TheVariants as does
 use Rattle.service_effects.specs.Effects.{Makes}
@@ -23,12 +24,13 @@ use Rattle.service_effects.specs.Refused.{IsUnrefused}
 use Rattle.service_effects.specs.Service.{ServiceWorld, recorded}
 use Rattle.request_effects.specs.Effects.{effect_of}
 use Rattle.request_effects.specs.Keeps.{kept_of, numbered_of, with_kept}
+use Rattle.request_effects.specs.Places.{held_in}
 use Rattle.service_replay.specs.declared.replaying.ReplayFault.{ReplayFault}
 use Rattle.service_replay.specs.declared.replaying.ReplayFault.TheVariants.{OutOfPlace, Memory}
 use Rattle.service_core.specs.Service.{CatchesUp}
 use Rattle.service_core.specs.Step.{Acts, IsAccepted, effect_for}
 
--- The method that a recorded call was for. Batches of artifacts aren't there yet.
+-- The method that a recorded call was for.
 abbrev pub recorded_method : CallKind → Option Method
 recorded_method kind.CreateInvocation = Some method.CreateInvocation
 recorded_method kind.UpdateInvocation = Some method.UpdateInvocation
@@ -36,7 +38,7 @@ recorded_method kind.FinalizeInvocation = Some method.FinalizeInvocation
 recorded_method kind.UpdateIncludedInvocations = Some method.UpdateIncludedInvocations
 recorded_method kind.BatchCreateTestResults = Some method.BatchCreateTestResults
 recorded_method kind.BatchCreateTestExonerations = Some method.BatchCreateTestExonerations
-recorded_method kind.BatchCreateArtifacts = None
+recorded_method kind.BatchCreateArtifacts = Some method.BatchCreateArtifacts
 
 -- what a recorded request does, by the name of its caller: no policy is asked
 abbrev pub effect_again : ServiceWorld → CallSaid → Request → Effect
@@ -54,7 +56,7 @@ keep_again w call method request =
 pub record ActsAgain (w : ServiceWorld) (call : CallSaid) (method : Method) (request : Request)
     (after : ServiceWorld) : Type 0 where
   pub unused : IsUnused w.kept call.caller (demand_of request)
-  pub right : IsRight w.rows.invocations w.results call.moment (demand_of request)
+  pub right : IsRight w.rows.invocations (held_in (recorded w)) call.moment (demand_of request)
   pub room : IsUnrefused (recorded w) (effect_again w call request)
   pub changes : effect_again w call request ≢ does.Nothing
   pub made : Makes call.moment (effect_again w call request) (recorded w) (recorded after)

@@ -4,25 +4,27 @@ ghost use Rattle.invocation_world.specs.World.{IsCallMoment};
 ghost use Rattle.message_forms.specs.Methods.{name_of, service_of};
 ghost use Rattle.message_forms.specs.Reading.{Asks};
 ghost use Rattle.recorded_calls.specs.Commands.{IsCallSayable, IsSayable, call_said, said_by};
-ghost use Rattle.request_rules.specs.Again.{IsUnused, asked_again};
-ghost use Rattle.request_rules.specs.Demands.{demand_of};
-ghost use Rattle.request_rules.specs.Locating.{located};
+ghost use Rattle.request_rules.specs.Again.{IsUnused};
+ghost use Rattle.request_demands.specs.Numbered.{asked_again};
+ghost use Rattle.request_demands.specs.Demands.{demand_of};
 ghost use Rattle.request_effects.specs.Keeps.{numbered_of};
+ghost use Rattle.request_effects.specs.Places.{located_in};
 ghost use Rattle.request_effects.specs.Planned.{IsSafe};
 ghost use Rattle.service_effects.specs.Fitting.{IsTimely};
+ghost use Rattle.service_effects.specs.States.{recorded_in};
 ghost use Rattle.service_core.specs.Again.{IsFreeFor};
 ghost use Rattle.service_core.specs.CoreState.{world_in};
-ghost use Rattle.service_replay.specs.Replay.{ActsAgain, IsKindOf, IsRefused, Replays, ReplaysCall, ReplaysSaid, ReplaysTick, recorded_method};
+ghost use Rattle.service_replay.specs.Replay.{ActsAgain, IsKindOf, IsRefused, Replays, ReplaysCall, ReplaysSaid};
+ghost use Rattle.service_replay.specs.Replay.{ReplaysTick, recorded_method};
 ghost use Rattle.service_replay.specs.Replaying.{IsActedAgain};
 
 use call_forms::Asked;
 use message_forms::{FormFault, Method, Request, read_request};
 use names_realms::Moment;
 use recorded_calls::{CallKind, Command, RecordedCall, read_command};
+use request_demands::{Demand, NumberCheck, check_digest, demand_of, digest_again};
 use request_effects::{Context, Numbered, numbered_in};
-use request_rules::{
-    Demand, Located, NumberCheck, check_digest, demand_of, digest_again, is_right,
-};
+use request_rules::{Located, is_right};
 use service_core::Core;
 use std::alloc::{AllocError, Global};
 
@@ -46,7 +48,7 @@ impl From<AllocError> for ReplayFault {
     }
 }
 
-/// The method that a recorded call was for, where it is built.
+/// The method that a recorded call was for.
 fn recorded_method(kind: CallKind) -> Option<Method>
     ensures { result ≡ recorded_method kind }
 {
@@ -57,7 +59,7 @@ fn recorded_method(kind: CallKind) -> Option<Method>
         CallKind::UpdateIncludedInvocations => Some(Method::UpdateIncludedInvocations),
         CallKind::BatchCreateTestResults => Some(Method::BatchCreateTestResults),
         CallKind::BatchCreateTestExonerations => Some(Method::BatchCreateTestExonerations),
-        CallKind::BatchCreateArtifacts => None,
+        CallKind::BatchCreateArtifacts => Some(Method::BatchCreateArtifacts),
     }
 }
 
@@ -73,6 +75,7 @@ fn kind_for(method: Method) -> Option<CallKind>
         Method::UpdateIncludedInvocations => Some(CallKind::UpdateIncludedInvocations),
         Method::BatchCreateTestResults => Some(CallKind::BatchCreateTestResults),
         Method::BatchCreateTestExonerations => Some(CallKind::BatchCreateTestExonerations),
+        Method::BatchCreateArtifacts => Some(CallKind::BatchCreateArtifacts),
         _ => None,
     }
 }
@@ -148,8 +151,8 @@ fn act_again(
     requires timely { IsTimely core.old.held.world.world context.now.moment }
     requires safe { IsSafe core.old.held.world.world context.now.moment context.now.name.now
         request }
-    requires places { context.now.located.now ≡ located core.old.held.world.world.invocations
-        core.old.held.results.rows (demand_of request) }
+    requires places { context.now.located.now
+        ≡ located_in (recorded_in core.old.held) (demand_of request) }
     requires free { IsFreeFor core.old.keeps.kept context.now.name.now numbered }
     ensures ok { OnOk result (IsActedAgain (world_in core.old) context.now.moment
         context.now.name.now numbered request (world_in core.new)) }
@@ -184,7 +187,7 @@ fn make_again(
     let numbered = number_again(alloc, core, call, method, &demand_of(&request))?;
     let tables = core.tables();
     let table = tables.world.table();
-    let places = Located::of(alloc, table, &tables.results, &request)?;
+    let places = Located::of(alloc, table, &tables.results, &tables.artifacts, &request)?;
     if is_right(table, call.moment, &places, &request) {
         let context = Context {
             moment: call.moment,

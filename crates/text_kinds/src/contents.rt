@@ -1,5 +1,6 @@
 //! Contents in base64.
-ghost use Rattle.std.specs.Prelude.{◌≡◌, ◌≢◌, ◌≤◌, ℕ, List, Some, None, length, IfOk, IfErr, MatchOption, ◌<◌, string_bytes};
+ghost use Rattle.std.specs.Prelude.{◌≡◌, ◌≢◌, ◌≤◌, ℕ, List, Some, None, length, IfOk, IfErr, MatchOption, ◌<◌};
+ghost use Rattle.std.specs.Prelude.{string_bytes};
 ghost use Rattle.base64.specs.Engines.{standard};
 ghost use Rattle.base64.specs.GeneralPurpose.{encode_of, decoded_of, IsBytes};
 ghost use Rattle.json_fields.specs.Faults.{Says};

@@ -4,7 +4,8 @@ ghost use Rattle.std.specs.List.{position};
 ghost use Rattle.std.specs.Str.{IsUtf8};
 ghost use Rattle.json_fields.specs.Faults.{Says};
 ghost use Rattle.json_fields.specs.Texts.{bad_value};
-ghost use Rattle.text_kinds.specs.Texts.{limited_why, any_byte, printed, inked, most_of_html, most_of_message, most_of_content_type, least_of_request_id, most_of_request_id};
+ghost use Rattle.text_kinds.specs.Texts.{limited_why, any_byte, printed, inked, most_of_html, most_of_message};
+ghost use Rattle.text_kinds.specs.Texts.{most_of_content_type, least_of_request_id, most_of_request_id};
 
 use json_fields::{FaultKind, Form, ReadFault, Why, Written, is_empty_text};
 use lists::Bytes;

@@ -1,5 +1,6 @@
 //! The order of verdicts, and their ordinals.
-ghost use Rattle.std.specs.Prelude.{◌≡◌, ◌<◌, ◌≤◌, [], Some, OnOk, IsPermutation, IsSorted, length, take, map, slice_get, count_by};
+ghost use Rattle.std.specs.Prelude.{◌≡◌, ◌<◌, ◌≤◌, [], Some, OnOk, IsPermutation, IsSorted, length, take, map};
+ghost use Rattle.std.specs.Prelude.{slice_get, count_by};
 ghost use Rattle.verdict_lists.specs.Groups.{plain};
 ghost use Rattle.verdict_lists.specs.declared.verdict.Verdict.{Verdict};
 ghost use Rattle.verdict_lists.specs.Verdicts.{AreNumbered, first_key, fronts_order, is_like, verdict_order};

@@ -2,7 +2,8 @@
 ghost use Rattle.std.specs.Prelude.{◌≡◌, ◌≤◌, length, take, drop, nat_lt};
 ghost use Rattle.std.specs.Option.{option_map, option_copied};
 ghost use Rattle.verdict_lists.specs.World.{world_of};
-ghost use Rattle.verdict_pages.specs.Keys.{KeysRise, ResultKeysRise, more_results, more_verdicts, place_seen, result_rows, result_seen, results_behind, verdict_rows, verdicts_behind};
+ghost use Rattle.verdict_pages.specs.Keys.{KeysRise, ResultKeysRise, more_results, more_verdicts, place_seen};
+ghost use Rattle.verdict_pages.specs.Keys.{result_rows, result_seen, results_behind, verdict_rows, verdicts_behind};
 
 use crate::keys::{ResultKey, VerdictKey, compare, compare_results, result_key, verdict_key};
 use verdict_lists::{Verdict, View};

@@ -1,6 +1,6 @@
 use Rattle.std.proofs.Common.{ap, subst, ◌∙◌, Option}
 use Rattle.call_forms.specs.declared.forms.Answer.{Answer}
-use Rattle.request_rules.specs.Settings.{Settings}
+use Rattle.request_demands.specs.Settings.{Settings}
 use Rattle.service_core.specs.CoreState.{PlanState, world_in}
 use Rattle.service_core.specs.Plans.{Carries}
 use Rattle.service_machine.specs.Machines.{Plays}

@@ -4,7 +4,7 @@ use Rattle.request_effects.proofs.planning.plan_row.Goals as goal
 
 pub returns-in-Ok-clause-planned : goal.returns-in-Ok-clause-planned
 returns-in-Ok-clause-planned c =
-    row_ready (recorded_in c.args.tables.now) (record { world = c.prepare_add.new.self; results = c.args.tables.now.results; exonerations = c.args.tables.now.exonerations }) c.args.moment c.args.name.now c.args.q c.in_ok-row.row c.prepare_add.ensures.roomier.world
+    row_ready (recorded_in c.args.tables.now) (record { world = c.prepare_add.new.self; results = c.args.tables.now.results; exonerations = c.args.tables.now.exonerations; artifacts = c.args.tables.now.artifacts }) c.args.moment c.args.name.now c.args.q c.in_ok-row.row c.prepare_add.ensures.roomier.world
     c.requires.timely c.requires.safe c.in_ok-row.ensures c.in-Ok.ensures.can c.in-Ok.ensures.room
 
 pub unreachable-requires : goal.unreachable-requires

@@ -2,7 +2,7 @@ use Rattle.std.proofs.Common.{sym, subst}
 use Rattle.std.specs.Prelude.{IfOk}
 use Rattle.service_effects.specs.States.{recorded_in}
 use Rattle.request_effects.specs.declared.shows.Showing.{Showing}
-use Rattle.request_effects.specs.declared.shows.Showing.TheVariants.{Result as OneResult, Results, Verdicts}
+use Rattle.request_effects.specs.declared.shows.Showing.TheVariants.{Result as OneResult, Results, Verdicts, Artifact as OneArtifact, Artifacts}
 use Rattle.request_effects.specs.Answers.{Answers, Fits}
 use Rattle.request_effects.specs.Shows.{Scene}
 use Rattle.request_effects.proofs.AnswerLaws.{read_before}
@@ -60,3 +60,23 @@ returns-in-Verdicts-clause-answer c = λ after makes.
     read_before (record { policy = c.args.asker.now.policy.now }) w after change.moment change.effect c.args.asker.now.caller c.args.showing.now
     (Verdicts c.in-Verdicts.query) c.see_verdicts.result c.requires.timely (subst (Fits w change.effect) c.in-Verdicts.is c.requires.fits).0
     c.in-Verdicts.is makes c.see_verdicts.ensures
+
+pub see_artifact-requires : goal.see_artifact-requires
+see_artifact-requires c =
+    (subst (Fits (recorded_in c.args.tables.now) c.args.change.now.effect) c.in-Artifact.is c.requires.fits).1
+
+pub returns-in-Artifact-clause-answer : goal.returns-in-Artifact-clause-answer
+returns-in-Artifact-clause-answer c = λ after makes.
+    let w = recorded_in c.args.tables.now in
+    let change = c.args.change.now in
+    read_before (record { policy = c.args.asker.now.policy.now }) w after change.moment change.effect c.args.asker.now.caller c.args.showing.now
+    (OneArtifact c.in-Artifact.place) c.see_artifact.result c.requires.timely (subst (Fits w change.effect) c.in-Artifact.is c.requires.fits).0
+    c.in-Artifact.is makes c.see_artifact.ensures
+
+pub returns-in-Artifacts-clause-answer : goal.returns-in-Artifacts-clause-answer
+returns-in-Artifacts-clause-answer c = λ after makes.
+    let w = recorded_in c.args.tables.now in
+    let change = c.args.change.now in
+    read_before (record { policy = c.args.asker.now.policy.now }) w after change.moment change.effect c.args.asker.now.caller c.args.showing.now
+    (Artifacts c.in-Artifacts.query) c.see_artifacts.result c.requires.timely (subst (Fits w change.effect) c.in-Artifacts.is c.requires.fits).0
+    c.in-Artifacts.is makes c.see_artifacts.ensures

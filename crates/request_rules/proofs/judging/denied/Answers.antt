@@ -1,5 +1,5 @@
 use Rattle.request_rules.specs.Broken.{Lacks}
-use Rattle.request_rules.specs.Demands.{rights_taken}
+use Rattle.request_rules.specs.Rights.{rights_taken}
 use Rattle.request_rules.proofs.Firsts.{no_first}
 use Rattle.request_rules.proofs.judging.denied.Goals as goal
 

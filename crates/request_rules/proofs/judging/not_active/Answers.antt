@@ -1,6 +1,6 @@
 use Rattle.std.proofs.Common.{◌≡◌, ◌<◌, ℕ, Option, Some, length, option_map, rules, refl, sym, ap, ◌∙◌, subst}
 use Rattle.std.specs.Option.{IfSome}
-use Rattle.request_rules.specs.Demands.{Demand}
+use Rattle.request_demands.specs.Demands.{Demand}
 use Rattle.request_rules.specs.Locating.{Located, place_if}
 use Rattle.request_rules.specs.Named.{row_at}
 use Rattle.request_rules.proofs.PlaceLaws.{if_there}

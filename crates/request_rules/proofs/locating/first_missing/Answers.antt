@@ -1,6 +1,6 @@
 use Rattle.std.proofs.Common.{◌∙◌, ap, sym}
 use Rattle.request_rules.specs.Broken.{IsMissing}
-use Rattle.request_rules.specs.Demands.{Demand}
+use Rattle.request_demands.specs.Demands.{Demand}
 use Rattle.request_rules.specs.Locating.{Located}
 use Rattle.request_rules.specs.Named.{places_in}
 use Rattle.request_rules.proofs.Firsts.{first_in_front, first_in_more, first_of_same}

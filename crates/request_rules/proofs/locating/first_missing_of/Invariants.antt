@@ -2,7 +2,7 @@ use Rattle.std.proofs.Common.{◌≡◌, ℕ, List, drop, Option}
 use Rattle.invocations.specs.declared.invocation.Invocation.{Invocation}
 use Rattle.request_rules.specs.Broken.{IsMissing}
 use Rattle.request_rules.specs.Named.{places_in}
-use Rattle.request_rules.specs.Order.{FirstOf}
+use Rattle.request_demands.specs.Order.{FirstOf}
 use Rattle.request_rules.proofs.locating.first_missing_of.Given as goal
 
 -- the first of those to come is the first of all

@@ -12,7 +12,7 @@ returns-in-Err-TooMany-clause-planned c =
     let holder = c.args.holder in
     let rows = c.args.rows.items in
     let before = length (exonerations.places_in old holder) in
-    exonerations_refused (record { world = c.args.tables.now.world; results = c.args.tables.now.results; exonerations = c.prepare_batch.new.self })
+    exonerations_refused (record { world = c.args.tables.now.world; results = c.args.tables.now.results; exonerations = c.prepare_batch.new.self; artifacts = c.args.tables.now.artifacts })
     old rows holder before (batch_fault.TooMany c.in-Err-TooMany.count) (too_many c.in-Err-TooMany.count) c.requires c.in-Err-TooMany.ensures.rows
     (given_length holder before rows)
     (subst (exonerations.IsBatchFault old holder (length rows)) c.in-Err-TooMany.field-0-is c.in-Err-TooMany.ensures.fault) refl
@@ -23,7 +23,7 @@ returns-in-Err-Full-clause-planned c =
     let holder = c.args.holder in
     let rows = c.args.rows.items in
     let before = length (exonerations.places_in old holder) in
-    exonerations_refused (record { world = c.args.tables.now.world; results = c.args.tables.now.results; exonerations = c.prepare_batch.new.self })
+    exonerations_refused (record { world = c.args.tables.now.world; results = c.args.tables.now.results; exonerations = c.prepare_batch.new.self; artifacts = c.args.tables.now.artifacts })
     old rows holder before (batch_fault.Full c.in-Err-Full.count) (table_full (codes "exonerations") c.in-Err-Full.count) c.requires
     c.in-Err-Full.ensures.rows (given_length holder before rows)
     (subst (exonerations.IsBatchFault old holder (length rows)) c.in-Err-Full.field-0-is c.in-Err-Full.ensures.fault) refl

@@ -1,21 +1,24 @@
-use Rattle.std.proofs.Common.{List, ap, sym, subst, ◌∙◌}
+use Rattle.std.proofs.Common.{List, ap, subst, ◌∙◌}
 use Rattle.invocations.specs.declared.invocation.Invocation.{Invocation}
 use Rattle.recorded_calls.specs.Commands.{call_said}
-use Rattle.request_rules.specs.Again.{IsRight, IsUnused, asked_again}
-use Rattle.request_rules.specs.Demands.{Demand, demand_of}
+use Rattle.request_rules.specs.Again.{IsRight, IsUnused}
+use Rattle.request_demands.specs.Numbered.{asked_again}
+use Rattle.request_demands.specs.Demands.{Demand, demand_of}
 use Rattle.request_rules.specs.Locating.{located}
 use Rattle.request_effects.specs.Keeps.{numbered_of}
+use Rattle.request_effects.specs.Places.{held_in}
 use Rattle.service_effects.specs.declared.tables.Tables.{Tables}
+use Rattle.service_effects.specs.States.{recorded_in}
 use Rattle.service_replay.proofs.AgainLaws.{free_again, plans_again, refused_more, right_is_safe}
 use Rattle.service_replay.proofs.replaying.make_again.Goals as goal
 
 pub act_again-requires-clause-safe : goal.act_again-requires-clause-safe
 act_again-requires-clause-safe c =
-    let results = c.tables-tables.result.now.results.rows in
+    let held = held_in (recorded_in c.tables-tables.result.now) in
     let d = demand_of c.args.request in
-    let right = c.if-is_right.ensures results c.in_ok-places.ensures in
-    right_is_safe c.args.core.now.held.world.world results (call_said c.args.call.now) c.args.method c.args.request
-    (subst (λ (rows : List Invocation). IsRight rows results c.args.call.now.moment d)
+    let right = c.if-is_right.ensures held c.in_ok-places.ensures in
+    right_is_safe c.args.core.now.held.world.world held (call_said c.args.call.now) c.args.method c.args.request
+    (subst (λ (rows : List Invocation). IsRight rows held c.args.call.now.moment d)
     (c.table-table.ensures.rows ∙ ap (λ (t : Tables). t.world.world.invocations) c.tables-tables.ensures) right)
     c.requires.asks c.requires.sayable
 
@@ -23,9 +26,9 @@ pub act_again-requires-clause-places : goal.act_again-requires-clause-places
 act_again-requires-clause-places c =
     let d = demand_of c.args.request in
     c.in_ok-places.ensures
-    ∙ (ap (λ (rows : List Invocation). located rows c.tables-tables.result.now.results.rows d)
+    ∙ (ap (λ (rows : List Invocation). located rows (held_in (recorded_in c.tables-tables.result.now)) d)
     (c.table-table.ensures.rows ∙ ap (λ (t : Tables). t.world.world.invocations) c.tables-tables.ensures)
-    ∙ ap (λ (t : Tables). located c.args.core.now.held.world.world.invocations t.results.rows d) c.tables-tables.ensures)
+    ∙ ap (λ (t : Tables). located c.args.core.now.held.world.world.invocations (held_in (recorded_in t)) d) c.tables-tables.ensures)
 
 pub act_again-requires-clause-free : goal.act_again-requires-clause-free
 act_again-requires-clause-free c =

@@ -1,11 +1,11 @@
-use Rattle.std.proofs.Common.{◌≡◌, ◌≤◌, ℕ, List, length, sym, ap, ◌∙◌, subst, arith}
-use Rattle.std.specs.List.{All}
+use Rattle.std.proofs.Common.{◌≤◌, ℕ, List, length, sym, ap, ◌∙◌, subst, arith}
 use Rattle.std.proofs.lemmas.List.{length-map}
 use Rattle.artifacts.specs.declared.artifact.Artifact.{Artifact}
-use Rattle.artifacts.specs.Artifacts.{ArtifactsState, HasItsHash, places_in}
+use Rattle.artifacts.specs.Artifacts.{ArtifactsState, places_in}
 use Rattle.artifacts.specs.Batches.{CanAdd, Fits, HaveNoFault, IsRowFault, given, of_holder, with_holder}
 use Rattle.artifacts.specs.Requests.{DigestedState}
 use Rattle.artifacts.proofs.BatchLemmas.{given_held, row_fault}
+use Rattle.artifacts.proofs.RequestLemmas.{given_hashed}
 use Rattle.artifacts.proofs.artifact_rows.ArtifactRows.prepare_batch.Goals as goal
 
 pub returns-in-Some-clause-fault : goal.returns-in-Some-clause-fault
@@ -26,8 +26,6 @@ returns-clause-fits c =
     let asked = c.args.rows in
     let batch = given holder asked.rows in
     let is = c.of_holder-batch.ensures in
-    let items : c.into_rows.result.items ≡ batch = c.into_rows.ensures.rows ∙ ap (λ (b : DigestedState). b.rows) is in
-    let hashed : All HasItsHash batch = subst (λ (b : DigestedState). All HasItsHash b.rows) is c.into_rows.ensures.hashed in
     let none = subst (λ (b : DigestedState). HaveNoFault rows b) is c.in_default.ensures.fault in
     let count = ap (λ (rs : List Artifact). length rs) c.rows-count.ensures.rows in
     let total = length-map asked.rows (with_holder holder) in
@@ -39,10 +37,10 @@ returns-clause-fits c =
       free = none.free;
       few = omega (arith, total, count, c.if-count-held.false, held, c.rows_of-held.ensures.few);
     } in
-    subst (λ (rs : List Artifact). Fits c.reserve.new.self rs) (sym items) (record {
+    subst (λ (b : DigestedState). Fits c.reserve.new.self b.rows) (sym is) (record {
       holder = holder;
       held = given_held holder asked.rows;
-      hashed = hashed;
+      hashed = given_hashed holder asked.rows c.rows-count.ensures.hashed;
       can = subst (λ (rs : List Artifact). CanAdd rs holder batch) (sym (c.in_ok-reserve.ensures.rows ∙ same)) can;
       room = omega (arith, total, count, c.in_ok-reserve.ensures.enough);
     })

@@ -1,6 +1,6 @@
 use Rattle.std.proofs.Common.{FitsSigned, w64, to_z-of_z, [], ◌∷◌, ◌++◌, refl, ap, subst}
 use Rattle.call_forms.specs.declared.asked.Asked.{Asked}
-use Rattle.request_rules.specs.Settings.{Settings}
+use Rattle.request_demands.specs.Settings.{Settings}
 use Rattle.service_core.specs.CoreState.{world_in}
 use Rattle.service_machine.specs.Machines.{Plays}
 use Rattle.service_core.specs.Service.{Service, service_of}

@@ -1,5 +1,5 @@
-use Rattle.request_rules.specs.Breaches.{case_of}
-use Rattle.request_rules.specs.Settings.{caller_name}
+use Rattle.request_rules.specs.Breaches.{case_of, held_by}
+use Rattle.request_demands.specs.Settings.{caller_name}
 use Rattle.request_rules.proofs.Firsts.{found_as}
 use Rattle.request_rules.proofs.judging.Situation.broken_by.Goals as goal
 
@@ -11,7 +11,7 @@ returns-in-RequestIdReused c = λ kept asked checked numbered.
 pub returns-in-NotFound : goal.returns-in-NotFound
 returns-in-NotFound c = λ kept asked checked numbered.
     found_as (case_of c.args.self.now kept asked c.args.call.now.caller) c.args.demand.now c.args.rule _ c.not_found.result c.in-NotFound.is
-    (c.not_found.ensures c.args.self.now.table.now.rows c.args.self.now.results.now.rows c.requires.located)
+    (c.not_found.ensures c.args.self.now.table.now.rows (held_by c.args.self.now) c.requires.located)
 
 pub returns-in-NoUpdateToken : goal.returns-in-NoUpdateToken
 returns-in-NoUpdateToken c = λ kept asked checked numbered.
@@ -51,10 +51,10 @@ returns-in-TooMany c = λ kept asked checked numbered.
 pub returns-in-Taken : goal.returns-in-Taken
 returns-in-Taken c = λ kept asked checked numbered.
     found_as (case_of c.args.self.now kept asked c.args.call.now.caller) c.args.demand.now c.args.rule _ c.taken.result c.in-Taken.is
-    (c.taken.ensures c.args.self.now.table.now.rows c.args.self.now.results.now.rows c.requires.located)
+    (c.taken.ensures c.args.self.now.table.now.rows (held_by c.args.self.now) c.requires.located)
 
 pub denied-requires-clause-places : goal.denied-requires-clause-places
-denied-requires-clause-places c = (c.args.self.now.results.now.rows, c.requires.located)
+denied-requires-clause-places c = (held_by c.args.self.now, c.requires.located)
 
 pub not_active-requires : goal.not_active-requires
-not_active-requires c = (c.args.self.now.results.now.rows, c.requires.located)
+not_active-requires c = (held_by c.args.self.now, c.requires.located)

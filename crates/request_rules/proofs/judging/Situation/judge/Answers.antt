@@ -2,11 +2,11 @@ use Rattle.std.proofs.Common.{option_map, sym, subst}
 use Rattle.request_rules.specs.Askers.{MayJudge}
 use Rattle.request_rules.specs.Breaches.{case_of, refusal_of}
 use Rattle.request_rules.specs.Broken.{IsBroken}
-use Rattle.request_rules.specs.Demands.{Demand}
-use Rattle.request_rules.specs.Order.{Judges}
-use Rattle.request_rules.specs.Numbered.{IsNumbered}
-use Rattle.request_rules.specs.Settings.{Settings, caller_name}
-use Rattle.request_rules.specs.Understood.{IsChecked}
+use Rattle.request_demands.specs.Demands.{Demand}
+use Rattle.request_demands.specs.Order.{Judges}
+use Rattle.request_demands.specs.Numbered.{IsNumbered}
+use Rattle.request_demands.specs.Settings.{Settings, caller_name}
+use Rattle.request_demands.specs.Understood.{IsChecked}
 use Rattle.request_rules.proofs.judging.Situation.judge.Goals as goal
 
 pub returns : goal.returns

@@ -4,10 +4,10 @@ use Rattle.call_forms.specs.declared.asked.Asked.{Asked}
 use Rattle.call_forms.specs.declared.forms.Refusal.{Refusal}
 use Rattle.request_rules.specs.Breaches.{case_of}
 use Rattle.request_rules.specs.Broken.{IsBroken}
-use Rattle.request_rules.specs.Order.{Judges}
-use Rattle.request_rules.specs.Numbered.{IsNumbered}
-use Rattle.request_rules.specs.Settings.{caller_name}
-use Rattle.request_rules.specs.Understood.{IsChecked}
+use Rattle.request_demands.specs.Order.{Judges}
+use Rattle.request_demands.specs.Numbered.{IsNumbered}
+use Rattle.request_demands.specs.Settings.{caller_name}
+use Rattle.request_demands.specs.Understood.{IsChecked}
 use Rattle.request_rules.proofs.judging.Situation.judge_demand.Given as goal
 
 -- what the rules to come are judged is what all are

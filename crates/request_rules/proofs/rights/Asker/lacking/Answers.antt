@@ -2,7 +2,8 @@ use Rattle.std.proofs.Common.{◌≡◌, ◌<◌, ◌∙◌, length, sym, subst,
 use Rattle.std.specs.Prelude.{IfSome}
 use Rattle.std.specs.List.{All}
 use Rattle.request_rules.specs.Broken.{Lacks}
-use Rattle.request_rules.specs.Demands.{Demand, rights_here, rights_in}
+use Rattle.request_demands.specs.Demands.{Demand}
+use Rattle.request_rules.specs.Rights.{rights_here, rights_in}
 use Rattle.request_rules.specs.Locating.{Located}
 use Rattle.request_rules.specs.Named.{places_in}
 use Rattle.request_rules.proofs.Firsts.{first_in_front, first_in_more}

@@ -1,6 +1,6 @@
 use Rattle.std.proofs.Common.{get_or}
 use Rattle.policy_checks.specs.declared.permission.Permission.TheVariants.{CreateInvocation}
-use Rattle.request_rules.specs.declared.grants.Grant.TheVariants.{One}
+use Rattle.request_demands.specs.declared.grants.Grant.TheVariants.{One}
 use Rattle.request_rules.specs.Broken.{Lacks}
 use Rattle.request_rules.proofs.Firsts.{read_same}
 use Rattle.request_rules.proofs.RightLaws.{here_on}

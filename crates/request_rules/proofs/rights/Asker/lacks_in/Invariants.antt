@@ -1,7 +1,7 @@
 use Rattle.std.proofs.Common.{drop, Option}
 use Rattle.request_rules.specs.Broken.{Lacks}
-use Rattle.request_rules.specs.Demands.{Right, rights_in}
-use Rattle.request_rules.specs.Order.{FirstOf}
+use Rattle.request_rules.specs.Rights.{Right, rights_in}
+use Rattle.request_demands.specs.Order.{FirstOf}
 use Rattle.request_rules.proofs.rights.Asker.lacks_in.Given as goal
 
 -- the first of those to come is the first of all

@@ -1,64 +1,64 @@
 use Rattle.std.proofs.Common.{subst}
-use Rattle.std.proofs.lemmas.Option.{slice_get_within}
-use Rattle.request_rules.specs.Numbered.{IsNumbered}
-use Rattle.request_rules.specs.Settings.{Settings, caller_name}
-use Rattle.request_rules.specs.Demands.{demand_of}
-use Rattle.request_rules.proofs.PolicyLaws.{caller_is_there}
+use Rattle.std.proofs.lemmas.Result.{IfOk-weaker}
+use Rattle.request_demands.specs.Settings.{Settings}
+use Rattle.request_demands.proofs.PolicyLaws.{caller_is_there, names_of_sound}
 use Rattle.service_core.specs.CoreState.{world_in}
-use Rattle.service_core.proofs.ServeLaws.{numbered_in, repeats_as}
+use Rattle.service_core.specs.Judged.{TellsJudged}
+use Rattle.service_core.specs.Planning.{ComesTo}
+use Rattle.service_core.specs.Plans.{IsPrepared}
+use Rattle.service_core.proofs.ClearedLaws.{safe}
+use Rattle.service_core.proofs.PlanLaws.{prepared_in, same_world}
 use Rattle.service_core.proofs.serving.Core.prepare_call.Goals as goal
 
-pub name_of-requires : goal.name_of-requires
-name_of-requires c =
+pub assess-requires : goal.assess-requires
+assess-requires c = record { call = c.requires.call }
+
+pub returns-in-Err-clause-prepared : goal.returns-in-Err-clause-prepared
+unfolding TellsJudged
+returns-in-Err-clause-prepared c = λ asked is.
+    let s : Settings = record { policy = c.args.policy.now } in
+    subst (TellsJudged s c.args.self.now c.args.moment asked c.args.call) c.in-Err.is (c.in_ok-places.ensures asked is)
+
+pub plan-requires-clause-there : goal.plan-requires-clause-there
+plan-requires-clause-there c =
     let some = c.requires.call in
     caller_is_there (record { policy = c.args.policy.now }) some.0.bearer c.args.call.caller some.1.wants.caller_is
 
-pub kept_answer-requires : goal.kept_answer-requires
-kept_answer-requires c =
+pub plan-requires-clause-places : goal.plan-requires-clause-places
+unfolding TellsJudged
+plan-requires-clause-places c =
     let s : Settings = record { policy = c.args.policy.now } in
-    let core = c.args.self.now in
     let some = c.requires.call in
-    let numbered = numbered_in s _ core some.0 c.args.call _ c.in_ok-number.number c.self.view_is c.name_of.ensures
-    (c.in_ok-number.ensures some.0 some.1.digest_is) in
-    let at = subst (IsNumbered core.keeps.kept (caller_name s c.args.call.caller) some.0 (demand_of c.args.call.request)) c.in-Repeat.is numbered in
-    slice_get_within core.keeps.kept c.in-Repeat.place at.0 at.2
+    (subst (TellsJudged s c.args.self.now c.args.moment some.0 c.args.call) c.in-Ok.is (c.in_ok-places.ensures some.0 some.1)).1.1.0
 
-pub prepare_new-requires-clause-call : goal.prepare_new-requires-clause-call
-prepare_new-requires-clause-call c =
-    let some = c.requires.call in (
-      some.0,
-      some.1,
-      numbered_in (record { policy = c.args.policy.now }) _ c.args.self.now some.0 c.args.call _ c.in_ok-number.number c.self.view_is c.name_of.ensures
-          (c.in_ok-number.ensures some.0 some.1.digest_is),
-    )
-
-pub prepare_new-requires-in-Reused-clause-call : goal.prepare_new-requires-in-Reused-clause-call
-prepare_new-requires-in-Reused-clause-call c =
-    let some = c.requires.call in (
-      some.0,
-      some.1,
-      numbered_in (record { policy = c.args.policy.now }) _ c.args.self.now some.0 c.args.call _ c.in_ok-number.number c.self.view_is c.name_of.ensures
-          (c.in_ok-number.ensures some.0 some.1.digest_is),
-    )
-
-pub returns-in_ok-kept_answer-in-Repeat-clause-prepared : goal.returns-in_ok-kept_answer-in-Repeat-clause-prepared
-returns-in_ok-kept_answer-in-Repeat-clause-prepared c = λ asked is.
+pub plan-requires-clause-timely : goal.plan-requires-clause-timely
+unfolding TellsJudged
+plan-requires-clause-timely c =
     let s : Settings = record { policy = c.args.policy.now } in
-    let core = c.args.self.now in
-    let numbered = numbered_in s _ core asked c.args.call _ c.in_ok-number.number c.self.view_is c.name_of.ensures
-    (c.in_ok-number.ensures asked is.digest_is) in
-    let at = subst (IsNumbered core.keeps.kept (caller_name s c.args.call.caller) asked (demand_of c.args.call.request)) c.in-Repeat.is numbered in
-    repeats_as s (world_in core) c.args.moment asked c.args.call c.in-Repeat.place c.in_ok-kept_answer-in-Repeat.field-0 is at
-    (c.in_ok-kept_answer-in-Repeat.ensures at.0 at.2)
+    let some = c.requires.call in
+    let told = subst (TellsJudged s c.args.self.now c.args.moment some.0 c.args.call) c.in-Ok.is (c.in_ok-places.ensures some.0 some.1) in
+    record { valid = told.1.1.1; call = c.requires.in_range; later = c.requires.later; quiet = c.requires.quiet }
 
-pub returns-in-New-clause-prepared : goal.returns-in-New-clause-prepared
-returns-in-New-clause-prepared c = λ asked is.
-    c.prepare_new.ensures.prepared asked is
-    (numbered_in (record { policy = c.args.policy.now }) _ c.args.self.now asked c.args.call _ c.in_ok-number.number c.self.view_is c.name_of.ensures
-    (c.in_ok-number.ensures asked is.digest_is))
+pub plan-requires-clause-safe : goal.plan-requires-clause-safe
+unfolding TellsJudged
+plan-requires-clause-safe c =
+    let s : Settings = record { policy = c.args.policy.now } in
+    let w = world_in c.args.self.now in
+    let some = c.requires.call in
+    let told = subst (TellsJudged s c.args.self.now c.args.moment some.0 c.args.call) c.in-Ok.is (c.in_ok-places.ensures some.0 some.1) in
+    safe s w c.args.moment some.0 c.args.call.caller c.args.call.request (names_of_sound c.args.policy.now c.tables.ensures.sound)
+    (record { new = told.0; judged = told.1.0 })
 
-pub returns-in-Reused-clause-prepared : goal.returns-in-Reused-clause-prepared
-returns-in-Reused-clause-prepared c = λ asked is.
-    c.prepare_new-in-Reused.ensures.prepared asked is
-    (numbered_in (record { policy = c.args.policy.now }) _ c.args.self.now asked c.args.call _ c.in_ok-number.number c.self.view_is c.name_of.ensures
-    (c.in_ok-number.ensures asked is.digest_is))
+pub returns-in-Ok-clause-prepared : goal.returns-in-Ok-clause-prepared
+unfolding TellsJudged
+returns-in-Ok-clause-prepared c = λ asked is.
+    let s : Settings = record { policy = c.args.policy.now } in
+    let old = c.args.self.now in
+    let new = c.plan.new.self in
+    let told = subst (TellsJudged s old c.args.moment asked c.args.call) c.in-Ok.is (c.in_ok-places.ensures asked is) in
+    IfOk-weaker c.plan.result (ComesTo s new c.args.moment asked c.args.call.caller c.args.call.request) (IsPrepared s new c.args.moment asked)
+    (λ p comes.
+    prepared_in s old new c.args.moment asked c.args.call.caller c.args.call.request p (same_world old new c.plan.ensures.roomier)
+    (record { valid = told.1.1.1; call = c.requires.in_range; later = c.requires.later; quiet = c.requires.quiet })
+    (record { new = told.0; judged = told.1.0 }) comes)
+    (c.plan.ensures.comes asked is.digest_is)
