@@ -8,15 +8,14 @@ use Rattle.service_core.specs.declared.counting.Counts.{Counts}
 abbrev pub item : List ℕ → ℕ → List ℕ
 item name number = name ++ decimal number
 
--- how many rows there are of each kind, none of them an artifact yet, and how many bytes their
--- records have
+-- how many rows there are of each kind, and how many bytes their records have
 abbrev pub counts_text : Counts → ℕ → List ℕ
 counts_text counts bytes =
     item (codes "invocations ") counts.invocations
     ++ item (codes ", finalized ") counts.finalized
     ++ item (codes ", results ") counts.results
     ++ item (codes ", exonerations ") counts.exonerations
-    ++ item (codes ", artifacts ") 0
+    ++ item (codes ", artifacts ") counts.artifacts
     ++ item (codes ", kept ") counts.kept
     ++ item (codes ", bytes ") bytes
     ++ codes "\n"

@@ -43,8 +43,7 @@ pub fn opening_line(fault: OpenFault) -> Line
     line
 }
 
-/// The line that tells how much a journal holds, whose records have so many bytes. No artifact is
-/// recorded yet.
+/// The line that tells how much a journal holds, whose records have so many bytes.
 pub fn counts_line(counts: &Counts, bytes: u64) -> Line
     ensures { result.items ≡ counts_text counts.now bytes }
 {
@@ -53,7 +52,7 @@ pub fn counts_line(counts: &Counts, bytes: u64) -> Line
     put_number(&mut line, ", finalized ", counts.finalized);
     put_number(&mut line, ", results ", counts.results);
     put_number(&mut line, ", exonerations ", counts.exonerations);
-    put_number(&mut line, ", artifacts ", 0);
+    put_number(&mut line, ", artifacts ", counts.artifacts);
     put_number(&mut line, ", kept ", counts.kept);
     put_number(&mut line, ", bytes ", bytes);
     put(&mut line, "\n");

@@ -11,7 +11,7 @@ use Rattle.service_core.specs.CoreState.{world_in}
 use Rattle.service_core.specs.History.{Entry}
 use Rattle.service_core.specs.Service.{service_of}
 use Rattle.service_machine.specs.Machines.{Plays}
-use Rattle.request_rules.specs.Settings.{Settings}
+use Rattle.request_demands.specs.Settings.{Settings}
 use Rattle.record_desk.specs.Standing.{HasRecorded}
 use Rattle.record_desk.proofs.StandingLaws.{recorded_opened}
 use Rattle.door_workers.specs.Tallies.{nothing_counted}

@@ -7,7 +7,7 @@ use Rattle.call_forms.specs.declared.forms.Answer.{Answer}
 use Rattle.call_forms.specs.declared.forms.Standin.TheVariants.{Memory, Spent, Unavailable}
 use Rattle.call_forms.specs.declared.forms.Told.{Told}
 use Rattle.call_forms.specs.declared.forms.Told.TheVariants.{Made, Standin as Instead}
-use Rattle.request_rules.specs.Settings.{Settings}
+use Rattle.request_demands.specs.Settings.{Settings}
 use Rattle.service_effects.specs.Service.{ServiceWorld}
 use Rattle.service_core.specs.History.{Entry, IsLegal, Leads, Serves, Tells, entry_at}
 use Rattle.service_core.specs.Step.{Step}

@@ -7,7 +7,7 @@ use Rattle.journal_book.specs.Books.{Stands}
 use Rattle.call_forms.specs.declared.forms.Answer.{Answer}
 use Rattle.call_forms.specs.declared.forms.Standin.TheVariants.{Memory}
 use Rattle.call_forms.specs.declared.forms.Told.TheVariants.{Made, Standin as Instead}
-use Rattle.request_rules.specs.Settings.{Settings}
+use Rattle.request_demands.specs.Settings.{Settings}
 use Rattle.service_effects.specs.Service.{ServiceWorld, empty_service}
 use Rattle.service_core.specs.CoreState.{world_in}
 use Rattle.service_core.specs.History.{Entry, IsLegal, Leads}

@@ -1,6 +1,6 @@
 //! What is handed from caller to caller: a book of the service, and its clock.
 ghost use Rattle.std.specs.Prelude.{◌≡◌};
-ghost use Rattle.request_rules.specs.Understood.{IsUnderstood};
+ghost use Rattle.request_demands.specs.Understood.{IsUnderstood};
 
 use call_forms::{Asked, Told};
 use disks::Disk;
@@ -81,7 +81,7 @@ pub(crate) struct Request<'r> {
 
 impl<D: Disk, C: Clock> Call<Shelf<D, C>> for Request<'_> {
     ghost use Rattle.std.specs.Prelude.{◌≡◌, IfOk};
-    ghost use Rattle.request_rules.specs.Understood.{IsUnderstood};
+    ghost use Rattle.request_demands.specs.Understood.{IsUnderstood};
     ghost use Rattle.service_desk.specs.Shelves.{OpensShelf};
 
     type Answer = Told;

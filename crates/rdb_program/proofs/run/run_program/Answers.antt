@@ -16,7 +16,7 @@ returns-in-Ok-Sink-clause-run g c =
     program_upload _ _ (λ clock. g.C.Clock.tells (g.C.Clock.state clock)) g.D.Disk.told g.D.Disk.faults _ _ _ _ _ _ _ _ _ _
     c.args.disk c.finish.result.disk c.args.clock c.finish.result.clock _ _ c.in-Ok-Sink.sink c.send_report-sent.result c.tell.result
     (subst (Says _) is c.in-Ok-Sink.ensures.said) c.finish.ensures.status c.finish.ensures.disk c.finish.ensures.clock
-    (ap (λ v. v.items) c.finish.ensures.doors) c.send_report-sent.ensures c.tell.ensures c.finish.ensures.line
+    (ap (λ v. v.items) c.finish.ensures.doors) c.send_report-sent.ensures.sent c.tell.ensures c.finish.ensures.line
 
 -- The link still holds the input and the output that it was made of, so what it leaves of them is theirs.
 pub returns-in_default-clause-run : goal.returns-in_default-clause-run

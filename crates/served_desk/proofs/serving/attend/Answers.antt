@@ -3,7 +3,7 @@ use denote.Exit.{no}
 use denote.Param.Send.{arg_send, param_send}
 use Rattle.service_desk.specs.Shelves.{LedSomewhere}
 use Rattle.served_desk.proofs.AttendLaws.{all_stand, as_many_back, none_asked, own_again, served_so, unasked_so}
-use Rattle.served_desk.proofs.SendLaws.{clerk_send}
+use Rattle.service_desk.proofs.SendLaws.{clerk_send}
 use Rattle.served_desk.proofs.serving.attend.Goals as goal
 
 pub returns-in_default-clause-unasked : goal.returns-in_default-clause-unasked

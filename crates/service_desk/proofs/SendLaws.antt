@@ -31,7 +31,7 @@ Held D C S d c = TheImpl.ghosts D C S d TheImpl.no_dict c TheImpl.no_dict
 snapshot_send : IsSend (Snapshot.the_row Policy.the_row)
 snapshot_send = search (crosses, sendable)
 
-shelf_send : (D C S : RattleType) → IsSend D → IsSend C → IsSend (Shelf.the_row D C S)
+pub shelf_send : (D C S : RattleType) → IsSend D → IsSend C → IsSend (Shelf.the_row D C S)
 shelf_send D C S disk clock =
     recorded_send (Shelf.the_field D C S).row _ _ (Shelf.the_type D C S).to_one (struct_send (shape (Shelf.the_type D C S)) (
       snapshot_send,
@@ -41,7 +41,7 @@ shelf_send D C S disk clock =
       ),
     ))
 
-desk_sync : (a : NamedLft) (D C S : RattleType) (d : Disk.Ghosts D.Denot) (c : Clock.Ghosts C.Denot S.Denot) → IsSend D → IsSend C
+pub desk_sync : (a : NamedLft) (D C S : RattleType) (d : Disk.Ghosts D.Denot) (c : Clock.Ghosts C.Denot S.Denot) → IsSend D → IsSend C
     → IsSync (Desk.the_row a D C S d c)
 desk_sync a D C S d c disk clock =
     let rules : IsSync Policy.the_row = policy.the_sync in
