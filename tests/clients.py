@@ -1,8 +1,10 @@
 """Clients behind a listener: Python's library, a plain socket, and curl where it is installed."""
 
+import base64
 import contextlib
 import http.client
 import json
+import pathlib
 import shutil
 import socket
 import subprocess
@@ -114,8 +116,10 @@ def by_curl(folder, *words):
 
 
 def curl_words(method, body, *headers):
+    """Words for a call whose body is given, or stands in a file."""
     shown = [word for header in ("Authorization: Bearer tok-a", *headers) for word in ("-H", header)]
-    return [*shown, "-d", json.dumps(body), f"http://127.0.0.1:PORT{route(method)}"]
+    sent = ["--data-binary", f"@{body}"] if isinstance(body, pathlib.Path) else ["-d", json.dumps(body)]
+    return [*shown, *sent, f"http://127.0.0.1:PORT{route(method)}"]
 
 
 def where_curl_is(check):
@@ -145,10 +149,26 @@ def calls_by_curl(folder):
     same(texts[4]["includedInvocations"], ["invocations/u-b"])
 
 
+def a_file_by_curl(folder):
+    """A file of 1 MiB is recorded and read back, its body being too long for a word."""
+    contents = base64.b64encode(bytes(range(256)) * 4096).decode()
+    row = {"artifactId": "log.bin", "contents": contents, "sizeBytes": "1048576"}
+    body = pathlib.Path(folder) / "body.json"
+    body.write_text(json.dumps({"requests": [{"parent": "invocations/u-a", "artifact": row}]}))
+    headers = (f"Update-Token: {token('u-a')}", "Expect:")
+    words = curl_words("CreateInvocation", new("u-a"))
+    words += ["--next", "-sS", *curl_words("BatchCreateArtifacts", body, *headers)]
+    words += ["--next", "-sS", *curl_words("GetArtifact", {"name": "invocations/u-a/artifacts/log.bin"})]
+    _, added, shown = [json.loads(text) for text in by_curl(folder, *words).split(b")]}'\n")[1:]]
+    same(added["artifacts"][0]["sizeBytes"], "1048576")
+    same(shown["contents"], contents)
+
+
 CHECKS = {
     "a cycle of three": a_cycle_of_three,
     "a client of Python's library": a_client_of_the_library,
     "a plain socket": a_plain_socket,
     "a call by curl": where_curl_is(a_call_by_curl),
     "calls by curl on one connection": where_curl_is(calls_by_curl),
+    "a file by curl": where_curl_is(a_file_by_curl),
 }

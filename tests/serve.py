@@ -6,6 +6,7 @@ import json
 import pathlib
 import random
 import re
+import shutil
 import signal
 import socket
 import subprocess
@@ -15,6 +16,7 @@ import time
 import harness
 from harness import BEARER, FARM, RDB, SECONDS, Wrong, changing, expect, named, new, replies, request, route, same, told_by
 
+TESTS = pathlib.Path(__file__).resolve().parent
 STOPS = 200  # of a service under load
 LISTENS = "0A"  # the state of a listening socket in /proc/net/tcp
 COUNTS = re.compile(rb"invocations (\d+), .*\n")
@@ -171,6 +173,18 @@ def kinds_of_clients(folder):
         same(service.ended(), (line(6, 9), b"", 0))
 
 
+def by_program(name, *words):
+    """A client that is another program: what its calls are told, over connections as it likes them."""
+
+    def check(folder):
+        with Service(journal_in(folder), 4) as service:
+            done = subprocess.run([name, *words, str(service.port)], capture_output=True, timeout=SECONDS)
+        wanted = [b"200 ACTIVE", b"409 19 Taken: invocations/u-a", *[b"200 ACTIVE"] * 8, b"404 8 NotFound: invocations/u-b"]
+        same((done.returncode, done.stdout.splitlines()), (0, wanted))
+
+    return check if shutil.which(name) else lambda _: f"nothing was tried, since {name} isn't installed"
+
+
 def many_connections(folder):
     """64 workers and as many clients at once: each invocation is created by one of the clients that ask for it."""
     journal = journal_in(folder)
@@ -258,6 +272,8 @@ CHECKS = {
     "side by side": side_by_side,
     "one history": one_history,
     "kinds of clients": kinds_of_clients,
+    "a client of Node": by_program("node", TESTS / "client.mjs"),
+    "a client of Java": by_program("java", "-Dfile.encoding=UTF-8", TESTS / "Client.java"),
     "many connections": many_connections,
     "stops under load": stops_under_load,
     "refused": refused,
