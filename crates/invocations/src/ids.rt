@@ -1,5 +1,6 @@
 //! The places of rows, kept in the order of their ids.
-ghost use Rattle.std.specs.Prelude.{◌≡◌, ◌≤◌, ◌<◌, ◌+◌, ◌++◌, ◌∷◌, [], OnOk, MatchOption, Contains, length, slice_index_or, vec_len, vec_capacity};
+ghost use Rattle.std.specs.Prelude.{◌≡◌, ◌≤◌, ◌<◌, ◌+◌, ◌++◌, ◌∷◌, [], OnOk, MatchOption, Contains, length};
+ghost use Rattle.std.specs.Prelude.{slice_index_or, vec_len, vec_capacity};
 ghost use Rattle.std.specs.Ordering.{nat_cmp};
 ghost use Rattle.std.specs.Cmp.Lexicographic.{slice_cmp};
 ghost use Rattle.invocations.specs.Orders.{IsIdIndex, IsRising, IsSlot, id_order, places_order};

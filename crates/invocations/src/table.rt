@@ -1,9 +1,11 @@
 //! The table of invocations.
-ghost use Rattle.std.specs.Prelude.{◌≡◌, ◌≤◌, ◌<◌, ◌+◌, ◌++◌, ◌∷◌, [], Some, IfOk, IfErr, IfSome, OnOk, MatchOption, length, slice_get};
+ghost use Rattle.std.specs.Prelude.{◌≡◌, ◌≤◌, ◌<◌, ◌+◌, ◌++◌, ◌∷◌, [], Some, IfOk, IfErr, IfSome, OnOk, MatchOption};
+ghost use Rattle.std.specs.Prelude.{length, slice_get};
 ghost use Rattle.invocations.specs.Due.{IsNextPlace};
 ghost use Rattle.invocations.specs.Orders.{IsInTurn};
 ghost use Rattle.invocations.specs.Faults.{CanAdd, IsAddFault};
-ghost use Rattle.invocations.specs.Rows.{HasId, IsInState, IsPlaceOf, IsRoomier, IsTable, begun, ended, states_of, with_deadline, with_row, with_row_changed, with_tags};
+ghost use Rattle.invocations.specs.Rows.{HasId, IsInState, IsPlaceOf, IsRoomier, IsTable, begun, ended, states_of};
+ghost use Rattle.invocations.specs.Rows.{with_deadline, with_row, with_row_changed, with_tags};
 
 use crate::due::{Due, DueIndex};
 use crate::faults::AddFault;

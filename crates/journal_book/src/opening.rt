@@ -3,7 +3,8 @@ ghost use Rattle.std.specs.Prelude.{◌≡◌, ℕ, ◌+◌, ◌++◌, ◌∷◌
 ghost use Rattle.disks.specs.Moments.{AtEachMoment};
 ghost use Rattle.result_journal.specs.Grammar.{IsBody};
 ghost use Rattle.result_journal.specs.Journals.{disk_of, is_settled};
-ghost use Rattle.result_journal.specs.Openings.{AlikeOnceSynced, CountsOpening, FaultCause, HasGiven, LeftBeforeOrAlike, LongPartStays, OpensAs, next_gate, opened_disk};
+ghost use Rattle.result_journal.specs.Openings.{AlikeOnceSynced, CountsOpening, FaultCause, HasGiven};
+ghost use Rattle.result_journal.specs.Openings.{LeftBeforeOrAlike, LongPartStays, OpensAs, next_gate, opened_disk};
 ghost use Rattle.result_journal.specs.Steps.{OtherStays};
 ghost use Rattle.journal_book.specs.Books.{HasWorldOf, IsOpenFault, Stands};
 ghost use Rattle.journal_book.specs.Reading.{GoesOnPlaying, HasPlayed, HasPlayedAll, IsPlayFault, IsReplayFault};

@@ -1,7 +1,8 @@
 //! Bytes of a report, and runs of them from the front on.
 ghost use Rattle.std.specs.Prelude.{◌≡◌, ◌≤◌, ◌<◌, ◌==◌, ◌||◌, not, length, IfErr, IfOk, IfSome};
 ghost use Rattle.std.specs.List.{position, position_or_len};
-ghost use Rattle.junit_parts.specs.Bytes.{is_white, starts_name, continues_name, run_len, begins_name, behind_white, is_name, name_from, byte_from, parted_at};
+ghost use Rattle.junit_parts.specs.Bytes.{is_white, starts_name, continues_name, run_len, begins_name, behind_white};
+ghost use Rattle.junit_parts.specs.Bytes.{is_name, name_from, byte_from, parted_at};
 ghost use Rattle.junit_parts.specs.Answers.{Gives};
 ghost use Rattle.junit_parts.specs.Runs.{has};
 

@@ -1,7 +1,9 @@
 //! The constructs that a report is made of.
 ghost use Rattle.std.specs.Prelude.{◌≤◌, ◌<◌, length, IfOk};
 ghost use Rattle.junit_parts.specs.Answers.{Gives};
-ghost use Rattle.junit_parts.specs.Constructs.{character_from, comment_from, data_from, declared_from, doctype_from, end_from, ended, instruction_from, marked_from, markup_from, start_from, token_from, token_of};
+ghost use Rattle.junit_parts.specs.Constructs.{character_from, comment_from, data_from, declared_from, doctype_from};
+ghost use Rattle.junit_parts.specs.Constructs.{end_from, ended, instruction_from, marked_from, markup_from, start_from};
+ghost use Rattle.junit_parts.specs.Constructs.{token_from, token_of};
 ghost use Rattle.junit_parts.specs.Tags.{tag_text};
 
 use crate::bytes::{behind_white, byte, len_before_either, name, parted_at};

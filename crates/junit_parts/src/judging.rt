@@ -1,6 +1,7 @@
 //! What is wrong with a tag where it stands.
 ghost use Rattle.std.specs.Prelude.{◌≡◌, IfOk, map, is_none, codes};
-ghost use Rattle.junit_parts.specs.Flaws.{case_cause, cause_by_role, depth_cause, first_flaw, flaw_of_attribute, is_bad_time, is_missing, is_root_name, root_cause, tag_cause, tag_flaw};
+ghost use Rattle.junit_parts.specs.Flaws.{case_cause, cause_by_role, depth_cause, first_flaw, flaw_of_attribute};
+ghost use Rattle.junit_parts.specs.Flaws.{is_bad_time, is_missing, is_root_name, root_cause, tag_cause, tag_flaw};
 ghost use Rattle.junit_parts.specs.Tags.{attribute_text, tag_text};
 ghost use Rattle.junit_parts.specs.Times.{time_from};
 ghost use Rattle.junit_parts.specs.Values.{named_text};

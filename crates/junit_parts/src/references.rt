@@ -1,7 +1,8 @@
 //! References to characters.
 ghost use Rattle.std.specs.Prelude.{◌≡◌, ◌≤◌, ◌<◌, ◌^◌, min, length, IfErr, IfOk};
 ghost use Rattle.junit_parts.specs.Answers.{Gives};
-ghost use Rattle.junit_parts.specs.References.{all_digits, character, digit_value, meaning_of, number_from, numbered, other_meaning, reference_from};
+ghost use Rattle.junit_parts.specs.References.{all_digits, character, digit_value, meaning_of, number_from, numbered};
+ghost use Rattle.junit_parts.specs.References.{other_meaning, reference_from};
 
 use crate::bytes::{is_name, parted_at};
 use crate::unread::Unread;

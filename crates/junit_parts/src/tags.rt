@@ -1,7 +1,8 @@
 //! Tags and their attributes.
 ghost use Rattle.std.specs.Prelude.{◌≡◌, ◌≤◌, ◌<◌, length, map, IfOk};
 ghost use Rattle.junit_parts.specs.Answers.{Gives};
-ghost use Rattle.junit_parts.specs.Tags.{are_distinct, attribute_from, attribute_text, attributes_from, closed_by, has_attribute, is_quote, quoted_from, tag_from, tag_text};
+ghost use Rattle.junit_parts.specs.Tags.{are_distinct, attribute_from, attribute_text, attributes_from, closed_by};
+ghost use Rattle.junit_parts.specs.Tags.{has_attribute, is_quote, quoted_from, tag_from, tag_text};
 
 use crate::bytes::{begins_name, behind_white, byte, len_before_either, name, white_len};
 use crate::unread::Unread;

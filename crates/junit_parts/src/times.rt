@@ -1,7 +1,8 @@
 //! The attribute `time`.
 ghost use Rattle.std.specs.Prelude.{◌≡◌, ◌≤◌, ◌*◌, ◌^◌, min, length, IfOk, IfSome, option_map};
 ghost use Rattle.junit_parts.specs.Answers.{Gives};
-ghost use Rattle.junit_parts.specs.Times.{duration_from, exponent_from, few_digits, fraction_from, microseconds, signed, time_from, without_commas};
+ghost use Rattle.junit_parts.specs.Times.{duration_from, exponent_from, few_digits, fraction_from, microseconds};
+ghost use Rattle.junit_parts.specs.Times.{signed, time_from, without_commas};
 
 use crate::bytes::{Run, len_of};
 use crate::references::capped_number;

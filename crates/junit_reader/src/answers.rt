@@ -1,6 +1,8 @@
 //! What is answered of a report, by what was read of its document.
-ghost use Rattle.std.specs.Prelude.{◌≡◌, ◌≢◌, ◌≤◌, ◌<◌, ◌-◌, ◌&&◌, nat_le, nat_lt, length, Err, IfErr, IfOk, IfNone, IfSome};
-ghost use Rattle.junit_parts.specs.Reports.{HasCases, HasFault, HasFlaw, IsDocument, IsFlawed, document_of, text_place, told};
+ghost use Rattle.std.specs.Prelude.{◌≡◌, ◌≢◌, ◌≤◌, ◌<◌, ◌-◌, ◌&&◌, nat_le, nat_lt, length, Err, IfErr, IfOk, IfNone};
+ghost use Rattle.std.specs.Prelude.{IfSome};
+ghost use Rattle.junit_parts.specs.Reports.{HasCases, HasFault, HasFlaw, IsDocument, IsFlawed, document_of, text_place};
+ghost use Rattle.junit_parts.specs.Reports.{told};
 
 use junit_parts::{Cause, Flaw, JunitFault, Stop};
 use name_parts::utf8_len;

@@ -1,12 +1,14 @@
 //! A report as far as it was read.
 ghost use Rattle.std.specs.Prelude.{◌≡◌, ◌++◌, ◌∷◌, ℕ, List, Option, OnOk, IfNone, IfSome, Err, []};
 ghost use Rattle.junit_parts.specs.Cases.{leaf_text, role_of};
-ghost use Rattle.junit_parts.specs.Constructs.{Leaf, Text, Reference, Data, Comment, Stands, Opens, Whole, Closes, Entity, token_of};
+ghost use Rattle.junit_parts.specs.Constructs.{Leaf, Text, Reference, Data, Comment, Stands, Opens, Whole, Closes};
+ghost use Rattle.junit_parts.specs.Constructs.{Entity, token_of};
 ghost use Rattle.junit_reader.specs.Standing.{Begins, Ends, Finishes, IsJudged, StandsFor, Takes};
 ghost use Rattle.junit_parts.specs.Flaws.{flaw_at, tag_flaw};
 ghost use Rattle.junit_reader.specs.declared.reading.Open.{Open};
 ghost use Rattle.junit_parts.specs.Tags.{TagText, tag_text};
-ghost use Rattle.junit_parts.specs.Tree.{Content, Nothing, Outside, Then, Unfinished, Within, closed, content_of, depth_of, has_root, put};
+ghost use Rattle.junit_parts.specs.Tree.{Content, Nothing, Outside, Then, Unfinished, Within, closed, content_of};
+ghost use Rattle.junit_parts.specs.Tree.{depth_of, has_root, put};
 
 use crate::pending::Pending;
 use junit_parts::{

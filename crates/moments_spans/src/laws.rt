@@ -1,6 +1,8 @@
 //! Laws of the definitions that the contracts cite. These functions do nothing: what each of them
 //! ensures is the law.
-ghost use Rattle.moments_spans.specs.Laws.{DecimalsAreFewest, OneMomentFault, OneMomentSaid, OneSpanFault, OneSpanSaid, PrintedDecimalsAreSaid, PrintedMomentIsSaid, PrintedSpanIsSaid, SaidMomentHasNoFault, SaidSpanHasNoFault};
+ghost use Rattle.moments_spans.specs.Laws.{DecimalsAreFewest, OneMomentFault, OneMomentSaid, OneSpanFault, OneSpanSaid};
+ghost use Rattle.moments_spans.specs.Laws.{PrintedDecimalsAreSaid, PrintedMomentIsSaid, PrintedSpanIsSaid};
+ghost use Rattle.moments_spans.specs.Laws.{SaidMomentHasNoFault, SaidSpanHasNoFault};
 
 /// One text says at most one moment.
 pub fn one_moment_said()

@@ -1,10 +1,13 @@
 //! Reading moments, each reader from the front of a text. Where it fails it tells how many bytes
 //! stand from the first bad place on.
-ghost use Rattle.std.specs.Prelude.{◌≡◌, ◌≤◌, ◌<◌, ◌+◌, ◌-◌, ◌*◌, ◌≤ℤ◌, ◌↔◌, ℕ, List, [], length, pos, neg_ℤ, Ok, IfOk, IsTrue};
+ghost use Rattle.std.specs.Prelude.{◌≡◌, ◌≤◌, ◌<◌, ◌+◌, ◌-◌, ◌*◌, ◌≤ℤ◌, ◌↔◌, ℕ, List, [], length, pos, neg_ℤ, Ok, IfOk};
+ghost use Rattle.std.specs.Prelude.{IsTrue};
 ghost use Rattle.std.specs.Int.{IsInRange};
 ghost use Rattle.jiff.specs.Words.{IsBetween, IsEpochDay};
 ghost use Rattle.jiff_core.specs.Calendar.{days_from_civil, days_in_month};
-ghost use Rattle.moments_spans.specs.MomentReading.{seen, seen_rest, digit_from, two_from, year_from, byte_from, day_from, fraction_from, digits_from, decimals_from, minutes_from, clock_from, offset_from, zone_from, moment_from};
+ghost use Rattle.moments_spans.specs.MomentReading.{seen, seen_rest, digit_from, two_from, year_from, byte_from};
+ghost use Rattle.moments_spans.specs.MomentReading.{day_from, fraction_from, digits_from, decimals_from, minutes_from};
+ghost use Rattle.moments_spans.specs.MomentReading.{clock_from, offset_from, zone_from, moment_from};
 ghost use Rattle.moments_spans.specs.Moments.{moment_at};
 
 use jiff::civil::Date;

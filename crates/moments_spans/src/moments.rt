@@ -1,10 +1,12 @@
 //! Moments, and their one text.
-ghost use Rattle.std.specs.Prelude.{◌≡◌, ◌++◌, ◌≤◌, ◌<◌, ◌+◌, ◌↔◌, ◌∷◌, [], IfOk, IfErr, OnOk, OnErr, Ok, Err, IsTrue, string_bytes, pos, neg_ℤ, unsigned_abs};
+ghost use Rattle.std.specs.Prelude.{◌≡◌, ◌++◌, ◌≤◌, ◌<◌, ◌+◌, ◌↔◌, ◌∷◌, [], IfOk, IfErr, OnOk, OnErr, Ok, Err, IsTrue};
+ghost use Rattle.std.specs.Prelude.{string_bytes, pos, neg_ℤ, unsigned_abs};
 ghost use Rattle.std.specs.Int.{IsInRange, int_div_euclid, int_rem_euclid};
 ghost use Rattle.jiff.specs.Words.{IsBetween};
 ghost use Rattle.moments_spans.specs.MomentReading.{is_in_years, moment_judged, moment_of};
 ghost use Rattle.moments_spans.specs.MomentGrammar.{IsMomentFault, IsMomentText};
-ghost use Rattle.moments_spans.specs.Moments.{IsInYears, clock_text, date_text, decimals, four_digits, moment_text, text_of_day_and_clock, three_digits, two_digits};
+ghost use Rattle.moments_spans.specs.Moments.{IsInYears, clock_text, date_text, decimals, four_digits, moment_text};
+ghost use Rattle.moments_spans.specs.Moments.{text_of_day_and_clock, three_digits, two_digits};
 
 use crate::civil::{CivilDate, date_of};
 use crate::moment_reading::moment;

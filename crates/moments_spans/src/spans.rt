@@ -1,5 +1,6 @@
 //! Spans of time, and their one text.
-ghost use Rattle.std.specs.Prelude.{string_bytes, ◌≡◌, ◌≤◌, ◌<◌, ◌++◌, ◌↔◌, None, Ok, Err, IfOk, IfErr, IfSome, OnOk, OnErr};
+ghost use Rattle.std.specs.Prelude.{string_bytes, ◌≡◌, ◌≤◌, ◌<◌, ◌++◌, ◌↔◌, None, Ok, Err, IfOk, IfErr, IfSome, OnOk};
+ghost use Rattle.std.specs.Prelude.{OnErr};
 ghost use Rattle.moments_spans.specs.MomentReading.{seen};
 ghost use Rattle.moments_spans.specs.SpanGrammar.{IsSpanFault, IsSpanText};
 ghost use Rattle.moments_spans.specs.Spans.{most_span, span_text};

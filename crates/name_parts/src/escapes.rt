@@ -1,10 +1,13 @@
 //! Escaped texts: the one spelling of a value in a name.
-ghost use Rattle.std.specs.Prelude.{◌≡◌, ◌≢◌, ◌+◌, ◌*◌, ◌==◌, ◌<◌, ◌≤◌, ◌^◌, ◌↔◌, ◌++◌, ℕ, List, [], ◌∷◌, length, take, drop, if◌then◌else◌, IsTrue, IfOk, IfErr, IfNone, IfSome, MatchOption, OnOk, OnErr, true, false, None, Some, string_bytes};
+ghost use Rattle.std.specs.Prelude.{◌≡◌, ◌≢◌, ◌+◌, ◌*◌, ◌==◌, ◌<◌, ◌≤◌, ◌^◌, ◌↔◌, ◌++◌, ℕ, List, [], ◌∷◌, length, take};
+ghost use Rattle.std.specs.Prelude.{drop, if◌then◌else◌, IsTrue, IfOk, IfErr, IfNone, IfSome, MatchOption, OnOk, OnErr};
+ghost use Rattle.std.specs.Prelude.{true, false, None, Some, string_bytes};
 ghost use Rattle.std.specs.Char.{digit_value, is_digit};
 ghost use Rattle.std.specs.Str.{IsUtf8};
 ghost use Rattle.percent_encoding.specs.Percent.{percent_decode};
 ghost use Rattle.name_parts.specs.Parts.{IsPart, bad_place, most_bytes, place_of};
-ghost use Rattle.name_parts.specs.Escapes.{escaped, escaped_fault, first_fault, is_plain, is_spelling, misspelt, spelled, spelling};
+ghost use Rattle.name_parts.specs.Escapes.{escaped, escaped_fault, first_fault, is_plain, is_spelling, misspelt};
+ghost use Rattle.name_parts.specs.Escapes.{spelled, spelling};
 ghost use Rattle.name_parts.specs.Spellings.{front_byte, front_fault, front_len, is_at};
 
 use crate::NameFault;

@@ -1,8 +1,10 @@
 //! A part of a name: which bytes it may have, and how many.
-ghost use Rattle.std.specs.Prelude.{◌≡◌, ◌≢◌, ◌+◌, ◌^◌, ◌<◌, ◌≤◌, not, option_map, length, IfOk, IfErr, IfSome, None, Some, string_bytes};
+ghost use Rattle.std.specs.Prelude.{◌≡◌, ◌≢◌, ◌+◌, ◌^◌, ◌<◌, ◌≤◌, not, option_map, length, IfOk, IfErr, IfSome, None};
+ghost use Rattle.std.specs.Prelude.{Some, string_bytes};
 ghost use Rattle.std.specs.List.{position};
 ghost use Rattle.name_parts.specs.Alphabets.{may_begin, may_follow, most_letters};
-ghost use Rattle.name_parts.specs.Parts.{IsPart, alphabet_place, bad_place, limited_fault, most_bytes, part_fault, place_of, shifted, unempty_fault};
+ghost use Rattle.name_parts.specs.Parts.{IsPart, alphabet_place, bad_place, limited_fault, most_bytes, part_fault};
+ghost use Rattle.name_parts.specs.Parts.{place_of, shifted, unempty_fault};
 
 use crate::NameFault;
 use crate::alphabets::Alphabet;

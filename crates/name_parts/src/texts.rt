@@ -1,7 +1,9 @@
 //! Texts of the values: each is ASCII or UTF-8, so that it is a `str` at no cost.
-ghost use Rattle.std.specs.Prelude.{◌≡◌, IfOk, OnOk, OnErr, ◌++◌, string_bytes, ◌↔◌, ◌==◌, ◌<◌, ◌≤◌, nat_eq, true, length, take, IfSome, IsTrue};
+ghost use Rattle.std.specs.Prelude.{◌≡◌, IfOk, OnOk, OnErr, ◌++◌, string_bytes, ◌↔◌, ◌==◌, ◌<◌, ◌≤◌, nat_eq, true};
+ghost use Rattle.std.specs.Prelude.{length, take, IfSome, IsTrue};
 ghost use Rattle.std.specs.List.{common_prefix_len, position, position_or_len};
-ghost use Rattle.name_parts.specs.Parts.{begins_control, control_place, key_place_from, key_step, literal_bad_place, text_place};
+ghost use Rattle.name_parts.specs.Parts.{begins_control, control_place, key_place_from, key_step, literal_bad_place};
+ghost use Rattle.name_parts.specs.Parts.{text_place};
 ghost use Rattle.std.specs.Str.{IsUtf8};
 ghost use Rattle.std.specs.Str.Lossy.{utf8_valid_len};
 

@@ -1,7 +1,8 @@
 //! Keys: parts one behind the other, read and written over the list of their forms.
 ghost use Rattle.std.specs.Prelude.{◌≡◌, ◌++◌, ◌≤◌, ℕ, false, IfOk, IfErr, OnOk, Some, None, Err, length, map, take};
 ghost use Rattle.name_parts.specs.Parts.{IsPart, most_bytes};
-ghost use Rattle.page_tokens.specs.Keys.{AreContents, BreaksAt, IsContent, content_place, end_place, is_bad_len, key_bytes, part_bytes, part_place, text_place};
+ghost use Rattle.page_tokens.specs.Keys.{AreContents, BreaksAt, IsContent, content_place, end_place, is_bad_len};
+ghost use Rattle.page_tokens.specs.Keys.{key_bytes, part_bytes, part_place, text_place};
 
 use name_parts::{Alphabet, PartForm, first_bad};
 use std::alloc::{AllocError, AllocFailed, Global};

@@ -1,6 +1,7 @@
 //! Laws of the definitions that the contracts cite. These functions do nothing: what each of them
 //! ensures is the law.
-ghost use Rattle.page_tokens.specs.Laws.{KeysBreakThere, OneArtifactHeld, OneKeyTold, OneResultHeld, OneTextWritten, OneVerdictHeld, OnlyBase64IsRead, OnlyTokensAreRead, TokensHaveNoFault};
+ghost use Rattle.page_tokens.specs.Laws.{KeysBreakThere, OneArtifactHeld, OneKeyTold, OneResultHeld, OneTextWritten};
+ghost use Rattle.page_tokens.specs.Laws.{OneVerdictHeld, OnlyBase64IsRead, OnlyTokensAreRead, TokensHaveNoFault};
 
 /// A token has no fault, and so is read.
 pub fn tokens_have_no_fault()

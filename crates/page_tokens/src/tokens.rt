@@ -1,5 +1,6 @@
 //! Tokens, read and written for cursors of any kind.
-ghost use Rattle.std.specs.Prelude.{◌≡◌, ◌≢◌, ◌<◌, ◌^◌, ◌∷◌, ◌++◌, ℕ, nat_eq, List, IfOk, IfErr, OnOk, MatchOption, Some, None, drop, map, length, string_bytes};
+ghost use Rattle.std.specs.Prelude.{◌≡◌, ◌≢◌, ◌<◌, ◌^◌, ◌∷◌, ◌++◌, ℕ, nat_eq, List, IfOk, IfErr, OnOk, MatchOption};
+ghost use Rattle.std.specs.Prelude.{Some, None, drop, map, length, string_bytes};
 ghost use Rattle.std.specs.List.{starts_with};
 ghost use Rattle.base64.specs.Engines.{standard};
 ghost use Rattle.base64.specs.GeneralPurpose.{encode_of, decoded_of, IsBytes};

@@ -1,5 +1,6 @@
 //! The policy of a configuration.
-ghost use Rattle.std.specs.Prelude.{◌≡◌, ◌<◌, ◌≤◌, ◌↔◌, true, Ok, [], length, map, IsTrue, IfOk, IfSome, slice_index_or};
+ghost use Rattle.std.specs.Prelude.{◌≡◌, ◌<◌, ◌≤◌, ◌↔◌, true, Ok, [], length, map, IsTrue, IfOk, IfSome};
+ghost use Rattle.std.specs.Prelude.{slice_index_or};
 ghost use Rattle.hex.specs.Hex.{decode_of};
 ghost use Rattle.policy_checks.specs.Checks.{is_hex_text, user_names, realm_names};
 ghost use Rattle.policy_checks.specs.Index.{place_of, IsIndexOf};

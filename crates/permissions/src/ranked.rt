@@ -10,7 +10,8 @@ ghost use Rattle.std.specs.Ordering.{nat_cmp};
 ghost use Rattle.std.specs.BTreeMap.{get};
 ghost use Rattle.permissions.specs.Graph.{edges, has};
 ghost use Rattle.permissions.specs.Ranks.{IsFalling, IsBoundOn, IsOneBoundOn};
-ghost use Rattle.permissions.specs.Rights.{is_marked, AllCome, AreGroupsOf, HasCome, HasShortcuts, IsMark, IsPass, gives_user, grants_user, binds_user};
+ghost use Rattle.permissions.specs.Rights.{is_marked, AllCome, AreGroupsOf, HasCome, HasShortcuts, IsMark, IsPass};
+ghost use Rattle.permissions.specs.Rights.{gives_user, grants_user, binds_user};
 
 use crate::grants::{Grants, GroupGrant};
 use crate::graph::edges_of;

@@ -1,7 +1,9 @@
 //! Whether a text of a configuration is what it has to be.
 ghost use Rattle.std.specs.Prelude.{◌≡◌, ◌≢◌, false, IfOk, option_map};
 ghost use Rattle.std.specs.List.{list_all};
-ghost use Rattle.policy_checks.specs.Checks.{is_name, is_token, is_hex_text, has_secret_length, is_secret, is_realm_name, has_form, behind, is_principal, is_faulty, may_follow_in_name, is_visible};
+ghost use Rattle.policy_checks.specs.Checks.{is_name, is_token, is_hex_text, has_secret_length, is_secret};
+ghost use Rattle.policy_checks.specs.Checks.{is_realm_name, has_form, behind, is_principal, is_faulty};
+ghost use Rattle.policy_checks.specs.Checks.{may_follow_in_name, is_visible};
 
 use crate::book::Book;
 use crate::permission::Permission;

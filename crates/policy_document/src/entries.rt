@@ -4,7 +4,9 @@ ghost use Rattle.toml.specs.Data.{Members, as_table};
 ghost use Rattle.toml.specs.View.{view, table_view, array_view};
 ghost use Rattle.policy_tables.specs.Entries.{with_entry};
 ghost use Rattle.policy_tables.specs.Findings.{joined, least_with};
-ghost use Rattle.policy_document.specs.Document.{table_findings, entries_of, entries_findings, section_of, section_findings, item_bindings, item_bindings_findings, bindings_of, bindings_findings, tables_of, shape_findings};
+ghost use Rattle.policy_document.specs.Document.{table_findings, entries_of, entries_findings, section_of};
+ghost use Rattle.policy_document.specs.Document.{section_findings, item_bindings, item_bindings_findings, bindings_of};
+ghost use Rattle.policy_document.specs.Document.{bindings_findings, tables_of, shape_findings};
 
 use crate::read::{
     find_list, find_table, note_if_there, note_unknown, read_text, read_texts, read_texts_if_there,

@@ -4,7 +4,9 @@ ghost use Rattle.std.specs.Fmt.{decimal};
 ghost use Rattle.toml.specs.Data.{as_str, as_array, as_table, get_member};
 ghost use Rattle.toml.specs.View.{view, table_view, array_view};
 ghost use Rattle.policy_tables.specs.Findings.{joined, least_with};
-ghost use Rattle.policy_document.specs.Document.{is_known, unknown_keys, text_at, list_at, text_of, text_findings, missing, item_texts, item_findings, texts_of, texts_findings, wrong_kind, optional_texts_findings, table_at};
+ghost use Rattle.policy_document.specs.Document.{is_known, unknown_keys, text_at, list_at, text_of, text_findings};
+ghost use Rattle.policy_document.specs.Document.{missing, item_texts, item_findings, texts_of, texts_findings};
+ghost use Rattle.policy_document.specs.Document.{wrong_kind, optional_texts_findings, table_at};
 
 use crate::shape::Shape;
 use lists::Listed;

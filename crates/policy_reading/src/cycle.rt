@@ -1,9 +1,11 @@
 //! The realm that reaches itself, of several the one with the least name.
-ghost use Rattle.std.specs.Prelude.{◌≡◌, ◌↔◌, ◌<◌, ◌≤◌, ℕ, true, false, OnOk, IfOk, MatchOption, length, slice_index_or, nat_le, nat_lt};
+ghost use Rattle.std.specs.Prelude.{◌≡◌, ◌↔◌, ◌<◌, ◌≤◌, ℕ, true, false, OnOk, IfOk, MatchOption, length};
+ghost use Rattle.std.specs.Prelude.{slice_index_or, nat_le, nat_lt};
 ghost use Rattle.std.specs.List.{list_all};
 ghost use Rattle.permissions.specs.Graph.{IsGraph, ReachesOn, has, edges, graph_of};
 ghost use Rattle.permissions.specs.Cycle.{IsLeastCycle, HasNoCycle};
-ghost use Rattle.policy_reading.specs.CycleSearch.{IsStep, IsLeastBefore, label_at, AreFalling, IsRuledOut, name_at, comes_first};
+ghost use Rattle.policy_reading.specs.CycleSearch.{IsStep, IsLeastBefore, label_at, AreFalling, IsRuledOut, name_at};
+ghost use Rattle.policy_reading.specs.CycleSearch.{comes_first};
 
 use crate::components::{label_places, number_at};
 use crate::graph::reached_from;

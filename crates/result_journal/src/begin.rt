@@ -1,5 +1,6 @@
 //! How a journal is begun on part 0.
-ghost use Rattle.std.specs.Prelude.{◌≡◌, ℕ, ◌+◌, ◌<◌, ◌≤◌, ◌↔◌, IsTrue, List, [], ◌∷◌, ◌++◌, length, take, slice_index, true, false, Some, IfOk, IfErr, OnOk, MatchBool, MatchResult};
+ghost use Rattle.std.specs.Prelude.{◌≡◌, ℕ, ◌+◌, ◌<◌, ◌≤◌, ◌↔◌, IsTrue, List, [], ◌∷◌, ◌++◌, length, take, slice_index};
+ghost use Rattle.std.specs.Prelude.{true, false, Some, IfOk, IfErr, OnOk, MatchBool, MatchResult};
 ghost use Rattle.fault_counts.specs.Causes.{HasCause};
 ghost use Rattle.disks.specs.Moments.{Told, AtEachMoment};
 ghost use Rattle.disks.specs.Calls.{WhereTold};

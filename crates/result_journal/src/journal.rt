@@ -1,11 +1,14 @@
 //! The journal, to which commands are appended.
-ghost use Rattle.std.specs.Prelude.{◌≡◌, ◌⊎◌, ℕ, ◌+◌, ◌^◌, ◌<◌, ◌≤◌, ◌↔◌, List, [], ◌∷◌, ◌++◌, length, true, false, IfOk, IfErr, OnOk, OnErr, MatchBool};
+ghost use Rattle.std.specs.Prelude.{◌≡◌, ◌⊎◌, ℕ, ◌+◌, ◌^◌, ◌<◌, ◌≤◌, ◌↔◌, List, [], ◌∷◌, ◌++◌, length, true, false};
+ghost use Rattle.std.specs.Prelude.{IfOk, IfErr, OnOk, OnErr, MatchBool};
 ghost use Rattle.result_journal.specs.Grammar.{framed};
 ghost use Rattle.result_journal.specs.Full.{IsFullFor};
 ghost use Rattle.result_journal.specs.Steps.{IsStaged, OtherStays};
 ghost use Rattle.fault_counts.specs.Causes.{HasCause};
 ghost use Rattle.disks.specs.Moments.{Told, AtEachMoment};
-ghost use Rattle.result_journal.specs.Journals.{ReadsAs, BeforeOrAfter, Leaves, StandsFor, StandsForSome, SameButDisk, TakesMoments, disk_of, end_of, is_settled, is_settled_at, is_prepared, prepared, IsPrepared};
+ghost use Rattle.result_journal.specs.Journals.{ReadsAs, BeforeOrAfter, Leaves, StandsFor, StandsForSome, SameButDisk};
+ghost use Rattle.result_journal.specs.Journals.{TakesMoments, disk_of, end_of, is_settled, is_settled_at, is_prepared};
+ghost use Rattle.result_journal.specs.Journals.{prepared, IsPrepared};
 
 use crate::DiskFailed;
 use crate::write_through::write_through;

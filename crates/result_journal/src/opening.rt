@@ -1,5 +1,6 @@
 //! The opening of a journal: its records in order, or its first fault.
-ghost use Rattle.std.specs.Prelude.{◌≡◌, ℕ, ◌+◌, ◌^◌, ◌<◌, ◌≤◌, ◌↔◌, IsTrue, List, [], ◌∷◌, ◌++◌, length, true, false, None, Some, take, drop, IfOk, IfErr, OnOk, OnErr, MatchOption, MatchResult, ⊤};
+ghost use Rattle.std.specs.Prelude.{◌≡◌, ℕ, ◌+◌, ◌^◌, ◌<◌, ◌≤◌, ◌↔◌, IsTrue, List, [], ◌∷◌, ◌++◌, length, true, false};
+ghost use Rattle.std.specs.Prelude.{None, Some, take, drop, IfOk, IfErr, OnOk, OnErr, MatchOption, MatchResult, ⊤};
 ghost use Rattle.std.specs.Int.{w32, to_le_bytes, from_le_bytes};
 ghost use Rattle.disks.specs.Moments.{Told, AtEachMoment};
 ghost use Rattle.disks.specs.Calls.{WhereTold};
@@ -7,7 +8,10 @@ ghost use Rattle.disks.specs.Aheads.{IsAheadOf, HoldsNothing};
 ghost use Rattle.result_journal.specs.Grammar.{Reads, Bodies, IsBody};
 ghost use Rattle.result_journal.specs.Journals.{StandsFor, disk_of, end_of, is_settled, is_prepared};
 ghost use Rattle.result_journal.specs.Steps.{OtherStays};
-ghost use Rattle.result_journal.specs.Openings.{HasGiven, HasGivenSome, IsBehind, OpensAs, FaultCause, opened_disk, next_gate, is_ended, LeftBeforeOrAlike, AlikeOnceSynced, LongPartStays, ShownWhereTold, CountsOpening, FindsLength, IfFits, BrokenFault, IsNoFaultOfBytes};
+ghost use Rattle.result_journal.specs.Openings.{HasGiven, HasGivenSome, IsBehind, OpensAs, FaultCause, opened_disk};
+ghost use Rattle.result_journal.specs.Openings.{next_gate, is_ended, LeftBeforeOrAlike, AlikeOnceSynced, LongPartStays};
+ghost use Rattle.result_journal.specs.Openings.{ShownWhereTold, CountsOpening, FindsLength, IfFits, BrokenFault};
+ghost use Rattle.result_journal.specs.Openings.{IsNoFaultOfBytes};
 
 use crate::begin::{EMPTY_SIZE, check_head, is_empty_journal, write_empty_journal};
 use crate::journal::{Journal, Standing};

@@ -1,5 +1,6 @@
 //! The table of results.
-ghost use Rattle.std.specs.Prelude.{◌≡◌, ◌≤◌, ◌<◌, ◌+◌, ◌++◌, ◌∷◌, ℕ, [], Some, IfOk, IfErr, OnOk, MatchOption, length, slice_get};
+ghost use Rattle.std.specs.Prelude.{◌≡◌, ◌≤◌, ◌<◌, ◌+◌, ◌++◌, ◌∷◌, ℕ, [], Some, IfOk, IfErr, OnOk, MatchOption, length};
+ghost use Rattle.std.specs.Prelude.{slice_get};
 ghost use Rattle.test_results.specs.Batches.{AreFree, AreOnce, Fits, IsBatchFault, IsRepeat, IsTaken, given};
 ghost use Rattle.test_results.specs.Results.{HasKey, IsPlaceOf, IsTable, key_of, named, places_in, room_for};
 

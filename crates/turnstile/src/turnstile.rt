@@ -1,6 +1,7 @@
 //! The turnstile.
 ghost use Rattle.std.specs.Prelude.{◌≡◌, ℕ, ◌+◌, ◌<◌, ◌≤◌, ◌^◌, List, [], ◌∷◌, ◌++◌, length, IfOk, IfErr};
-ghost use Rattle.turnstile.specs.Seats.{first_known, Stood, TakesTurn, SameSeat, split_left, split_right, joined, Agrees, IsWhole};
+ghost use Rattle.turnstile.specs.Seats.{first_known, Stood, TakesTurn, SameSeat, split_left, split_right, joined};
+ghost use Rattle.turnstile.specs.Seats.{Agrees, IsWhole};
 
 use crate::board::Board;
 use crate::closing::{free, open, take_last};
