@@ -9,6 +9,7 @@ time that something takes.
 
 import sys
 
+import artifacts
 import clients
 import command_line
 import harness
@@ -25,6 +26,7 @@ AREAS = {
     "stored_replies": stored_replies,
     "lives": lives,
     "verdicts": verdicts,
+    "artifacts": artifacts,
     "journals": journals,
     "command_line": command_line,
     "streams": streams,

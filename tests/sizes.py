@@ -29,7 +29,6 @@ LISTED = {
     "lines": {
         "http_wire": 1522,
         "json_fields": 1524,
-        "request_rules": 1712,
         "tap_reader": 1593,
     },
     "functions": {
@@ -50,7 +49,6 @@ LISTED = {
         "permissions": 3,
         "policy_trial": 5,
         "program_words": 8,
-        "request_rules": 1,
         "result_journal": 28,
         "tellers": 1,
         "turnstile": 1,

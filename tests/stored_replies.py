@@ -110,6 +110,7 @@ CHECKS = {
     "a creation that is sent again": answers("repeat"),
     "a batch that is sent again": answers("batch"),
     "verdicts, as three callers see them": answers("verdicts"),
+    "artifacts, listed and read": answers("artifacts"),
     "the same bytes one at a time": a_byte_at_a_time,
     "a request cut short": answers("cut-short", b"rdb: wire 8 CutShort\n", 8),
     "another method": answers("other-method"),
