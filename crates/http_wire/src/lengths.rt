@@ -1,7 +1,8 @@
 //! The length of body that a head's fields announce, or their first fault.
-ghost use Rattle.std.specs.Prelude.{◌≡◌, ◌≤◌, ◌<◌, ◌+◌, ◌*◌, ◌^◌, ℕ, ◌&&◌, true, false, not};
+ghost use Rattle.std.specs.Prelude.{◌≡◌, ◌≤◌, ◌<◌, ◌+◌, ◌*◌, ◌^◌, ℕ, true, false};
 ghost use Rattle.std.specs.Prelude.{length, List, codes, nat_lt, IsTrue, MatchResult, None, Some};
-ghost use Rattle.std.specs.Str.{all_ascii_digits};
+ghost use Rattle.std.specs.Char.{is_ascii_digit};
+ghost use Rattle.std.specs.List.{list_all};
 ghost use Rattle.std.specs.Str.Parse.{digits_value};
 ghost use Rattle.http_wire.specs.Form.{values_of, is_length, length_of};
 ghost use Rattle.http_wire.specs.Faults.{first_there, length_signs, is_some_value, is_bad_length};
@@ -17,19 +18,13 @@ const BODY_LIMIT: u64 = 4_194_304;
 const DIGIT_LIMIT: usize = 10;
 
 fn are_digits(text: &[u8]) -> bool
-    ensures { result ≡ all_ascii_digits text.now }
+    ensures { result ≡ list_all is_ascii_digit text.now }
 {
-    let mut left = text;
-    'digits: while let Some((digit, rest)) = left.split_first() {
-        if !digit.is_ascii_digit() {
-            return false;
-        }
-        left = rest;
-    }
-    true
+    text.iter().all(|digit| digit.is_ascii_digit())
 }
 
 /// Whether a text is 1 to 10 digits.
+#[tactic(auto, using(crate::proofs::LengthLaws::each_digit))]
 fn is_length(text: &[u8]) -> bool
     ensures { result ≡ is_length text.now }
 {
@@ -52,33 +47,21 @@ fn is_bad(lengths: Found) -> bool
     ensures { (values : List (List ℕ)) → IsFound lengths.entry values
         → result ≡ is_bad_length values }
 {
-    match lengths {
-        Found::Absent => false,
-        Found::Once(text) => !is_length(text),
-        Found::Again => false,
-    }
+    matches!(lengths, Found::Once(text) if !is_length(text))
 }
 
 fn is_there(found: Found) -> bool
     ensures { (values : List (List ℕ)) → IsFound found.entry values
         → result ≡ is_some_value values }
 {
-    match found {
-        Found::Absent => false,
-        Found::Once(_) => true,
-        Found::Again => true,
-    }
+    !matches!(found, Found::Absent)
 }
 
 fn is_again(found: Found) -> bool
     ensures { (values : List (List ℕ)) → IsFound found.entry values
         → result ≡ nat_lt 1 (length values) }
 {
-    match found {
-        Found::Absent => false,
-        Found::Once(_) => false,
-        Found::Again => true,
-    }
+    matches!(found, Found::Again)
 }
 
 /// The length that is given, where no more than one is and it is one.
@@ -87,9 +70,8 @@ fn said_length(lengths: Found) -> u64
         → nat_lt 1 (length values) ≡ false → result ≡ length_of values }
 {
     match lengths {
-        Found::Absent => 0,
         Found::Once(text) => number_in(text),
-        Found::Again => 0,
+        _ => 0,
     }
 }
 
@@ -98,14 +80,6 @@ fn number_in(text: &[u8]) -> u64
     ensures { is_length text.now ≡ true → result ≡ digits_value 10 text.now }
 {
     if is_length(text) { number(text) } else { 0 }
-}
-
-/// Whether no length is given where one has to be.
-fn lacks_length(lengths: Found, is_post: bool) -> bool
-    ensures { (values : List (List ℕ)) → IsFound lengths.entry values
-        → result ≡ (is_post && not (is_some_value values)) }
-{
-    is_post && !is_there(lengths)
 }
 
 /// The length of body that the fields of a head of so many bytes announce, or their first fault.
@@ -127,7 +101,7 @@ pub fn announced_length(fields: Fields, is_post: bool, end: usize) -> Result<usi
     if is_again(lengths) {
         return Err(WireFault::TwoLengths);
     }
-    if lacks_length(lengths, is_post) {
+    if is_post && !is_there(lengths) {
         return Err(WireFault::NoLength);
     }
     let said = said_length(lengths);

@@ -6,7 +6,9 @@ use Rattle.std.specs.Option.{option_or}
 use Rattle.names_realms.specs.declared.states.Case.{Case}
 use Rattle.tap_reader.specs.declared.faults.TapFault.{TapFault}
 use Rattle.tap_reader.specs.declared.faults.TapFault.TheVariants.{NoPlan}
+use Rattle.tap_reader.specs.declared.entries.Entry.{Entry}
 use Rattle.tap_reader.specs.Counted.{Line}
+use Rattle.tap_reader.specs.Entries.{line_of}
 use Rattle.tap_reader.specs.Streams.{Stream, IsAt, IsTree, earlier, first_alone, first_fault, in_tree, is_bail, missing_numbers, own_from, plan_fault, plan_of, plan_said, report_fault, stream_faults}
 use Rattle.tap_reader.specs.Cases.{report_cases}
 use Rattle.tap_reader.specs.Completing.{State, at_level, completed, filled, missing_line, with_line}
@@ -18,6 +20,11 @@ use Rattle.tap_reader.proofs.RunLemmas.{NoneHigher, own_run}
 use Rattle.tap_reader.proofs.CaseLemmas.{report_listed}
 use Rattle.tap_reader.specs.Growing.{tree_of}
 use Rattle.tap_reader.proofs.TreeLemmas.{IsAt-tree, lines-tree}
+
+-- a test of some line, where the lines are those of entries
+pub any_line : (test : Line → Bool) (es : List Entry) → list_any test (map line_of es) ≡ list_any (λ e. test (line_of e)) es
+any_line test [] = refl
+any_line test (e ∷ es) = ap (λ rest. test (line_of e) || rest) (any_line test es)
 
 -- the tree of the lines that count
 abbrev pub tree_in : List Line → Stream

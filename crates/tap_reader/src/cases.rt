@@ -1,5 +1,5 @@
 //! The cases of a report's lines, each under the names of its parents.
-ghost use Rattle.std.specs.Prelude.{◌≡◌, ◌≤◌, ◌++◌, ◌∷◌, [], length, map, codes, IfOk, OnOk, option_to_list, is_some, ◌||◌};
+ghost use Rattle.std.specs.Prelude.{◌≡◌, ◌≤◌, ◌++◌, ◌∷◌, [], length, map, codes, IfOk, OnOk};
 ghost use Rattle.std.specs.List.{flat_map};
 ghost use Rattle.tap_reader.specs.Entries.{line_of, said_of, test_of};
 ghost use Rattle.tap_reader.specs.Cases.{case_said, name_for_subtest, name_in, number_name, missing_case, point_case, point_name, status_of, unescaped};
@@ -98,21 +98,11 @@ fn read_path(alloc: Global, path: &[Says]) -> Result<Vec<u8>, AllocError>
 fn status_of_point(point: &TestPoint) -> Status
     ensures { result ≡ status_of (test_of point.now) }
 {
-    if point.directive == Some(Directive::Skip) {
-        return Status::Skip;
+    match point.directive {
+        Some(Directive::Skip) => Status::Skip,
+        _ if point.passed => Status::Pass,
+        _ => Status::Fail,
     }
-    if point.passed {
-        Status::Pass
-    } else {
-        Status::Fail
-    }
-}
-
-/// Whether a point ended as it was to: one of a directive always does.
-fn is_expected(point: &TestPoint) -> bool
-    ensures { result ≡ (is_some (test_of point.now).directive || point.now.passed) }
-{
-    point.directive.is_some() || point.passed
 }
 
 /// The case of a point.
@@ -136,7 +126,7 @@ fn case_of_point(
     Ok(Case {
         name: Bytes::new(name),
         status,
-        expected: is_expected(point),
+        expected: point.directive.is_some() || point.passed,
         duration: None,
         message: Bytes::new(message),
     })
@@ -157,18 +147,6 @@ fn case_of_missing(alloc: Global, path: &[Says], number: u64) -> Result<Case, Al
     })
 }
 
-/// The case of a line, if it has one.
-fn case_of(alloc: Global, path: &[Says], entry: &Entry) -> Result<Option<Case>, AllocError>
-    ensures { IfOk result (λ c. option_to_list c
-        ≡ case_said (names_of path.now) (line_of entry.now).level (line_of entry.now).said) }
-{
-    match &entry.says {
-        Says::Tested(point) => Ok(Some(case_of_point(alloc, path, entry.level, point)?)),
-        Says::Lacking(number) => Ok(Some(case_of_missing(alloc, path, *number)?)),
-        _ => Ok(None),
-    }
-}
-
 /// Appends the case of a line, if it has one.
 fn append_case(
     alloc: Global,
@@ -179,9 +157,12 @@ fn append_case(
     ensures { OnOk result (cases.new.items ≡ cases.old.items
         ++ case_said (names_of path.now) (line_of entry.now).level (line_of entry.now).said) }
 {
-    if let Some(case) = case_of(alloc, path, entry)? {
-        cases.push(case)?;
-    }
+    let case = match &entry.says {
+        Says::Tested(point) => case_of_point(alloc, path, entry.level, point)?,
+        Says::Lacking(number) => case_of_missing(alloc, path, *number)?,
+        _ => return Ok(()),
+    };
+    cases.push(case)?;
     Ok(())
 }
 

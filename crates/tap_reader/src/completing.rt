@@ -37,15 +37,9 @@ pub(crate) fn earlier_of(first: Option<TapFault>, second: Option<TapFault>) -> O
     ensures { result ≡ fold earlier first (option_to_list second) }
 {
     match (first, second) {
+        (Some(one), Some(other)) if line_of_fault(one) <= line_of_fault(other) => first,
         (_, None) => first,
-        (None, Some(_)) => second,
-        (Some(one), Some(other)) => {
-            if line_of_fault(other) < line_of_fault(one) {
-                second
-            } else {
-                first
-            }
-        }
+        _ => second,
     }
 }
 
@@ -117,10 +111,7 @@ fn fault_at(entries: &[Entry], level: usize, plan: Option<u64>) -> Option<TapFau
 fn top_of(entries: &[Entry]) -> usize
     ensures { result ≡ top_level (map line_of entries.now) }
 {
-    match entries.last() {
-        Some(entry) => entry.level,
-        None => 0,
-    }
+    entries.last().map_or(0, |entry| entry.level)
 }
 
 /// The number of the last point at the level since the last line of a lower level.

@@ -1,4 +1,6 @@
 //! The lines of a report that count, as they are kept while it is read.
+ghost use Rattle.std.specs.Prelude.{◌≡◌};
+ghost use Rattle.tap_reader.specs.Entries.{line_of, said_of};
 
 /// What a point is marked as.
 #[derive(Clone, Copy, Debug, PartialEq, Eq)]
@@ -43,4 +45,13 @@ pub(crate) struct Entry<'a> {
     pub(crate) line: usize,
     pub(crate) level: usize,
     pub(crate) says: Says<'a>,
+}
+
+impl<'a> Entry<'a> {
+    pub(crate) fn new(line: usize, level: usize, says: Says<'a>) -> Entry<'a>
+        ensures { line_of result
+            ≡ record { number = line; level = level; said = said_of says.entry } }
+    {
+        Entry { line, level, says }
+    }
 }

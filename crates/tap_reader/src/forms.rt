@@ -153,11 +153,7 @@ fn read_description(passed: bool, number: Option<u64>, text: &[u8]) -> TestPoint
 {
     let text = skip_dash(text);
     let place = find_hash(text);
-    let directive = if place < text.len() {
-        read_directive(&text[place + 1..])
-    } else {
-        read_directive(&text[place..])
-    };
+    let directive = read_directive(&text[(place + 1).min(text.len())..]);
     let description = if directive.is_some() {
         trim(&text[..place])
     } else {
@@ -181,10 +177,7 @@ fn read_numbered(passed: bool, text: &[u8]) -> TestPoint<'_>
     let len = count_digits(text);
     if len > 0 && len < 10 && at_word_end(&text[len..]) {
         let number = Some(number_of(&text[..len]));
-        if len == text.len() {
-            return read_description(passed, number, &text[len..]);
-        }
-        return read_description(passed, number, &text[len + 1..]);
+        return read_description(passed, number, &text[(len + 1).min(text.len())..]);
     }
     read_description(passed, None, text)
 }
@@ -230,10 +223,8 @@ pub(crate) fn read_said(line: &[u8]) -> Option<(usize, Says<'_>)>
     if indent % 4 != 0 {
         return None;
     }
-    match read_unspaced(&line[indent..]) {
-        Some(says) => Some((indent / 4, says)),
-        None => None,
-    }
+    let says = read_unspaced(&line[indent..])?;
+    Some((indent / 4, says))
 }
 
 /// Whether the line is this mark at the indent of the diagnostics of points of the level.

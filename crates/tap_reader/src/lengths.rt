@@ -1,13 +1,13 @@
 //! How many bytes the names of a report's cases have together, counted before any of them is made.
 ghost use Rattle.std.specs.Prelude.{◌≡◌, ◌+◌, [], ◌∷◌, ◌++◌, map, length, nat_le, IfOk, OnOk};
 ghost use Rattle.std.specs.List.{sum};
-ghost use Rattle.tap_reader.specs.Entries.{line_of, said_of, test_of};
-ghost use Rattle.tap_reader.specs.Cases.{name_for_subtest, names_len, number_name, point_name};
+ghost use Rattle.tap_reader.specs.Entries.{line_of, said_of};
+ghost use Rattle.tap_reader.specs.Cases.{name_for_subtest, names_len};
 ghost use Rattle.tap_reader.specs.Naming.{named};
 ghost use Rattle.tap_reader.specs.NameLengths.{Leaves, fitted, name_len};
 
 use crate::cases::{append_number, append_parent, append_point};
-use crate::entries::{Entry, Says, TestPoint};
+use crate::entries::{Entry, Says};
 use std::alloc::{AllocError, Global};
 
 /// How many bytes the names of all cases of a report have at most together.
@@ -16,46 +16,13 @@ const MOST: usize = 536_870_912;
 /// How many bytes a parent without a point has, with what parts it from the next.
 const UNFINISHED: usize = 13;
 
-/// How many bytes the name of a point by its number has.
-fn len_of_number(alloc: Global, number: u64) -> Result<usize, AllocError>
-    ensures { IfOk result (λ n. n ≡ length (number_name number)) }
-{
-    let mut name = Vec::new(alloc);
-    append_number(alloc, &mut name, number)?;
-    Ok(name.len())
-}
-
-/// How many bytes the name of a point has.
-fn len_of_point(alloc: Global, point: &TestPoint) -> Result<usize, AllocError>
-    ensures { IfOk result (λ n. n ≡ length (point_name (test_of point.now))) }
-{
-    let mut name = Vec::new(alloc);
-    append_point(alloc, &mut name, point)?;
-    Ok(name.len())
-}
-
-/// How many bytes a line's name has as a parent's, with what parts it from the next.
-fn len_of_parent(alloc: Global, says: &Says) -> Result<usize, AllocError>
-    ensures { IfOk result (λ n. n ≡ length (name_for_subtest (said_of says.now)) + 3) }
-{
-    let mut name = Vec::new(alloc);
-    append_parent(alloc, &mut name, says)?;
-    Ok(name.len() + 3)
-}
-
 /// What is left of so many bytes behind a name under parents of these lengths, if it is enough.
 fn left_behind(left: usize, parents: &[usize], own: usize) -> Option<usize>
     ensures { Leaves result left (sum parents.now + own) }
 {
-    let mut rest = match left.checked_sub(own) {
-        Some(rest) => rest,
-        None => return None,
-    };
+    let mut rest = left.checked_sub(own)?;
     for len in parents {
-        match rest.checked_sub(*len) {
-            Some(less) => rest = less,
-            None => return None,
-        }
+        rest = rest.checked_sub(*len)?;
     }
     Some(rest)
 }
@@ -70,12 +37,13 @@ fn count_case(
     ensures { IfOk result (λ rest. Leaves rest left
         (name_len (sum parents.now) (said_of says.now))) }
 {
-    let own = match says {
-        Says::Tested(point) => len_of_point(alloc, point)?,
-        Says::Lacking(number) => len_of_number(alloc, *number)?,
+    let mut name = Vec::new(alloc);
+    match says {
+        Says::Tested(point) => append_point(alloc, &mut name, point)?,
+        Says::Lacking(number) => append_number(alloc, &mut name, *number)?,
         _ => return Ok(Some(left)),
-    };
-    Ok(left_behind(left, parents, own))
+    }
+    Ok(left_behind(left, parents, name.len()))
 }
 
 /// Counts the name of the case of a line that stands before those that were counted, and keeps the
@@ -95,7 +63,9 @@ fn count_entry(
 {
     parents.resize(entry.level, UNFINISHED)?;
     let rest = count_case(alloc, left, parents, &entry.says)?;
-    parents.push(len_of_parent(alloc, &entry.says)?)?;
+    let mut name = Vec::new(alloc);
+    append_parent(alloc, &mut name, &entry.says)?;
+    parents.push(name.len() + 3)?;
     Ok(rest)
 }
 

@@ -52,12 +52,7 @@ pub(crate) fn push_missing(
 {
     for (at, is_marked) in marks.iter().enumerate() {
         if !*is_marked {
-            let says = Says::Lacking(at as u64 + 1);
-            entries.push(Entry {
-                line: 0,
-                level,
-                says,
-            })?;
+            entries.push(Entry::new(0, level, Says::Lacking(at as u64 + 1)))?;
         }
     }
     Ok(())

@@ -83,20 +83,12 @@ fn take_line<'a>(
     match says {
         Says::Tested(point) => take_point(entries, number, level, point, behind),
         Says::GivenUp => {
-            entries.push(Entry {
-                line: number,
-                level,
-                says,
-            })?;
+            entries.push(Entry::new(number, level, says))?;
             let rest = &behind[behind.len()..];
             Ok((number + 1, rest))
         }
         Says::Planned(_) => {
-            entries.push(Entry {
-                line: number,
-                level,
-                says,
-            })?;
+            entries.push(Entry::new(number, level, says))?;
             Ok((number + 1, behind))
         }
         Says::Opened | Says::Lacking(_) => Ok((number + 1, behind)),
@@ -122,11 +114,7 @@ fn take_point<'a>(
 {
     match find_diagnostic(level, behind) {
         Diagnostic::Absent => {
-            entries.push(Entry {
-                line: number,
-                level,
-                says: Says::Tested(point),
-            })?;
+            entries.push(Entry::new(number, level, Says::Tested(point)))?;
             Ok((number + 1, behind))
         }
         Diagnostic::Whole { body, lines, rest } => {
@@ -135,24 +123,12 @@ fn take_point<'a>(
                 diagnostic_lines: lines,
                 ..point
             };
-            entries.push(Entry {
-                line: number,
-                level,
-                says: Says::Tested(point),
-            })?;
+            entries.push(Entry::new(number, level, Says::Tested(point)))?;
             Ok((number + 1 + (lines + 2), rest))
         }
         Diagnostic::Endless => {
-            entries.push(Entry {
-                line: number,
-                level,
-                says: Says::Tested(point),
-            })?;
-            entries.push(Entry {
-                line: number + 1,
-                level,
-                says: Says::Opened,
-            })?;
+            entries.push(Entry::new(number, level, Says::Tested(point)))?;
+            entries.push(Entry::new(number + 1, level, Says::Opened))?;
             Ok((number + 1, &behind[behind.len()..]))
         }
     }

@@ -84,11 +84,7 @@ fn skip_version(text: &[u8]) -> Option<(usize, &[u8])>
     let mut number = 1;
     while let Some((line, behind)) = split_line(rest) {
         if !is_blank_line(line) {
-            return if is_version_line(line) {
-                Some((number + 1, behind))
-            } else {
-                None
-            };
+            return is_version_line(line).then_some((number + 1, behind));
         }
         number += 1;
         rest = behind;
@@ -107,10 +103,7 @@ fn open_report(bytes: &[u8]) -> Result<(usize, &[u8]), TapFault>
     if let Some(at) = find_no_text(bytes) {
         return Err(TapFault::NotText { at });
     }
-    match skip_version(bytes) {
-        Some(opened) => Ok(opened),
-        None => Err(TapFault::NoVersion),
-    }
+    skip_version(bytes).ok_or(TapFault::NoVersion)
 }
 
 /// The fault of a line by itself, before which the plans have this sum.
@@ -148,17 +141,15 @@ fn find_alone(entries: &[Entry]) -> Option<TapFault>
 
 /// Whether the run was given up.
 fn has_bail(entries: &[Entry]) -> bool
-    ensures { result ≡ list_any (λ l. is_bail l.said) (map line_of entries.now) }
+    ensures { result ≡ list_any (λ e. is_bail (line_of e).said) entries.now }
 {
-    for entry in entries {
-        if matches!(entry.says, Says::GivenUp) {
-            return true;
-        }
-    }
-    false
+    entries
+        .iter()
+        .any(|entry| matches!(entry.says, Says::GivenUp))
 }
 
 /// Whether the top stream has a plan, or the run was given up.
+#[tactic(auto, using(crate::proofs::OutcomeLemmas::any_line))]
 fn has_end(entries: &[Entry], completed: &[Entry]) -> bool
     ensures { result ≡ (is_some (plan_of (at_level 0 (map line_of completed.now)))
         || list_any (λ l. is_bail l.said) (map line_of entries.now)) }

@@ -1,9 +1,0 @@
-use Rattle.std.proofs.Common.{◌≡◌, length}
-use Rattle.std.specs.Str.{all_ascii_digits}
-use Rattle.http_wire.proofs.lengths.are_digits.Given as goal
-
-abbrev pub invariant-digits : goal.invariant-digits
-invariant-digits l = all_ascii_digits l.text ≡ all_ascii_digits l.left
-
-abbrev pub decreases-digits : goal.decreases-digits
-decreases-digits l = length l.left
