@@ -9,6 +9,7 @@ import itertools
 import json
 import pathlib
 import re
+import resource
 import socket
 import subprocess
 import tempfile
@@ -138,6 +139,35 @@ def run(feed, folder, stdout=subprocess.PIPE, config=FARM, journal=None):
         program.kill()
         raise Wrong(f"not ended after {SECONDS} seconds")
     return out, errors, program.returncode
+
+
+def unread(command):
+    """Runs a command over a file as input, of which it reads nothing: the place in it, which is shared, stays."""
+    with tempfile.TemporaryFile(buffering=0) as file:
+        file.write(b"POST / HTTP/1.1\r\nContent-Length: 0\r\n\r\n")
+        file.seek(0)
+        done = subprocess.run(command, stdin=file, capture_output=True, timeout=SECONDS)
+        same(file.tell(), 0)
+    return done.stdout, done.stderr, done.returncode
+
+
+def processor_seconds(stream, folder, wanted, turns):
+    """The seconds of processor time that the program takes over a stream, of so many runs the least, each over a journal
+    of its own. So many requests have to be accepted in each."""
+    spent = []
+    for _ in range(turns):
+        with tempfile.TemporaryDirectory(dir=folder) as own:
+            feed = pathlib.Path(own) / "feed"
+            feed.write_bytes(stream)
+            before = resource.getrusage(resource.RUSAGE_CHILDREN)
+            with open(feed, "rb") as source, open(f"{own}/replies", "wb") as replies:
+                subprocess.run(words(own), stdin=source, stdout=replies, check=True)
+            after = resource.getrusage(resource.RUSAGE_CHILDREN)
+            accepted = (pathlib.Path(own) / "replies").read_bytes().count(b"HTTP/1.1 200 OK\r\n")
+            if accepted != wanted:
+                raise SystemExit(f"{accepted} of {wanted} requests were accepted")
+            spent.append(after.ru_utime + after.ru_stime - before.ru_utime - before.ru_stime)
+    return min(spent)
 
 
 def expect(got, output, errors, status):

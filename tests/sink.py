@@ -4,6 +4,7 @@ links that are cut at random bytes in both directions.
 
 import contextlib
 import hashlib
+import os
 import pathlib
 import random
 import re
@@ -13,11 +14,13 @@ import subprocess
 import threading
 
 import harness
-from harness import EXAMPLES, RDB, SECONDS, Wrong, expect, named, same, told_by, token
+import reports
+from harness import EXAMPLES, FARM, RDB, SECONDS, Wrong, expect, named, same, told_by, token
 from verdicts import asking, made
 
 REPORTS = EXAMPLES / "reports"
 FORMS = {".tap": "tap", ".xml": "junit"}
+TAKEN = b"HTTP/1.1 200 OK\r\nContent-Length: 2\r\n\r\n{}"  # the reply to a batch
 CUTS = 200  # links that are cut at least
 MOST = 4  # links that are cut one after the other: one more and an upload gives up
 COUNTS = re.compile(rb"invocations \d+, finalized \d+, results (\d+), exonerations 0, artifacts 0, kept (\d+), bytes \d+\n")
@@ -123,6 +126,34 @@ class Farm:
         return int(found[1]), int(found[2])
 
 
+@contextlib.contextmanager
+def giving(*texts):
+    """A listener on this machine, each of whose links gives the next of these texts and ends. It yields its address, and
+    the texts that were given so far."""
+    given = []
+
+    def serve():
+        with contextlib.suppress(OSError):  # nobody calls any more
+            for text in texts:
+                link, _ = server.accept()
+                given.append(text)
+                with link, contextlib.suppress(OSError):  # who called may be gone
+                    link.sendall(text)
+                    link.shutdown(socket.SHUT_WR)
+                    while link.recv(65536):
+                        pass
+
+    with socket.create_server(("127.0.0.1", 0)) as server:
+        thread = threading.Thread(target=serve)
+        thread.start()
+        try:
+            yield f"127.0.0.1:{server.getsockname()[1]}", given
+        finally:
+            with contextlib.suppress(OSError):
+                server.shutdown(socket.SHUT_RDWR)
+            thread.join(SECONDS)
+
+
 # The sink
 
 
@@ -133,9 +164,11 @@ def configured(folder, name, bearer="tok-a", update=None):
     return path
 
 
-def sink(report, config, address, name, form, *more):
+def sink(report, config, address, name, form, *more, stdout=subprocess.PIPE):
+    """Uploads a report, which is bytes, or a file whose reads fail."""
     words = [RDB, "sink", "--config", config, "--server", address, "--invocation", name, "--format", form, *more]
-    done = subprocess.run(words, input=report, capture_output=True, timeout=SECONDS)
+    feed = {"input": report} if isinstance(report, bytes) else {"stdin": report}
+    done = subprocess.run(words, **feed, stdout=stdout, stderr=subprocess.PIPE, timeout=SECONDS)
     return done.stdout, done.stderr, done.returncode
 
 
@@ -283,23 +316,52 @@ def refused_and_alone(folder):
         expect(got, b"", b"rdb: gave up on batch 1\n", 4)
 
 
-def no_reply(folder):
-    """What begins no reply is told as such."""
-    with socket.create_server(("127.0.0.1", 0)) as server:
+def replies_of_a_listener(folder):
+    """Links that end before a whole reply is there are dialled again; a refusal, and what is no reply, are told."""
+    report, config = tap(2), configured(folder, "u-a")
 
-        def answer():
-            link, _ = server.accept()
-            with link:
-                link.sendall(b"SSH-2.0-OpenSSH\r\n\r\n")
-                while link.recv(65536):
-                    pass
+    def refused(what):
+        return b"", b"rdb: batch 1 refused: %s\n" % what, 6
 
-        thread = threading.Thread(target=answer)
-        thread.start()
-        address = f"127.0.0.1:{server.getsockname()[1]}"
-        got = sink(tap(1), configured(folder, "u-a"), address, "u-a", "tap")
-        thread.join(SECONDS)
-    expect(got, b"", b"rdb: batch 1 refused: bad reply\n", 6)
+    for texts, wanted in (
+        ((TAKEN,), sent(2)),
+        ((b"", b"HTTP/1.1 2", TAKEN), sent(2)),
+        ((b"HTTP/1.1 409 Conflict\r\nContent-Length: 0\r\n\r\n",), refused(b"409")),
+        ((b"HTTP/1.1 403 Forbidden\r\nContent-Length: 0\r\n\r\n",), refused(b"403")),
+        ((b"SMTP\r\n\r\n",), refused(b"bad reply")),
+        ((b"SSH-2.0-OpenSSH\r\n\r\n",), refused(b"bad reply")),
+    ):
+        with giving(*texts) as (address, given):
+            got = sink(report, config, address, "u-a", "tap")
+        same((got, given), (wanted, list(texts)))
+
+
+def nothing_is_dialled(folder):
+    """A report that can't be read, has a fault or takes more memory than there may be; a configuration that can't be
+    read or has a fault, and one of the service; and what was sent can't be told where nobody takes it."""
+    config, suite = configured(folder, "u-a"), b'<testsuite><testcase name="a"/></testsuite>'
+    number = pathlib.Path(folder) / "number.toml"
+    number.write_text("token = 1\n")
+    unread = os.open(folder, os.O_RDONLY)  # reads of a folder fail
+    wanting = b"", b"rdb: want of memory\n", 7
+    try:
+        with giving(TAKEN) as (address, given):
+            for report, setting, form, wanted in (
+                (unread, config, "tap", (b"", b"rdb: fault of input\n", 4)),
+                (suite, config, "tap", (b"", b"rdb: report refused: 1 NoVersion\n", 5)),
+                (b"1..1\n", config, "tap", (b"", b"rdb: report refused: 1 NoVersion\n", 5)),
+                (tap(2), config, "junit", (b"", b"rdb: report refused: 2 NotWellFormed\n", 5)),
+                (reports.named(1), config, "tap", wanting),
+                (tap(2), folder, "tap", (b"", b"rdb: fault of config\n", 4)),
+                (tap(2), number, "tap", (b"", b"rdb: configuration refused: 8 BadShape\n", 2)),
+                (tap(2), FARM, "tap", (b"", b"rdb: configuration refused: 8 BadShape\n", 2)),
+            ):
+                same((sink(report, setting, address, "u-a", form), given), (wanted, []))
+            with open("/dev/full", "wb") as full:
+                got = sink(suite, config, address, "u-a", "junit", stdout=full)
+            same((got, given), ((None, b"rdb: fault of output\n", 4), [TAKEN]))
+    finally:
+        os.close(unread)
 
 
 def by_the_script(folder):
@@ -321,6 +383,7 @@ CHECKS = {
     "batches of 200": batches_of_200,
     "cut links": cut_links,
     "refused, and alone": refused_and_alone,
-    "no reply": no_reply,
+    "replies of a listener": replies_of_a_listener,
+    "nothing is dialled": nothing_is_dialled,
     "by the script": by_the_script,
 }

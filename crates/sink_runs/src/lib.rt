@@ -5,8 +5,6 @@ mod ending;
 mod report;
 mod run;
 mod settings;
-#[cfg(test)]
-mod tests;
 
 pub use ending::{SinkEnd, SinkEnding, sent_line, tell};
 pub use report::ReportFault;

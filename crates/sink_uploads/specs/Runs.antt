@@ -47,13 +47,13 @@ FollowedBy (BadReply end) batch Goes Stops = Stops (fault.BadReply batch end)
 FollowedBy other batch Goes Stops = Goes
 
 -- How it ends where nothing is dialled any more: each request was answered; or five faults and ends
--- befell the next one; or there is no memory.
+-- befell the next one; or there is no memory, where fewer did.
 abbrev pub EndsRun : {T : Type 0} → List (List ℕ) → Course → Result T SinkFault → Type 0
 EndsRun requests course (Ok done) = course.done ≡ length requests
 EndsRun requests course (Err (fault.GaveUp batch faults ends)) =
     (course.done < length requests) × (faults + ends ≡ 5) × (batch ≡ course.done + 1)
     × (faults ≡ course.faults) × (ends ≡ course.ends)
-EndsRun requests course (Err fault.Memory) = Unit {0}
+EndsRun requests course (Err fault.Memory) = course.faults + course.ends < 5
 EndsRun requests course (Err other) = ⊥
 
 -- From this course on, with a dialer that tells this, these are the dials; the upload ends so, and

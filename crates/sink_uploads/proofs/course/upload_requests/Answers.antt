@@ -37,7 +37,7 @@ returns-then-course-ge-MOST-clause-runs g c =
 pub returns-in_default-clause-runs : goal.returns-in_default-clause-runs
 returns-in_default-clause-runs g c =
     let same : g.X.Dialer.dials c.dial.new.dialer ≡ g.X.Dialer.dials c.dials.dialer = c.in_default.ensures.none in
-    rw same (stays Sent _ _ _ _ c.dials.course _ c.dials.invariant.runs tt)
+    rw same (stays Sent _ _ _ _ c.dials.course _ c.dials.invariant.runs c.if-course-ge-MOST.false)
 
 pub returns-in-Err-clause-runs : goal.returns-in-Err-clause-runs
 returns-in-Err-clause-runs g c =
