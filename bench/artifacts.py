@@ -12,8 +12,6 @@ import hashlib
 import json
 import pathlib
 import random
-import resource
-import subprocess
 import sys
 import tempfile
 import time
@@ -38,21 +36,7 @@ def get(number):
 
 
 def seconds(stream, folder, wanted):
-    """Of processor time, of the run that took least, each over a journal of its own."""
-    spent = []
-    for _ in range(TURNS):
-        with tempfile.TemporaryDirectory(dir=folder) as own:
-            feed = pathlib.Path(own) / "feed"
-            feed.write_bytes(stream)
-            before = resource.getrusage(resource.RUSAGE_CHILDREN)
-            with open(feed, "rb") as source, open(f"{own}/replies", "wb") as replies:
-                subprocess.run(harness.words(own), stdin=source, stdout=replies, check=True)
-            after = resource.getrusage(resource.RUSAGE_CHILDREN)
-            told = (pathlib.Path(own) / "replies").read_bytes().count(b"HTTP/1.1 200 OK\r\n")
-            if told != wanted:
-                raise SystemExit(f"{told} of {wanted} requests were accepted")
-            spent.append(after.ru_utime + after.ru_stime - before.ru_utime - before.ru_stime)
-    return min(spent)
+    return harness.processor_seconds(stream, folder, wanted, TURNS)
 
 
 def alone(work, things):

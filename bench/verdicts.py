@@ -9,8 +9,6 @@ and ratios of growth: 10 from one size to the next where the time is linear.
 import base64
 import hashlib
 import pathlib
-import resource
-import subprocess
 import sys
 import tempfile
 
@@ -51,21 +49,7 @@ def page(token):
 
 
 def seconds(stream, folder, wanted):
-    """Of processor time, of the run that took least, each over a journal of its own."""
-    spent = []
-    for turn in range(TURNS):
-        with tempfile.TemporaryDirectory(dir=folder) as own:
-            feed = pathlib.Path(own) / "feed"
-            feed.write_bytes(stream)
-            before = resource.getrusage(resource.RUSAGE_CHILDREN)
-            with open(feed, "rb") as source, open(f"{own}/replies", "wb") as replies:
-                subprocess.run(harness.words(own), stdin=source, stdout=replies, check=True)
-            after = resource.getrusage(resource.RUSAGE_CHILDREN)
-            told = (pathlib.Path(own) / "replies").read_bytes().count(b"HTTP/1.1 200 OK\r\n")
-            if told != wanted:
-                raise SystemExit(f"{told} of {wanted} requests were accepted")
-            spent.append(after.ru_utime + after.ru_stime - before.ru_utime - before.ru_stime)
-    return min(spent)
+    return harness.processor_seconds(stream, folder, wanted, TURNS)
 
 
 def main():

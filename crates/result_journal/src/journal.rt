@@ -129,8 +129,8 @@ impl<D: Disk> Journal<D> {
     /// It writes the record behind the closed gate, syncs, opens the gate by a write of its own, and syncs. At each
     /// moment inside the call a crash leaves the commands before it, or these and the new one.
     ///
-    /// Where the write behind the gate or its sync failed, the gate stands closed, and nothing is to settle. Where a later
-    /// call failed, the journal isn't settled until `settle` has succeeded.
+    /// Where the write behind the gate or its sync failed, the gate stands closed, and nothing is to
+    /// settle. Where a later call failed, the journal isn't settled until `settle` has succeeded.
     pub fn append(&mut self) -> Result<(), DiskFailed>
         requires stands { StandsForSome D.told self.old }
         requires prepared { is_prepared self.old ≡ true }
