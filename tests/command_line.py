@@ -4,12 +4,20 @@ import pathlib
 import shutil
 import subprocess
 
-from harness import FARM, RDB, SECONDS, TOP, Wrong, expect, run, same, words
+from harness import FARM, RDB, SECONDS, TOP, Wrong, built, expect, same, unread, words
 from stored_replies import example
+
+HELP = b"""answer --config PATH --journal PATH
+check --journal PATH
+serve --config PATH --journal PATH --listen ADDR --workers K [--connections N]
+sink --config PATH --server ADDR --invocation ID --format tap|junit [--prefix TEXT]
+--help
+--version
+"""
 
 
 def configurations(folder):
-    """A configuration that is refused, and one that isn't there: nothing is read or answered."""
+    """A configuration that is refused, one that isn't there, and one whose reads fail: nothing is read or answered."""
     wrong = pathlib.Path(folder) / "wrong.toml"
     for text, line, status in (
         (b"secret", b"rdb: configuration refused: 1 NotToml\n", 2),
@@ -21,15 +29,33 @@ def configurations(folder):
         wrong.unlink(missing_ok=True)
         if text is not None:
             wrong.write_bytes(text)
-        expect(run(example("create-invocation", "http"), folder, config=wrong), b"", line, status)
+        expect(unread(words(folder, config=wrong)), b"", line, status)
+    expect(unread(words(folder, config=folder)), b"", b"rdb: fault of config\n", 4)  # reads of a folder fail
+
+
+def configurations_at_their_bounds(folder):
+    """What is read at its bound, and refused past it, by the program that tells what becomes of configurations."""
+    tables = 'secret = "0b"\n[user.a]\ntoken = "a"\n[role.r]\npermissions = ["resultdb.artifacts.get"]\n'
+    binding = 'bindings = [{ role = "r", principals = ["user:a"] }]\n'
+    chain = [f'[realm."p:{n:05}"]\n{binding}' + (f'extends = ["p:{n - 1:05}"]\n' if n else "") for n in range(30_000)]
+    asks = "# user a\n# ask a p:29999\n# realms a p:29999\n# listed a p:29999\n"
+    many = 'secret = "0b"\n[realm.p]\nbindings = [' + '{role="",principals=[]},' * 65_536 + "]\n"
+    for text, told in (
+        (tables + "".join(chain) + asks, b"read\na\nmay resultdb.artifacts.get\nx\n-\n"),
+        (" " * 4_194_305, b"7 TooMany 4194305\n"),
+        (many, b"7 TooMany 65537\n"),
+    ):
+        done = subprocess.run([built("policy_trial")], input=text.encode(), capture_output=True, timeout=SECONDS)
+        expect((done.stdout, done.stderr, done.returncode), told, b"", 0)
 
 
 def constant_texts(folder):
-    """--help and --version, each as the only word."""
-    for word, start in (("--help", b"answer --config PATH --journal PATH"), ("--version", b"rdb ")):
-        done = subprocess.run([RDB, word], input=b"POST", capture_output=True, timeout=SECONDS)
-        if start not in done.stdout or done.stderr or done.returncode:
-            raise Wrong(f"{word}: {done!r}")
+    """--help and --version, each as the only word; and where nobody takes them."""
+    for word, text in (("--help", HELP), ("--version", b"rdb 0.1.0\n")):
+        expect(unread([RDB, word]), text, b"", 0)
+        with open("/dev/full", "wb") as full:
+            done = subprocess.run([RDB, word], stdout=full, stderr=subprocess.PIPE, timeout=SECONDS)
+        expect((done.stdout, done.stderr, done.returncode), None, b"rdb: fault of output\n", 4)
 
 
 def refused_words(folder):
@@ -38,6 +64,7 @@ def refused_words(folder):
     for wrong in (
         [],
         ["answer"],
+        ["serve"],
         ["serve"] + taken[1:],
         taken + ["more"],
         taken + taken[1:3],
@@ -45,8 +72,7 @@ def refused_words(folder):
         taken[:3] + ["--journal", "-j"],
         ["--help", "--version"],
     ):
-        done = subprocess.run([RDB, *wrong], input=b"POST", capture_output=True, timeout=SECONDS)
-        expect((done.stdout, done.stderr, done.returncode), b"", b"rdb: words refused\n", 1)
+        expect(unread([RDB, *wrong]), b"", b"rdb: words refused\n", 1)
 
 
 def words_in_another_spelling(folder):
@@ -85,6 +111,7 @@ def no_program(folder):
 
 CHECKS = {
     "configurations that aren't accepted": configurations,
+    "configurations at their bounds": configurations_at_their_bounds,
     "refused words": refused_words,
     "words in another spelling": words_in_another_spelling,
     "help and version": constant_texts,

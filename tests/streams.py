@@ -6,11 +6,24 @@ import os
 import subprocess
 
 from harness import SECONDS, TOP, expect, not_implemented, run, same, words
+from journals import EMPTY, creation, journal_in
 from stored_replies import example
 
 
 def empty_input(folder):
     expect(run(b"", folder), b"", b"", 0)
+
+
+def failing_input(folder):
+    """The input is a folder, whose reads fail: nothing is recorded."""
+    path = journal_in(folder)
+    unread = os.open(folder, os.O_RDONLY)
+    try:
+        done = subprocess.run(words(folder, journal=path), stdin=unread, capture_output=True, timeout=SECONDS)
+    finally:
+        os.close(unread)
+    expect((done.stdout, done.stderr, done.returncode), b"", b"rdb: fault of input\n", 4)
+    same(path.read_bytes(), EMPTY)
 
 
 def closed_output(folder):
@@ -24,9 +37,11 @@ def closed_output(folder):
 
 
 def full_output(folder):
-    """The output has no room: Linux's /dev/full refuses each write."""
+    """The output has no room: Linux's /dev/full refuses each write. What was answered is recorded all the same."""
+    path = journal_in(folder)
     with open("/dev/full", "wb") as full:
-        expect(run(example("create-invocation", "http"), folder, stdout=full), None, b"rdb: fault of output\n", 4)
+        expect(run(creation("u-b"), folder, stdout=full, journal=path), None, b"rdb: fault of output\n", 4)
+    same(path.stat().st_size, 89)
 
 
 def closed_streams(folder):
@@ -47,7 +62,8 @@ def farewell(number, name):
 
 
 def hostile_streams(folder):
-    """Each with its exact bytes and status."""
+    """Each with its exact bytes and status, and nothing of them is recorded."""
+    path = journal_in(folder)
     post, length = b"POST /x HTTP/1.1\r\n", b"Content-Length: 0\r\n"
     filled = b"GET / HTTP/1.1\r\nX: "
     bad = (3, b"BadHead")
@@ -66,12 +82,15 @@ def hostile_streams(folder):
         (b"POST /x HTTP/1.2\r\n" + length + b"\r\n", bad),
         (b"PRI * HTTP/2.0\r\n\r\nSM\r\n\r\n", bad),
         (post + b"\r\n", (4, b"NoLength")),
+        (post + b"\r\n" + b"GET / HTTP/1.1\r\n\r\n", (4, b"NoLength")),
         (post + length + length + b"\r\n", (5, b"TwoLengths")),
         (post + length + b"Content-Length: 1\r\n\r\n", (5, b"TwoLengths")),
         (post + length + b"Transfer-Encoding: chunked\r\n\r\n", (6, b"TransferCoded")),
         (post + b"Content-Length: 4194305\r\n\r\n", (7, b"BodyTooLong")),
         (post + b"Content-Length: 4194304\r\n\r\n", (8, b"CutShort")),
+        (post + b'Content-Length: 55\r\n\r\n{"invocati', (8, b"CutShort")),
         (b"get / HTTP/1.1\r\n\r\n" + post, None),
+        (b"GET / HTTP/1.1\r\n\r\n" + post + b"\r\n", None),
         (b"GET / HTTP/1.0\r\n\r\n" + post, None),
         (b"GET / HTTP/1.1\r\nContent-Length: 4\r\n\r\nPOST", None),
         (b"\r\n\n\r\nGET / HTTP/1.1\r\n\r\n", None),
@@ -79,10 +98,11 @@ def hostile_streams(folder):
         (b"GET", (8, b"CutShort")),
     ):
         if fault is None:
-            expect(run(stream, folder), not_implemented(b"/"), b"", 0)
+            expect(run(stream, folder, journal=path), not_implemented(b"/"), b"", 0)
         else:
             reply = b"" if fault[0] == 8 else farewell(*fault)
-            expect(run(stream, folder), reply, b"rdb: wire %d %s\n" % fault, 8)
+            expect(run(stream, folder, journal=path), reply, b"rdb: wire %d %s\n" % fault, 8)
+        same(path.read_bytes(), EMPTY)
 
 
 def longest_connection(folder):
@@ -121,6 +141,7 @@ CHECKS = {
     "an empty input": empty_input,
     "hostile streams": hostile_streams,
     "the longest connection": longest_connection,
+    "an input that fails": failing_input,
     "a closed output": closed_output,
     "a full output": full_output,
     "closed standard streams": closed_streams,

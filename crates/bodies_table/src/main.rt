@@ -29,32 +29,16 @@ mod telling;
 mod texts;
 
 use faults::{Fault, fault_text};
+use line_tables::{Teller, run_table};
 use notation::body_of;
-use outside::StdIn;
+use outside::{StdIn, StdOut};
 use standard_files::{DevNull, hold_standard};
 use std::alloc::{AllocError, Global};
-use std::io::Write;
 use std::process::ExitCode;
 use telling::{put_line, put_told};
-use whole_reads::read_front;
 
 /// One byte more than a table may have.
-const MOST_BYTES: usize = 4_194_305;
-
-/// Why a table is not told to its end.
-#[derive(Drop)]
-enum Stop {
-    /// There was no memory.
-    Memory,
-    /// It is no text, or too long.
-    NoTable,
-}
-
-impl From<AllocError> for Stop {
-    fn from(_: AllocError) -> Stop {
-        Stop::Memory
-    }
-}
+const BOUND: usize = 4_194_305;
 
 /// What a word makes of a body, where it isn't a method's.
 fn told_of_form(alloc: Global, word: &str, body: &[u8]) -> Result<Option<Vec<u8>>, Fault> {
@@ -103,43 +87,25 @@ fn tell_row(alloc: Global, line: &str, out: &mut Vec<u8>) -> Result<(), AllocErr
     }
 }
 
-/// Tells a line, and behind it what it comes to.
-fn tell_line(alloc: Global, line: &str, out: &mut Vec<u8>) -> Result<(), AllocError> {
-    put_line(line, out)?;
-    if line.is_empty() || line.starts_with('#') {
-        return Ok(());
-    }
-    tell_row(alloc, line, out)
-}
+/// Says what a line of a word and a body comes to.
+struct Bodies;
 
-/// What a table gives.
-fn tell_table(alloc: Global, table: &[u8]) -> Result<Vec<u8>, Stop> {
-    if table.len() == MOST_BYTES {
-        return Err(Stop::NoTable);
+impl Teller for Bodies {
+    fn tell(&self, alloc: Global, line: &str) -> Result<Vec<u8>, AllocError> {
+        let mut out = Vec::new(alloc);
+        tell_row(alloc, line, &mut out)?;
+        Ok(out)
     }
-    let Ok(text) = std::str::from_utf8(table) else {
-        return Err(Stop::NoTable);
-    };
-    let mut out = Vec::new(alloc);
-    for line in text.lines() {
-        tell_line(alloc, line, &mut out)?;
-    }
-    Ok(out)
 }
 
 fn main(rt: HostRuntime) -> ExitCode {
     let Ok(_held) = hold_standard(&mut DevNull::new(&rt)) else {
         return ExitCode::from(4);
     };
-    let Ok(table) = read_front(rt.alloc(), &mut StdIn::new(rt.stdin()), MOST_BYTES) else {
-        return ExitCode::from(2);
-    };
-    match tell_table(rt.alloc(), table.as_slice()) {
-        Ok(told) => match rt.stdout().write_all(told.as_slice()) {
-            Ok(()) => ExitCode::from(0),
-            Err(_) => ExitCode::from(4),
-        },
-        Err(Stop::NoTable) => ExitCode::from(3),
-        Err(Stop::Memory) => ExitCode::from(1),
+    let mut input = StdIn::new(rt.stdin());
+    let mut output = StdOut::new(rt.stdout());
+    match run_table(rt.alloc(), &mut input, &mut output, BOUND, &Bodies) {
+        Ok(()) => ExitCode::from(0),
+        Err(end) => ExitCode::from(end.status()),
     }
 }

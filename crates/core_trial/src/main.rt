@@ -9,7 +9,8 @@ mod script;
 mod telling;
 
 use call_forms::Told;
-use outside::StdIn;
+use line_tables::{TableEnd, read_text, write_told};
+use outside::{Sink, Source, StdIn, StdOut};
 use permissions::{Policy, PolicyFault};
 use policy_reading::from_toml;
 use request_demands::understand;
@@ -17,35 +18,18 @@ use script::{Line, Turn};
 use service_core::Core;
 use standard_files::{DevNull, hold_standard};
 use std::alloc::{AllocError, Global};
-use std::io::Write;
 use std::process::ExitCode;
 use telling::{put_line, put_told};
-use whole_reads::read_front;
 
 /// One byte more than a script may have.
-const MOST_BYTES: usize = 4_194_305;
+const BOUND: usize = 4_194_305;
 
-/// Why a script is not told to its end.
-#[derive(Drop)]
-enum Stop {
-    /// There was no memory.
-    Memory,
-    /// It is no text, or too long, or has no line `----`, or its configuration has a fault.
-    NoScript,
-}
-
-impl From<AllocError> for Stop {
-    fn from(_: AllocError) -> Stop {
-        Stop::Memory
-    }
-}
-
-/// The policy of a configuration.
-fn policy_of(alloc: Global, config: &str) -> Result<Policy, Stop> {
+/// The policy of a configuration. A faulty one ends a run as an input that is no text does.
+fn policy_of(alloc: Global, config: &str) -> Result<Policy, TableEnd> {
     match from_toml(alloc, config.as_bytes()) {
         Ok(policy) => Ok(policy),
-        Err(PolicyFault::Memory) => Err(Stop::Memory),
-        Err(_) => Err(Stop::NoScript),
+        Err(PolicyFault::Memory) => Err(TableEnd::Memory),
+        Err(_) => Err(TableEnd::NoText),
     }
 }
 
@@ -111,34 +95,34 @@ fn tell_blocks(
     Ok(())
 }
 
-/// What a script gives.
-fn tell_script(alloc: Global, script: &[u8]) -> Result<Vec<u8>, Stop> {
-    if script.len() == MOST_BYTES {
-        return Err(Stop::NoScript);
-    }
-    let Ok(text) = std::str::from_utf8(script) else {
-        return Err(Stop::NoScript);
-    };
-    let (config, blocks) = text.split_once("\n----\n").ok_or(Stop::NoScript)?;
+/// What a script gives. One without a line `----` ends a run as an input that is no text does.
+fn tell_script(alloc: Global, script: &str) -> Result<Vec<u8>, TableEnd> {
+    let (config, blocks) = script.split_once("\n----\n").ok_or(TableEnd::NoText)?;
     let policy = policy_of(alloc, config)?;
     let mut out = Vec::new(alloc);
     tell_blocks(alloc, &policy, blocks, &mut out)?;
     Ok(out)
 }
 
+/// Reads a script from an input, and writes what it gives to an output.
+fn run_script<I: Source, O: Sink>(
+    alloc: Global,
+    input: &mut I,
+    output: &mut O,
+) -> Result<(), TableEnd> {
+    let script = read_text(alloc, input, BOUND)?;
+    let told = tell_script(alloc, script.as_str())?;
+    write_told(output, told.as_slice())
+}
+
 fn main(rt: HostRuntime) -> ExitCode {
     let Ok(_held) = hold_standard(&mut DevNull::new(&rt)) else {
         return ExitCode::from(4);
     };
-    let Ok(script) = read_front(rt.alloc(), &mut StdIn::new(rt.stdin()), MOST_BYTES) else {
-        return ExitCode::from(2);
-    };
-    match tell_script(rt.alloc(), script.as_slice()) {
-        Ok(told) => match rt.stdout().write_all(told.as_slice()) {
-            Ok(()) => ExitCode::from(0),
-            Err(_) => ExitCode::from(4),
-        },
-        Err(Stop::NoScript) => ExitCode::from(3),
-        Err(Stop::Memory) => ExitCode::from(1),
+    let mut input = StdIn::new(rt.stdin());
+    let mut output = StdOut::new(rt.stdout());
+    match run_script(rt.alloc(), &mut input, &mut output) {
+        Ok(()) => ExitCode::from(0),
+        Err(end) => ExitCode::from(end.status()),
     }
 }

@@ -2,6 +2,9 @@
 //!
 //! A request is `SECONDS BEARER TOKEN TARGET BODY`, parted by one blank each, and the body is the rest
 //! of the line, with the blanks that it has; behind the target a blank and the body may be wanting.
+ghost use Rattle.std.specs.Prelude.{◌≡◌, IfOk};
+ghost use Rattle.core_trial.specs.Lines.{begins_comment, IsLineOf};
+
 use call_forms::Asked;
 use lists::Bytes;
 use names_realms::{InvocationId, NameFault};
@@ -30,8 +33,10 @@ pub enum Line {
 
 impl Line {
     /// Reads a line, where this secret makes the update tokens.
-    pub fn read(alloc: Global, secret: &[u8], line: &str) -> Result<Line, AllocError> {
-        if line.starts_with('#') {
+    pub fn read(alloc: Global, secret: &[u8], line: &str) -> Result<Line, AllocError>
+        ensures { IfOk result (IsLineOf line.now) }
+    {
+        if is_comment(line) {
             return Ok(Line::Comment);
         }
         match read_turn(alloc, secret, line) {
@@ -39,6 +44,16 @@ impl Line {
             Err(Fault::Form) => Ok(Line::Odd),
             Err(Fault::Memory) => Err(AllocError),
         }
+    }
+}
+
+/// Whether a line begins with `#`.
+fn is_comment(line: &str) -> bool
+    ensures { result ≡ begins_comment line.now }
+{
+    match line.as_bytes() {
+        [first, ..] => *first == b'#',
+        [] => false,
     }
 }
 

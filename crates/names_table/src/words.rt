@@ -56,16 +56,18 @@ impl From<PairFault> for Stop {
     }
 }
 
-/// Puts why a line gives no value behind what is there.
-pub(crate) fn put_stop(alloc: Global, stop: Stop, out: &mut Vec<u8>) -> Result<(), AllocError> {
+/// Why a line gives no value, in words.
+pub(crate) fn stop_text(alloc: Global, stop: Stop) -> Result<Vec<u8>, AllocError> {
+    let mut out = Vec::new(alloc);
     match stop {
         Stop::Fault { part, fault } => {
             out.extend_from_slice(part.as_bytes())?;
-            put_fault(alloc, fault, out)
+            put_fault(alloc, fault, &mut out)?;
         }
-        Stop::Odd(what) => out.extend_from_slice(what.as_bytes()),
-        Stop::Memory => out.extend_from_slice(b"Memory"),
+        Stop::Odd(what) => out.extend_from_slice(what.as_bytes())?,
+        Stop::Memory => out.extend_from_slice(b"Memory")?,
     }
+    Ok(out)
 }
 
 /// Puts a fault behind what is there.

@@ -1,38 +1,19 @@
 //! Reads configurations from the input, and prints what becomes of each, and who may do what by it. For trials alone.
 //!
-//! A line `----` parts two configurations. A comment `# ask TOKEN REALM` of one that is read asks which permissions the
-//! token's user has in the realm: `may` is printed, and their names. A comment `# realms TOKEN REALM..` asks by one pass
-//! in which of these realms the user may read artifacts: a letter each is printed.
+//! A line `----` parts two configurations. Comments of one that is read may ask (`asks`).
 #![tactic(auto)]
 
-#[cfg(test)]
-mod tests;
+mod asks;
 
-use names_realms::Realm;
+use asks::tell_asks;
 use outside::StdIn;
-use permissions::{Permission, Policy, PolicyFault};
+use permissions::PolicyFault;
 use policy_reading::from_toml;
 use standard_files::{DevNull, hold_standard};
 use std::alloc::{AllocError, Global};
 use std::io::Write;
 use std::process::ExitCode;
 use whole_reads::read_front;
-
-/// The names of the permissions, in the order in which they are told.
-const NAMES: [&str; 12] = [
-    "resultdb.invocations.create",
-    "resultdb.invocations.createWithReservedID",
-    "resultdb.invocations.get",
-    "resultdb.invocations.include",
-    "resultdb.testResults.get",
-    "resultdb.testResults.list",
-    "resultdb.testResults.listLimited",
-    "resultdb.testExonerations.get",
-    "resultdb.testExonerations.list",
-    "resultdb.testExonerations.listLimited",
-    "resultdb.artifacts.get",
-    "resultdb.artifacts.list",
-];
 
 /// One byte more than a configuration may have.
 const MOST_BYTES: usize = 4_194_305;
@@ -50,7 +31,7 @@ fn subject_of(fault: &PolicyFault) -> &[u8] {
     }
 }
 
-/// The fault's number and name, and what it names.
+/// The fault's number and name, and what it names or counts.
 fn tell_fault(alloc: Global, fault: &PolicyFault, out: &mut Vec<u8>) -> Result<(), AllocError> {
     let number = fault.number();
     let name = fault.name();
@@ -61,78 +42,11 @@ fn tell_fault(alloc: Global, fault: &PolicyFault, out: &mut Vec<u8>) -> Result<(
         out.extend_from_slice(b" ")?;
         out.extend_from_slice(subject)?;
     }
-    out.extend_from_slice(b"\n")
-}
-
-/// The names of what the owner of a token may do in a realm.
-fn tell_rights(
-    alloc: Global,
-    policy: &Policy,
-    token: &str,
-    realm: &str,
-    out: &mut Vec<u8>,
-) -> Result<(), AllocError> {
-    let Ok(realm) = Realm::parse(alloc, realm.as_bytes()) else {
-        return out.extend_from_slice(b"no realm\n");
-    };
-    let Some(caller) = policy.caller_of(token.as_bytes()) else {
-        return out.extend_from_slice(b"no caller\n");
-    };
-    out.extend_from_slice(b"may")?;
-    for name in NAMES {
-        let Some(permission) = Permission::from_text(name.as_bytes()) else {
-            return out.extend_from_slice(b" ?\n");
-        };
-        if policy.allows(caller, permission, &realm) {
-            out.extend_from_slice(b" ")?;
-            out.extend_from_slice(name.as_bytes())?;
-        }
+    if let PolicyFault::TooMany { count } = fault {
+        let text = format!(in alloc; " {count}")?;
+        out.extend_from_slice(text.as_bytes())?;
     }
     out.extend_from_slice(b"\n")
-}
-
-/// The letters of the realms, parted by blanks, in which the owner of a token may read artifacts.
-fn tell_realms(
-    alloc: Global,
-    policy: &Policy,
-    token: &str,
-    realms: &str,
-    out: &mut Vec<u8>,
-) -> Result<(), AllocError> {
-    let Some(caller) = policy.caller_of(token.as_bytes()) else {
-        return out.extend_from_slice(b"no caller\n");
-    };
-    let granted = policy.granted(alloc, caller, Permission::GetArtifact)?;
-    for name in realms.split(' ') {
-        let letter = match Realm::parse(alloc, name.as_bytes()) {
-            Ok(realm) => if granted.in_realm(&realm) { b"x" } else { b"-" },
-            Err(_) => b"?",
-        };
-        out.extend_from_slice(letter)?;
-    }
-    out.extend_from_slice(b"\n")
-}
-
-/// The answers to the asks that stand in a configuration.
-fn tell_asks(
-    alloc: Global,
-    policy: &Policy,
-    text: &str,
-    out: &mut Vec<u8>,
-) -> Result<(), AllocError> {
-    for line in text.lines() {
-        if let Some(ask) = line.strip_prefix("# ask ") {
-            if let Some((token, realm)) = ask.split_once(' ') {
-                tell_rights(alloc, policy, token, realm, out)?;
-            }
-        }
-        if let Some(ask) = line.strip_prefix("# realms ") {
-            if let Some((token, realms)) = ask.split_once(' ') {
-                tell_realms(alloc, policy, token, realms, out)?;
-            }
-        }
-    }
-    Ok(())
 }
 
 /// What becomes of a configuration.

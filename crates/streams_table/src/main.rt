@@ -28,15 +28,14 @@ mod serving;
 mod writing;
 
 use fault::Fault;
-use outside::StdIn;
+use line_tables::{Teller, run_table};
+use outside::{StdIn, StdOut};
 use standard_files::{DevNull, hold_standard};
 use std::alloc::{AllocError, Global};
-use std::io::Write;
 use std::process::ExitCode;
-use whole_reads::{ReadEnd, read_front};
 
 /// One byte more than a table may have.
-const MOST_BYTES: usize = 4_194_305;
+const BOUND: usize = 4_194_305;
 
 /// Tells what a line of a kind comes to, where these calls to the link fail.
 fn tell_kind(
@@ -76,34 +75,18 @@ fn tell_subject(alloc: Global, line: &str, out: &mut Vec<u8>) -> Result<(), Faul
     tell_kind(alloc, kind, fails, subject, out)
 }
 
-/// Tells a line, and behind it what it comes to.
-fn tell_line(alloc: Global, line: &str, out: &mut Vec<u8>) -> Result<(), AllocError> {
-    out.extend_from_slice(line.as_bytes())?;
-    out.extend_from_slice(b"\n")?;
-    if line.is_empty() || line.starts_with('#') {
-        return Ok(());
-    }
-    match tell_subject(alloc, line, out) {
-        Ok(()) => Ok(()),
-        Err(Fault::Form) => out.extend_from_slice(b"  not understood\n"),
-        Err(Fault::Memory) => Err(AllocError),
-    }
-}
+/// Says what a line comes to.
+struct Streams;
 
-/// What a table comes to.
-fn tell_table(alloc: Global, table: &str) -> Result<Vec<u8>, AllocError> {
-    let mut out = Vec::new(alloc);
-    for line in table.lines() {
-        tell_line(alloc, line, &mut out)?;
-    }
-    Ok(out)
-}
-
-/// The status for an input that wasn't read.
-fn status_of(end: ReadEnd) -> ExitCode {
-    match end {
-        ReadEnd::Failed => ExitCode::from(2),
-        ReadEnd::Memory => ExitCode::from(1),
+impl Teller for Streams {
+    fn tell(&self, alloc: Global, line: &str) -> Result<Vec<u8>, AllocError> {
+        let mut out = Vec::new(alloc);
+        match tell_subject(alloc, line, &mut out) {
+            Ok(()) => {}
+            Err(Fault::Form) => out.extend_from_slice(b"  not understood\n")?,
+            Err(Fault::Memory) => return Err(AllocError),
+        }
+        Ok(out)
     }
 }
 
@@ -111,21 +94,10 @@ fn main(rt: HostRuntime) -> ExitCode {
     let Ok(_held) = hold_standard(&mut DevNull::new(&rt)) else {
         return ExitCode::from(4);
     };
-    let table = match read_front(rt.alloc(), &mut StdIn::new(rt.stdin()), MOST_BYTES) {
-        Ok(table) => table,
-        Err(end) => return status_of(end),
-    };
-    if table.len() == MOST_BYTES {
-        return ExitCode::from(3);
-    }
-    let Ok(text) = std::str::from_utf8(table.as_slice()) else {
-        return ExitCode::from(3);
-    };
-    let Ok(told) = tell_table(rt.alloc(), text) else {
-        return ExitCode::from(1);
-    };
-    match rt.stdout().write_all(told.as_slice()) {
+    let mut input = StdIn::new(rt.stdin());
+    let mut output = StdOut::new(rt.stdout());
+    match run_table(rt.alloc(), &mut input, &mut output, BOUND, &Streams) {
         Ok(()) => ExitCode::from(0),
-        Err(_) => ExitCode::from(4),
+        Err(end) => ExitCode::from(end.status()),
     }
 }
