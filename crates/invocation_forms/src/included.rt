@@ -22,7 +22,7 @@ use std::alloc::{AllocError, Global};
 
 /// A request that the invocation with this id include others.
 #[derive(Debug, Drop)]
-pub struct UpdateIncludedInvocations {
+pub struct IncludingInvocation {
     pub including: InvocationId,
     pub add: Listed<InvocationId>,
 }
@@ -41,7 +41,7 @@ fn read_added(alloc: Global, value: &Value) -> Result<Listed<InvocationId>, Read
     }
 }
 
-impl Form for UpdateIncludedInvocations {
+impl Form for IncludingInvocation {
     ghost fault = { an_include_request };
 
     ghost means = { λ d q. IsInclude d q.including q.add };
@@ -53,19 +53,19 @@ impl Form for UpdateIncludedInvocations {
     }
 
     #[tactic(auto, unfolding(crate::proofs::Opened::request_fields))]
-    fn read(alloc: Global, value: &Value) -> Result<UpdateIncludedInvocations, ReadFault> {
+    fn read(alloc: Global, value: &Value) -> Result<IncludingInvocation, ReadFault> {
         object(alloc, value)?;
         let including: InvocationName = required(alloc, value, including_invocation())?;
         let add = read_added(alloc, value)?;
         optional::<UnbuiltList>(alloc, value, remove_invocations())?;
-        Ok(UpdateIncludedInvocations {
+        Ok(IncludingInvocation {
             including: including.into_id(),
             add,
         })
     }
 }
 
-impl UpdateIncludedInvocations {
+impl IncludingInvocation {
     /// What is written of the request.
     pub fn write(&self, alloc: Global) -> Result<Value, AllocError>
         ensures value { IfOk result (λ v. view v

@@ -14,7 +14,7 @@ mod shown;
 mod updates;
 
 pub use create::{CreateInvocation, NewInvocation};
-pub use included::UpdateIncludedInvocations;
+pub use included::IncludingInvocation;
 pub use named::NamedInvocation;
 pub use replies::{ShownInvocation, invocation_value, state_name};
 pub use updates::UpdateInvocation;

@@ -170,7 +170,7 @@ settled_there moment edges old =
     )
 
 -- fewer rows are active once those of the least deadline are begun
-fewer_left : (moment d : ℤ) (edges : List Edge) (rows between : List Invocation) → IsLeast rows moment d
+pub fewer_left : (moment d : ℤ) (edges : List Edge) (rows between : List Invocation) → IsLeast rows moment d
     → SettlesRows d edges (all_begun d rows) between → active_count (states_of between) < active_count (states_of rows)
 fewer_left moment d edges rows between least s =
     let first = least_row rows moment d least in

@@ -18,7 +18,7 @@ use Rattle.message_forms.specs.declared.requests.Request.TheVariants as asks
 use Rattle.invocation_forms.specs.declared.create.CreateInvocation.{CreateInvocation as Create}
 use Rattle.invocation_forms.specs.declared.updates.UpdateInvocation.{UpdateInvocation as Update}
 use Rattle.invocation_forms.specs.declared.named.NamedInvocation.{NamedInvocation as Named}
-use Rattle.invocation_forms.specs.declared.included.UpdateIncludedInvocations.{UpdateIncludedInvocations as Include}
+use Rattle.invocation_forms.specs.declared.included.IncludingInvocation.{IncludingInvocation as Include}
 use Rattle.result_forms.specs.Methods.{results_form, exonerations_form}
 use Rattle.query_forms.specs.Single.{single_form}
 use Rattle.query_forms.specs.Results.{results_form as rows_form}

@@ -15,7 +15,7 @@ pub use artifact_replies::ShownArtifacts;
 pub use batches::{ShownExonerations, ShownResults};
 pub use call_forms::{Answer, Asked, Refusal, Standin, Told, write_refusal};
 pub use invocation_forms::{
-    CreateInvocation, NamedInvocation, NewInvocation, ShownInvocation, UpdateIncludedInvocations,
+    CreateInvocation, IncludingInvocation, NamedInvocation, NewInvocation, ShownInvocation,
     UpdateInvocation, state_name,
 };
 pub use json_fields::{FaultKind, FieldFault, Step, Tag, Why, pairs_from};

@@ -10,9 +10,7 @@ ghost use Rattle.message_forms.specs.Methods.{is_called, method_of, service_of, 
 ghost use Rattle.message_forms.specs.Methods.{request_data, Means, CanBeAsked, IsReadAgain};
 
 use artifact_forms::{BatchCreateArtifacts, GetArtifact, ListArtifacts};
-use invocation_forms::{
-    CreateInvocation, NamedInvocation, UpdateIncludedInvocations, UpdateInvocation,
-};
+use invocation_forms::{CreateInvocation, IncludingInvocation, NamedInvocation, UpdateInvocation};
 use json_fields::{Form, ReadFault};
 use lists::Bytes;
 use query_forms::{GetTestResult, QueryTestResults, QueryTestVariants};
@@ -61,7 +59,7 @@ pub enum Request {
     /// The end of an invocation.
     FinalizeInvocation(NamedInvocation),
     /// That an invocation include others.
-    UpdateIncludedInvocations(UpdateIncludedInvocations),
+    UpdateIncludedInvocations(IncludingInvocation),
     /// That results be added to an invocation.
     BatchCreateTestResults(BatchCreateTestResults),
     /// That exonerations be added to an invocation.
@@ -177,9 +175,7 @@ impl Method {
                 Ok(Request::FinalizeInvocation(NamedInvocation::read(alloc, value)?))
             }
             Method::UpdateIncludedInvocations => {
-                Ok(Request::UpdateIncludedInvocations(UpdateIncludedInvocations::read(
-                    alloc, value,
-                )?))
+                Ok(Request::UpdateIncludedInvocations(IncludingInvocation::read(alloc, value)?))
             }
             Method::BatchCreateTestResults => {
                 Ok(Request::BatchCreateTestResults(BatchCreateTestResults::read(alloc, value)?))

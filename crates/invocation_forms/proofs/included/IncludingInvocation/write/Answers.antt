@@ -3,7 +3,7 @@ use Rattle.json_fields.specs.Kinds.{empty_text}
 use Rattle.json_fields.specs.Writing.{AllWritten}
 use Rattle.invocation_forms.specs.Named.{an_invocation_name, IsNameOf, name_data}
 use Rattle.invocation_forms.proofs.IncludedLaws.{include_written}
-use Rattle.invocation_forms.proofs.included.UpdateIncludedInvocations.write.Goals as goal
+use Rattle.invocation_forms.proofs.included.IncludingInvocation.write.Goals as goal
 
 pub returns-clause-again : goal.returns-clause-again
 returns-clause-again c =
