@@ -12,8 +12,8 @@ use Rattle.std.proofs.lemmas.Nat.{from_le_bytes-to_le_bytes_2, from_le_bytes-to_
 use Rattle.policy_checks.specs.Checks.{is_name, may_follow_in_name}
 use Rattle.recorded_calls.specs.declared.command.CallKind.{CallKind}
 use Rattle.recorded_calls.specs.declared.command.CallKind.TheVariants.{CreateInvocation, UpdateInvocation, FinalizeInvocation, UpdateIncludedInvocations, BatchCreateTestResults, BatchCreateTestExonerations, BatchCreateArtifacts}
-use Rattle.recorded_calls.specs.Commands.{CallSaid, IsCallMoment, IsCallSayable, IsCommand, IsSayable, Said, body_bytes, called, command_bytes, kind_byte, moment_bytes, name_bytes, ticked}
-use Rattle.recorded_calls.specs.Laws.{OneCommand, WrittenIsRead}
+use Rattle.recorded_calls.specs.Commands.{CallSaid, IsCallMoment, IsCallSayable, IsCommand, IsSayable, Said, body_bytes, called, command_bytes, kind_byte, length_said, moment_bytes, name_bytes, ticked}
+use Rattle.recorded_calls.specs.Laws.{LengthsAreSaid, OneCommand, WrittenIsRead}
 
 -- lists with fronts of one length are equal in both parts
 fronts : (a b c d : List ℕ) → length a ≡ length c → a ++ b ≡ c ++ d → (a ≡ c) × (b ≡ d)
@@ -197,3 +197,7 @@ written_is_read said is =
 -- how long a call's command is
 pub length_called : (call : CallSaid) → length (command_bytes (called call)) ≡ 15 + (length call.caller + length call.body)
 length_called call = omega (arith, length-append call.caller (body_bytes call.body))
+
+pub lengths_are_said : LengthsAreSaid
+lengths_are_said (ticked moment) = refl
+lengths_are_said (called call) = omega (arith, length_called call)

@@ -1,5 +1,5 @@
 -- What a command says, and its bytes.
-use Rattle.std.specs.Prelude.{◌≡◌, ℕ, ◌^◌, ◌<◌, ℤ, pos, ◌≤ℤ◌, unsigned_abs, true, List, ◌∷◌, ◌++◌, length}
+use Rattle.std.specs.Prelude.{◌≡◌, ℕ, ◌+◌, ◌^◌, ◌<◌, ℤ, pos, ◌≤ℤ◌, unsigned_abs, true, List, ◌∷◌, ◌++◌, length}
 use Rattle.std.specs.Int.{w16, w32, w64, to_le_bytes}
 use Rattle.policy_checks.specs.Checks.{is_name}
 use Rattle.recorded_calls.specs.declared.command.CallKind.{CallKind}
@@ -75,6 +75,20 @@ command_bytes (ticked moment) = 0 ∷ moment_bytes moment
 command_bytes (called call) =
     kind_byte call.kind
     ∷ (moment_bytes call.moment ++ (name_bytes call.caller ++ body_bytes call.body))
+
+-- How many bytes the record of a call takes in a journal: one for its gate, four for the length of
+-- its command, fifteen of the command beside the caller's name and the body, and these two.
+abbrev pub record_length : List ℕ → List ℕ → ℕ
+record_length name body = 20 + (length name + length body)
+
+-- that of due deadlines
+abbrev pub tick_length : ℕ
+tick_length = 14
+
+-- how many bytes the record takes of what is said
+abbrev pub length_said : Said → ℕ
+length_said (ticked moment) = tick_length
+length_said (called call) = record_length call.caller call.body
 
 -- The bytes are a command that says this.
 pub record IsCommand (bytes : List ℕ) (said : Said) : Type 0 where

@@ -1,5 +1,5 @@
 //! Laws of commands. These functions do nothing: what each of them ensures is the law.
-ghost use Rattle.recorded_calls.specs.Laws.{OneCommand, WrittenIsRead};
+ghost use Rattle.recorded_calls.specs.Laws.{LengthsAreSaid, OneCommand, WrittenIsRead};
 
 /// The same bytes say one thing.
 pub fn one_command()
@@ -9,4 +9,9 @@ pub fn one_command()
 /// What is written is read again, and as nothing else.
 pub fn written_is_read()
     ensures { WrittenIsRead }
+{}
+
+/// The record of a command takes five bytes more than the command.
+pub fn lengths_are_said()
+    ensures { LengthsAreSaid }
 {}

@@ -11,4 +11,4 @@ mod writing;
 
 pub use command::{CallKind, Command, RecordedCall};
 pub use reading::read_command;
-pub use writing::{has_name_form, write_call, write_command, write_tick};
+pub use writing::{has_name_form, record_length, write_call, write_command, write_tick};

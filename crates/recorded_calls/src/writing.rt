@@ -1,10 +1,10 @@
 //! Commands, written as their bytes.
-ghost use Rattle.std.specs.Prelude.{◌≡◌, ◌^◌, ◌<◌, ◌++◌, ◌∷◌, ◌≤◌, IfOk, OnOk, length};
+ghost use Rattle.std.specs.Prelude.{◌≡◌, ◌^◌, ◌<◌, ◌++◌, ◌∷◌, ◌≤◌, true, IfOk, OnOk, length};
 ghost use Rattle.std.specs.List.{list_all};
 ghost use Rattle.policy_checks.specs.Checks.{is_name, may_follow_in_name};
 ghost use Rattle.recorded_calls.specs.Commands.{IsCallMoment, IsCallSayable, IsCommand, IsSayable, body_bytes};
 ghost use Rattle.recorded_calls.specs.Commands.{call_said, called, command_bytes, moment_bytes, name_bytes, said_by};
-ghost use Rattle.recorded_calls.specs.Commands.{ticked};
+ghost use Rattle.recorded_calls.specs.Commands.{record_length, ticked};
 
 use crate::command::{Command, RecordedCall};
 use lists::Bytes;
@@ -64,6 +64,14 @@ fn append_body(bytes: &mut Vec<u8>, body: &[u8]) -> Result<(), AllocError>
 {
     bytes.extend_from_slice((body.len() as u32).to_le_bytes().as_slice())?;
     bytes.extend_from_slice(body)
+}
+
+/// How many bytes the record of a call takes in a journal, by its caller's name and its body.
+pub fn record_length(name: &[u8], body: &[u8]) -> u64
+    requires { is_name name.now ≡ true }
+    ensures { result ≡ record_length name.now body.now }
+{
+    20 + (name.len() as u64 + body.len() as u64)
 }
 
 /// The bytes of a tick. `Err` where there is no memory.

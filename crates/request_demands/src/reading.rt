@@ -3,7 +3,7 @@ ghost use Rattle.std.specs.Prelude.{◌≡◌, ◌<◌, Some, IfOk, IfSome, IsSo
 ghost use Rattle.message_forms.specs.Methods.{method_of};
 ghost use Rattle.request_demands.specs.Settings.{caller_of};
 ghost use Rattle.request_demands.specs.Demands.{Demand, demand_of};
-ghost use Rattle.request_demands.specs.Understood.{IsChecked, IsUnderstood};
+ghost use Rattle.request_demands.specs.Understood.{IsChecked, IsUnderstood, length_for};
 
 use crate::demand::{Demand, demand_of};
 use crate::numbers::digest_for;
@@ -12,6 +12,7 @@ use call_forms::{Answer, Asked};
 use message_forms::{Method, Request, read_request};
 use names_realms::InvocationId;
 use permissions::{CallerId, Policy};
+use recorded_calls::record_length;
 use std::alloc::{AllocError, Global};
 use update_tokens::token_is;
 
@@ -28,14 +29,15 @@ pub enum TokenCheck {
     Unasked,
 }
 
-/// What a caller asks for, with what its update token comes to, and the digest by which a repeat of
-/// it is known, where it has a number.
+/// What a caller asks for, with what its update token comes to, the digest by which a repeat of it
+/// is known, where it has a number, and how many bytes its record takes in a journal.
 #[derive(Drop)]
 pub struct Call {
     pub caller: CallerId,
     pub request: Request,
     pub token: TokenCheck,
     pub digest: Option<[u8; 32]>,
+    pub length: u64,
 }
 
 /// What is understood of a request.
@@ -93,6 +95,15 @@ fn check_token(policy: &Policy, asked: &Asked, request: &Request) -> TokenCheck
     check_demand(policy, asked, &demand_of(request))
 }
 
+/// How many bytes the record takes of what a caller asks.
+fn length_for(policy: &Policy, asked: &Asked, caller: CallerId) -> u64
+    requires { caller < length policy.now.users }
+    ensures { result ≡ length_for (record { policy = policy.now }) asked.now caller }
+{
+    let _ = policy.tables();
+    record_length(policy.name_of(caller), asked.body.as_slice())
+}
+
 /// Understands the body of a request whose method is there.
 fn understand_body(
     alloc: Global,
@@ -110,11 +121,13 @@ fn understand_body(
         Ok(request) => {
             let token = check_token(policy, asked, &request);
             let digest = digest_for(asked, &request);
+            let length = length_for(policy, asked, caller);
             Ok(Understood::Wanted(Call {
                 caller,
                 request,
                 token,
                 digest,
+                length,
             }))
         }
         Err(fault) => Ok(Understood::Refused(bad_body(alloc, asked, &fault)?)),

@@ -18,6 +18,10 @@ use Rattle.restricted_fields.proofs.RealmFacts.{AllStood, granted_before}
 abbrev pub with_rows : World → ServiceWorld → ServiceWorld
 with_rows rows w = record w { rows = rows }
 
+-- the world whose records take so many bytes
+abbrev pub with_stored : ℕ → ServiceWorld → ServiceWorld
+with_stored stored w = record w { stored = stored }
+
 -- two worlds look alike where both have these
 abbrev pub AlikeOver : PolicyTables → ℕ → World → ServiceWorld → ServiceWorld → Type 0
 AlikeOver policy caller rows w v = LookAlike policy caller (with_rows rows w) (with_rows rows v)

@@ -7,28 +7,33 @@ use Rattle.call_forms.specs.declared.forms.Answer.{Answer}
 use Rattle.call_forms.specs.declared.forms.Refusal.{Refusal}
 use Rattle.message_forms.specs.declared.requests.Request.{Request}
 use Rattle.invocation_world.specs.World.{World}
-use Rattle.invocation_world.specs.Advancing.{Advances}
+use Rattle.invocation_world.specs.Advancing.{Advances, CarriesOut, after_deadlines}
+use Rattle.policy_tables.specs.declared.tables.PolicyTables.{PolicyTables}
 use Rattle.request_demands.specs.Settings.{Settings, caller_name}
 use Rattle.request_demands.specs.Demands.{demand_of}
 use Rattle.request_demands.specs.Numbered.{kept_at, place_kept}
 use Rattle.request_demands.specs.Alone.{Wants}
+use Rattle.request_demands.specs.Understood.{length_for}
 use Rattle.service_effects.specs.declared.effect.Effect.{Effect}
 use Rattle.service_effects.specs.declared.effect.Effect.TheVariants as does
 use Rattle.service_effects.specs.Effects.{Makes}
 use Rattle.service_effects.specs.Refused.{EffectRefused}
 use Rattle.service_effects.specs.Service.{ServiceWorld, recorded}
+use Rattle.service_effects.specs.Storing.{DoingRefused, IsStorable, bytes_of, stored_due}
+use Rattle.service_effects.proofs.StoringLaws.{nothing_storable}
 use Rattle.request_effects.specs.declared.keeping.Numbered.{Numbered}
 use Rattle.request_effects.specs.Answers.{Answers}
 use Rattle.request_effects.specs.Keeps.{kept_of, with_kept}
 use Rattle.request_effects.specs.Shows.{shows_of}
 use Rattle.service_core.specs.Service.{CatchesUp}
-use Rattle.service_core.specs.Step.{Acts, IsAccepted, IsJudgedAs, IsNew, IsRefusal, IsRefusedOf, IsRepeated, IsTold, Performs, Refuses, Step, effect_for, keep_for, performed, refused, repeated, scene_of}
+use Rattle.service_core.specs.Step.{Acts, IsAccepted, IsJudgedAs, IsNew, IsRefusal, IsRefusedOf, IsRepeated, IsTold, Performs, Refuses, Step, bytes_for, effect_for, keep_for, performed, refused, repeated, scene_of}
 use Rattle.service_core.proofs.ClearedLaws.{accepted_granted}
+use Rattle.service_core.proofs.PlanLaws.{stored_same}
 use Rattle.service_effects.proofs.RoomLaws.{same_parts}
 use Rattle.service_laws.proofs.StepLaws.{one_step}
 use Rattle.restricted_fields.specs.Alike.{LookAlike}
 use Rattle.restricted_fields.specs.Laws.{AsksReader, UnseenChangesNoAnswer}
-use Rattle.restricted_fields.proofs.BesideFacts.{AlikeOver, alike_over, alike_still, with_rows}
+use Rattle.restricted_fields.proofs.BesideFacts.{AlikeOver, alike_over, alike_still, with_rows, with_stored}
 use Rattle.restricted_fields.proofs.FoundFacts.{FindAlike, found_alike, judged_alike}
 use Rattle.restricted_fields.proofs.ReaderFacts.{Reads, asked_reads, reads_no_number, reads_nothing, reads_unnumbered}
 use Rattle.restricted_fields.proofs.RealmFacts.{AllStood, advanced_stood, all_stood, settled_stood}
@@ -52,6 +57,18 @@ not_refused : (s : Settings) (w : ServiceWorld) (moment : ℤ) (c : ℕ) (reques
 not_refused s w moment c request r reads h =
     subst (λ (e : Effect). EffectRefused (recorded w) e r) (reads_nothing (recorded w) moment (caller_name s c) request reads) h
 
+-- and nothing of it is recorded
+storable : (s : Settings) (w : ServiceWorld) (moment : ℤ) (asked : Asked) (c : ℕ) (request : Request) → Reads request
+    → IsStorable w.stored (bytes_for s w moment asked c request)
+storable s w moment asked c request reads =
+    subst (λ (e : Effect). IsStorable w.stored (bytes_of e (length_for s asked c)))
+    (sym (reads_nothing (recorded w) moment (caller_name s c) request reads)) (nothing_storable w.stored)
+
+not_doing : (s : Settings) (w : ServiceWorld) (moment : ℤ) (asked : Asked) (c : ℕ) (request : Request) (r : Refusal) → Reads request
+    → DoingRefused (recorded w) w.stored (effect_for s w moment c request) (bytes_for s w moment asked c request) r → ⊥
+not_doing s w moment asked c request r reads (inl full) = not_refused s w moment c request r reads full
+not_doing s w moment asked c request r reads (inr over) = storable s w moment asked c request reads r over.1
+
 -- ---- refusals
 
 judged_beside : (s : Settings) (rows : World) (w v : ServiceWorld) (moment : ℤ) (asked : Asked) (c : ℕ) (request : Request)
@@ -73,7 +90,7 @@ refused_of_beside : (s : Settings) (rows : World) (w v : ServiceWorld) (moment :
 refused_of_beside s rows w v moment asked c request r same reads (inl judged) =
     inl (judged_beside s rows w v moment asked c request (Some r) same reads judged)
 refused_of_beside s rows w v moment asked c request r same reads (inr full) =
-    absurd (not_refused s (with_rows rows w) moment c request r reads full.1)
+    absurd (not_doing s (with_rows rows w) moment asked c request r reads full.1)
 
 refusal_beside : (s : Settings) (rows : World) (w v : ServiceWorld) (moment : ℤ) (asked : Asked) (caller : ℕ) (r : Refusal)
     → FindAlike rows.invocations w v → AsksReader s caller asked → IsRefusal s (with_rows rows w) moment asked r
@@ -92,6 +109,7 @@ accepted_beside s rows w v moment asked c request same reads h = record {
   new = new_beside s rows w v moment asked c request reads h.new;
   judged = judged_beside s rows w v moment asked c request None same reads h.judged;
   room = λ r e. not_refused s (with_rows rows v) moment c request r reads e;
+  store = storable s (with_rows rows v) moment asked c request reads;
 }
 
 -- a request of the service that reads does nothing, and of it nothing is kept
@@ -118,6 +136,7 @@ acts_beside s rows later w v moment asked c request reads made =
       made = subst (λ (e : Effect). Makes moment e (recorded before) (recorded (with_rows later v)))
           (sym (reads_nothing (recorded before) moment (caller_name s c) request reads)) own;
       kept = sym (nothing_kept s before moment asked c request reads);
+      stored = stored_same s before moment asked c request (reads_nothing (recorded before) moment (caller_name s c) request reads);
     }
 
 -- so it leaves all but the invocations as it is
@@ -127,6 +146,7 @@ left_same s w moment asked c request after reads acts =
     let made = nothing_made s w moment c request after reads acts.made in
     same_parts after (with_rows after.rows w) refl made.results made.exonerations made.artifacts
     (acts.kept ∙ nothing_kept s w moment asked c request reads)
+    (acts.stored ∙ sym (stored_same s w moment asked c request (reads_nothing (recorded w) moment (caller_name s c) request reads)))
 
 -- ---- one step
 
@@ -201,32 +221,54 @@ told_beside s rows w v moment asked caller after answer like reader (repeated h)
 told_beside s rows w v moment asked caller after answer like reader (performed h) =
     performs_beside s rows w v moment asked caller after answer like reader h
 
--- due deadlines leave all but the invocations as it is
-caught_up_same : (w : ServiceWorld) (moment : ℤ) (between : ServiceWorld) → CatchesUp w moment between → between ≡ with_rows between.rows w
-caught_up_same w moment between up = same_parts between (with_rows between.rows w) refl up.due.results up.due.exonerations up.due.artifacts up.kept
+-- due deadlines leave all but the invocations and what is stored as it is
+caught_up_same : (w : ServiceWorld) (moment : ℤ) (between : ServiceWorld) → CatchesUp w moment between
+    → between ≡ with_rows between.rows (with_stored between.stored w)
+caught_up_same w moment between up =
+    same_parts between (with_rows between.rows (with_stored between.stored w)) refl up.due.results up.due.exonerations up.due.artifacts up.kept refl
+
+-- worlds look alike whatever is stored
+alike_stored : (policy : PolicyTables) (caller : ℕ) (rows : World) (w v : ServiceWorld) (n m : ℕ) → AlikeOver policy caller rows w v
+    → AlikeOver policy caller rows (with_stored n w) (with_stored m v)
+alike_stored policy caller rows w v n m like =
+    record { rows = refl; results = like.results; exonerations = like.exonerations; artifacts = like.artifacts }
+
+-- what is due in one world is due in the other, too
+catches_too : (moment : ℤ) (before : World) (other : ServiceWorld) (rows : World) → before ≡ other.rows → (up : Advances before moment rows)
+    → CatchesUp other moment (with_rows rows (with_stored (stored_due up.deadlines other.stored) other))
+catches_too moment before other rows same up = record {
+  due = record {
+    rows = record {
+      deadlines = up.deadlines;
+      rows = up.rows;
+      carried = subst (λ (old : World). CarriesOut old.inclusions moment old.invocations up.deadlines up.rows) same up.carried;
+      after_is = subst (λ (old : World). rows ≡ after_deadlines moment up.deadlines up.rows old) same up.after_is;
+    };
+    results = refl;
+    exonerations = refl;
+    artifacts = refl;
+  };
+  kept = refl;
+  stored = refl;
+}
 
 pub unseen_changes_no_answer : UnseenChangesNoAnswer
 unseen_changes_no_answer s caller one other moment asked after also answer told like reader step mirror =
     let rows = step.between.rows in
     let up = step.advances in
-    let near : AlikeOver s.policy caller rows one other =
-    alike_still s.policy caller one.rows rows one other (advanced_stood moment one.rows rows up.due.rows) (alike_over s.policy caller one other like) in
-    let judged : IsTold s (with_rows rows one) moment asked after answer =
+    let this = with_stored step.between.stored one in
+    let that = with_stored (stored_due up.due.rows.deadlines other.stored) other in
+    let near : AlikeOver s.policy caller rows this that =
+    alike_stored s.policy caller rows one other this.stored that.stored
+    (alike_still s.policy caller one.rows rows one other (advanced_stood moment one.rows rows up.due.rows) (alike_over s.policy caller one other like)) in
+    let judged : IsTold s (with_rows rows this) moment asked after answer =
     subst (λ (u : ServiceWorld). IsTold s u moment asked after answer) (caught_up_same one moment step.between up) step.judged in
-    let beside = told_beside s rows one other moment asked caller after answer near reader judged in
-    let catches : CatchesUp other moment (with_rows rows other) = record {
-      due = record {
-        rows = subst (λ (old : World). Advances old moment rows) like.rows up.due.rows;
-        results = refl;
-        exonerations = refl;
-        artifacts = refl;
-      };
-      kept = refl;
-    } in
-    let twin : Step s other moment asked (with_rows beside.later other) answer =
-    record { between = with_rows rows other; advances = catches; judged = beside.told } in
-    let same = one_step s other moment asked (with_rows beside.later other) answer also told twin mirror in
-    let alike : AlikeOver s.policy caller beside.later one other = alike_still s.policy caller rows beside.later one other beside.stood near in
-    let left : LookAlike s.policy caller after (with_rows beside.later other) =
-    subst (λ (u : ServiceWorld). LookAlike s.policy caller u (with_rows beside.later other)) (sym beside.left) alike in
+    let beside = told_beside s rows this that moment asked caller after answer near reader judged in
+    let catches : CatchesUp other moment (with_rows rows that) = catches_too moment one.rows other rows like.rows up.due.rows in
+    let twin : Step s other moment asked (with_rows beside.later that) answer =
+    record { between = with_rows rows that; advances = catches; judged = beside.told } in
+    let same = one_step s other moment asked (with_rows beside.later that) answer also told twin mirror in
+    let alike : AlikeOver s.policy caller beside.later this that = alike_still s.policy caller rows beside.later this that beside.stood near in
+    let left : LookAlike s.policy caller after (with_rows beside.later that) =
+    subst (λ (u : ServiceWorld). LookAlike s.policy caller u (with_rows beside.later that)) (sym beside.left) alike in
     (same.1, subst (λ (u : ServiceWorld). LookAlike s.policy caller after u) same.0 left)

@@ -21,7 +21,8 @@ AreFilesLike policy caller rows a b =
 -- Two worlds look alike to a caller under a policy: they have the same invocations and inclusions,
 -- and the same moment of the last change; and as many results, exonerations and artifacts, each of
 -- which differs from the one at its place in the other world in nothing but what the caller may not
--- see of it. What is kept of numbered requests may be anything.
+-- see of it. What is kept of numbered requests, and how many bytes their records take, may be
+-- anything.
 pub record LookAlike (policy : PolicyTables) (caller : ℕ) (one other : ServiceWorld)
     : Type 0 where
   pub rows : one.rows ≡ other.rows

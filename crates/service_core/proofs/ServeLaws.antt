@@ -1,6 +1,11 @@
 -- Calls that are judged, and due deadlines that are carried out.
 use Rattle.std.proofs.Common.{◌≡◌, ◌≢◌, ℕ, ℤ, ◌≤ℤ◌, Bool, List, Option, Some, None, refl, sym, ap, ◌∙◌, subst, inl, inr}
-use Rattle.std.specs.Prelude.{slice_get}
+use Rattle.std.specs.Prelude.{◌+◌, [], ◌∷◌, Any, slice_get}
+use Rattle.std.proofs.lemmas.Option.{slice_get-get_or}
+use Rattle.invocations.specs.Due.{IsDue}
+use Rattle.invocation_world.specs.Advancing.{AreQuiet, CarriesOut, IsDueAt, IsQuiet}
+use Rattle.invocation_world.proofs.RowFacts.{all_at}
+use Rattle.service_effects.specs.Storing.{stored_due}
 use Rattle.invocations.specs.declared.invocation.Invocation.{Invocation}
 use Rattle.request_rules.specs.Held.{Held}
 use Rattle.request_effects.specs.Places.{held_in}
@@ -12,7 +17,7 @@ use Rattle.call_forms.specs.declared.forms.Told.{Told}
 use Rattle.call_forms.specs.declared.forms.Told.TheVariants.{Made, Standin as Instead}
 use Rattle.call_forms.specs.Rules.{refusal_answer}
 use Rattle.kept_replies.specs.declared.reply.KeptReply.{KeptReply}
-use Rattle.invocation_world.specs.World.{IsCallMoment, IsValid}
+use Rattle.invocation_world.specs.World.{World, IsCallMoment, IsValid}
 use Rattle.request_demands.specs.declared.reading.Call.{Call}
 use Rattle.request_demands.specs.declared.numbers.NumberCheck.{NumberCheck}
 use Rattle.request_demands.specs.declared.numbers.NumberCheck.TheVariants.{Repeat}
@@ -34,19 +39,52 @@ use Rattle.service_core.specs.CoreState.{CoreState, PlanState, world_in}
 use Rattle.service_core.specs.Plans.{Carries, Works}
 use Rattle.service_effects.specs.Service.{ServiceWorld, recorded}
 use Rattle.service_effects.specs.States.{recorded_in}
-use Rattle.service_core.specs.Service.{CatchesUp}
+use Rattle.service_core.specs.Service.{CarriesDue, CatchesUp}
 use Rattle.service_core.specs.Step.{IsJudgedAs, IsNew, Refuses, Repeats, moment_of, scene_of}
 use Rattle.service_core.specs.Judged.{IsAnswered}
 use Rattle.service_core.specs.History.{Entry, Leads, Tells, entry_at}
 use Rattle.service_core.proofs.HistoryLaws.{advanced_timely}
 
+-- nothing is quiet where something is due
+pub never_quiet : (rows : List Invocation) (moment : ℤ) → AreQuiet rows moment → Any (IsDue moment) rows → ⊥
+never_quiet rows moment quiet due =
+    all_at (λ r. ¬ IsDue moment r) rows due.0 due.1 quiet
+    (slice_get-get_or rows due.0 due.1 due.2 ∙ ap (λ (r : Invocation). Some r) due.3) due.4
+
+-- where nothing is due nothing is carried out
+pub quiet_caught : (w : ServiceWorld) (moment : ℤ) → IsQuiet w.rows moment → CatchesUp w moment w
+quiet_caught w moment quiet = record {
+  due = record {
+    rows = record { deadlines = []; rows = w.rows.invocations; carried = (quiet, refl); after_is = refl };
+    results = refl;
+    exonerations = refl;
+    artifacts = refl;
+  };
+  kept = refl;
+  stored = refl;
+}
+
+-- what is due is recorded by one tick
+stored_by : (w : World) (after : List Invocation) (moment : ℤ) (deadlines : List ℤ) (stored : ℕ)
+    → CarriesOut w.inclusions moment w.invocations deadlines after → IsDueAt w moment → stored_due deadlines stored ≡ stored + 14
+stored_by w after moment [] stored carried due = absurd (never_quiet w.invocations moment carried.0 due)
+stored_by w after moment (deadline ∷ later) stored carried due = refl
+
 -- due deadlines that were carried out by a plan that keeps nothing
 pub ticked : (old new : CoreState) (plan : PlanState) (after : ServiceWorld) (moment : ℤ) → new ≡ old → plan.work ≡ Tick moment
-    → plan.keep ≡ None → Carries (world_in new) plan after → CatchesUp (world_in old) moment after
-ticked old new plan after moment same is none carries =
+    → plan.keep ≡ None → plan.length ≡ 14 → IsDueAt old.held.world.world moment → Carries (world_in new) plan after
+    → CatchesUp (world_in old) moment after
+ticked old new plan after moment same is none length due carries =
+    let made : CarriesDue (recorded_in new.held) moment (recorded after) =
+    subst (λ (x : Work). Works (recorded_in new.held) x (recorded after)) is carries.made in
+    let rows = new.held.world.world in
     subst (λ (core : CoreState). CatchesUp (world_in core) moment after) same (record {
-      due = subst (λ (x : Work). Works (recorded_in new.held) x (recorded after)) is carries.made;
+      due = made;
       kept = carries.kept ∙ ap (with_kept new.keeps.kept) none;
+      stored = carries.stored
+          ∙ (ap (λ (n : ℕ). new.stored + n) length
+          ∙ sym (stored_by rows made.rows.rows moment made.rows.deadlines new.stored made.rows.carried
+          (subst (λ (core : CoreState). IsDueAt core.held.world.world moment) (sym same) due)));
     })
 
 pub caught_up : (old : CoreState) (after : ServiceWorld) (moment : ℤ) → IsValid old.held.world.world → IsCallMoment moment

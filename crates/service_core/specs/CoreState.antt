@@ -8,11 +8,12 @@ use Rattle.service_effects.specs.Service.{ServiceWorld}
 use Rattle.service_effects.specs.States as tables
 use Rattle.service_core.specs.declared.plan.Work.{Work}
 
--- A core: the parts of its world, each with its room, and how many changes were made in it, counted
--- as far as the count goes.
+-- A core: the parts of its world, each with its room, how many bytes the records take that made it,
+-- and how many changes were made in it, counted as far as the count goes.
 pub record CoreState : Type 0 where
   pub held : Tables
   pub keeps : KeptState
+  pub stored : ℕ
   pub changes : ℕ
 
 abbrev pub world_in : CoreState → ServiceWorld
@@ -22,6 +23,7 @@ world_in core = record {
   exonerations = core.held.exonerations.rows;
   artifacts = core.held.artifacts.rows;
   kept = core.keeps.kept;
+  stored = core.stored;
 }
 
 -- one change more
@@ -33,12 +35,15 @@ pub record IsRoomier (before after : CoreState) : Type 0 where
   pub held : tables.IsRoomier before.held after.held
   pub kept : after.keeps.kept ≡ before.keeps.kept
   pub room : before.keeps.room ≤ after.keeps.room
+  pub stored : after.stored ≡ before.stored
   pub changes : after.changes ≡ before.changes
 
--- A plan: what is to be done, what is to be kept, the answer that it gives, and how many changes
--- there were when it was made. The plan that carries out due deadlines gives no answer.
+-- A plan: what is to be done, what is to be kept, the answer that it gives, how many bytes its
+-- record takes, and how many changes there were when it was made. The plan that carries out due
+-- deadlines gives no answer.
 pub record PlanState : Type 0 where
   pub work : Work
   pub keep : Option KeptReply
   pub answer : Option Answer
+  pub length : ℕ
   pub made_at : ℕ

@@ -1,5 +1,5 @@
 -- What a request is prepared to.
-use Rattle.std.specs.Prelude.{⊤, ◌≡◌, ◌≢◌, ◌<◌, ℕ, ℤ, ◌≤ℤ◌, Option, Some, None}
+use Rattle.std.specs.Prelude.{⊤, ◌≡◌, ◌≢◌, ◌<◌, ℕ, ◌+◌, ◌^◌, ℤ, ◌≤ℤ◌, Option, Some, None}
 use Rattle.kept_replies.specs.declared.reply.KeptReply.{KeptReply}
 use Rattle.kept_replies.specs.Kept.{IsFree, IsWord, KeptState}
 use Rattle.call_forms.specs.declared.forms.Answer.{Answer}
@@ -32,6 +32,7 @@ Works w (Change change) after = Makes change.moment change.effect w after
 pub record Carries (w : ServiceWorld) (plan : PlanState) (after : ServiceWorld) : Type 0 where
   pub made : Works (recorded w) plan.work (recorded after)
   pub kept : after.kept ≡ with_kept w.kept plan.keep
+  pub stored : after.stored ≡ w.stored + plan.length
 
 -- It can be done in the tables that are held, without memory.
 abbrev pub CanDo : Tables → Work → Type 0
@@ -44,11 +45,13 @@ CanKeep keeps None = ⊤
 CanKeep keeps (Some reply) =
     (0 < keeps.room) × IsWord reply.number × IsFree keeps.kept reply.caller reply.number
 
--- The plan was made for this core: no change was made since, and it can be done.
+-- The plan was made for this core: no change was made since, and it can be done. What the records
+-- take is counted in 64 bits.
 pub record Fits (core : CoreState) (plan : PlanState) : Type 0 where
   pub made : plan.made_at ≡ core.changes
   pub can : CanDo core.held plan.work
   pub keep : CanKeep core.keeps plan.keep
+  pub counted : core.stored + plan.length < 2 ^ 64
 
 -- The plan does what a caller asks for and is granted, and gives the reply to it. It changes the
 -- world: what changes nothing is answered and not planned.

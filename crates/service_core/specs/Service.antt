@@ -3,6 +3,7 @@ use Rattle.std.specs.Prelude.{◌≡◌, ℤ}
 use Rattle.invocation_world.specs.Advancing.{Advances}
 use Rattle.request_demands.specs.Settings.{Settings}
 use Rattle.service_effects.specs.Service.{Recorded, ServiceWorld, recorded}
+use Rattle.service_effects.specs.Storing.{stored_due}
 
 -- A service: what it is set up with, and its world.
 pub record Service : Type 0 where
@@ -23,3 +24,4 @@ pub record CarriesDue (w : Recorded) (moment : ℤ) (after : Recorded) : Type 0 
 pub record CatchesUp (w : ServiceWorld) (moment : ℤ) (after : ServiceWorld) : Type 0 where
   pub due : CarriesDue (recorded w) moment (recorded after)
   pub kept : after.kept ≡ w.kept
+  pub stored : after.stored ≡ stored_due due.rows.deadlines w.stored

@@ -1,5 +1,5 @@
 -- What the service does with one request.
-use Rattle.std.specs.Prelude.{◌≡◌, ◌⊎◌, ℕ, ℤ, pos, Option, Some, None}
+use Rattle.std.specs.Prelude.{◌≡◌, ◌⊎◌, ℕ, ◌+◌, ℤ, pos, Option, Some, None}
 use Rattle.std.specs.Int.{int_min, int_max}
 use Rattle.kept_replies.specs.declared.reply.KeptReply.{KeptReply}
 use Rattle.call_forms.specs.declared.asked.Asked.{Asked}
@@ -13,6 +13,7 @@ use Rattle.request_demands.specs.Demands.{demand_of}
 use Rattle.request_demands.specs.Order.{IsUnbroken, Judges}
 use Rattle.request_rules.specs.Broken.{Case, IsBroken, IsRepeat, order}
 use Rattle.request_demands.specs.Alone.{IsRefusedAlone, Wants}
+use Rattle.request_demands.specs.Understood.{length_for}
 use Rattle.service_effects.specs.declared.effect.Effect.{Effect}
 use Rattle.service_effects.specs.Effects.{Makes}
 use Rattle.request_effects.specs.Effects.{effect_of}
@@ -20,6 +21,7 @@ use Rattle.request_effects.specs.Places.{held_in}
 use Rattle.request_effects.specs.Keeps.{kept_answer, kept_of, numbered_of, with_kept}
 use Rattle.service_effects.specs.Refused.{EffectRefused}
 use Rattle.service_effects.specs.Service.{ServiceWorld, recorded}
+use Rattle.service_effects.specs.Storing.{DoingRefused, IsStorable, bytes_of}
 use Rattle.request_effects.specs.Answers.{Answers}
 use Rattle.request_effects.specs.Shows.{Scene, shows_of}
 use Rattle.service_core.specs.Service.{CatchesUp}
@@ -68,14 +70,20 @@ keep_for s w moment asked caller request =
     kept_of (recorded w) (caller_name s caller) (numbered_of asked (demand_of request))
     (effect_for s w moment caller request)
 
+-- how many bytes its record takes
+abbrev pub bytes_for : Settings → ServiceWorld → ℤ → Asked → ℕ → Request → ℕ
+bytes_for s w moment asked caller request =
+    bytes_of (effect_for s w moment caller request) (length_for s asked caller)
+
 -- What a caller wants is refused: by the first rule that it breaks of those for what is demanded,
--- and where it breaks none, by the first of those for what it does: a batch that can't come in, or
--- a table that is full.
+-- and where it breaks none, by the first of those for what it does: a batch that can't come in, a
+-- table that is full, or a journal that is.
 abbrev pub IsRefusedOf : Settings → ServiceWorld → ℤ → Asked → ℕ → Request → Refusal → Type 0
 IsRefusedOf s w moment asked caller request r =
     IsJudgedAs s w moment asked caller request (Some r)
     ⊎ (IsJudgedAs s w moment asked caller request None
-    × EffectRefused (recorded w) (effect_for s w moment caller request) r)
+    × DoingRefused (recorded w) w.stored (effect_for s w moment caller request)
+    (bytes_for s w moment asked caller request) r)
 
 -- This caller asks for this, and it is no repeat, of which no further rule is asked.
 pub record IsNew (s : Settings) (w : ServiceWorld) (moment : ℤ) (asked : Asked) (caller : ℕ)
@@ -98,14 +106,16 @@ pub record IsAccepted (s : Settings) (w : ServiceWorld) (moment : ℤ) (asked : 
   pub judged : IsJudgedAs s w moment asked caller request None
   pub room : IsUnbroken
       (EffectRefused (recorded w) (effect_for s w moment caller request))
+  pub store : IsStorable w.stored (bytes_for s w moment asked caller request)
 
--- An accepted request is acted on: what it does is done, and what is kept of it stands behind what
--- was kept before.
+-- An accepted request is acted on: what it does is done, what is kept of it stands behind what was
+-- kept before, and its record takes its bytes.
 pub record Acts (s : Settings) (w : ServiceWorld) (moment : ℤ) (asked : Asked) (caller : ℕ)
     (request : Request) (after : ServiceWorld) : Type 0 where
   pub made : Makes moment (effect_for s w moment caller request) (recorded w)
       (recorded after)
   pub kept : after.kept ≡ with_kept w.kept (keep_for s w moment asked caller request)
+  pub stored : after.stored ≡ w.stored + bytes_for s w moment asked caller request
 
 -- where the reply to a request is shown
 abbrev pub scene_of : Settings → ServiceWorld → Scene

@@ -9,5 +9,5 @@ mod serving;
 
 pub use counting::Counts;
 pub use laws::{timed_goes_on, timed_is_legal};
-pub use plan::{Plan, Prepared, Work};
+pub use plan::{CallRecord, Plan, Prepared, Work};
 pub use serving::Core;

@@ -4,6 +4,7 @@ ghost use Rattle.std.specs.Prelude.{◌≡◌};
 use call_forms::Answer;
 use kept_replies::Ready;
 use names_realms::Moment;
+use request_effects::Numbered;
 use service_effects::Change;
 use std::marker::Model;
 
@@ -16,14 +17,23 @@ pub enum Work {
     Change(Change),
 }
 
-/// What is ready to be done and to be kept, and the answer that it gives, where it answers a
-/// request.
+/// What is ready to be done and to be kept, the answer that it gives, where it answers a request,
+/// and how many bytes its record takes.
 #[derive(Drop)]
 pub struct Plan {
     work: Work,
     keep: Option<Ready>,
     answer: Option<Answer>,
+    length: u64,
     made_at: u64,
+}
+
+/// What the record of a call says beside its request: the number of the request, if it has one, and
+/// how many bytes the record takes.
+#[derive(Drop)]
+pub struct CallRecord {
+    pub numbered: Option<Numbered>,
+    pub length: u64,
 }
 
 impl Model for Plan {
@@ -35,23 +45,43 @@ impl Model for Plan {
       work = p.work;
       keep = p.keep;
       answer = p.answer;
+      length = p.length;
       made_at = p.made_at;
     } };
 }
 
 impl Plan {
-    /// The plan of what is to be done and to be kept, with its answer, made after this many
-    /// changes.
-    pub(crate) fn new(work: Work, keep: Option<Ready>, answer: Option<Answer>, made_at: u64) -> Plan
-        ensures { result ≡
-            record { work = work; keep = keep; answer = answer; made_at = made_at } }
+    /// The plan of what is to be done and to be kept, with its answer, and with a record of so many
+    /// bytes, made after this many changes.
+    pub(crate) fn new(
+        work: Work,
+        keep: Option<Ready>,
+        answer: Option<Answer>,
+        length: u64,
+        made_at: u64,
+    ) -> Plan
+        ensures { result ≡ record {
+          work = work;
+          keep = keep;
+          answer = answer;
+          length = length;
+          made_at = made_at;
+        } }
     {
         Plan {
             work,
             keep,
             answer,
+            length,
             made_at,
         }
+    }
+
+    /// How many bytes its record takes.
+    pub(crate) fn length(&self) -> u64
+        ensures { result ≡ self.now.length }
+    {
+        self.length
     }
 
     /// What is to be done and to be kept, and the answer.

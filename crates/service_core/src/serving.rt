@@ -27,9 +27,8 @@ use call_forms::{Answer, Standin, Told};
 use invocations::Invocation;
 use kept_replies::{KeptReplies, Ready};
 use names_realms::Moment;
-use permissions::Policy;
 use request_demands::{Call, NumberCheck, Understood, check_number};
-use request_effects::show_kept;
+use request_effects::{Policy, show_kept};
 use request_rules::{Located, Rule, Situation, holdings_for};
 use service_effects::{Tables, carry_out};
 use std::alloc::{AllocError, Global};
@@ -38,12 +37,16 @@ use std::marker::Model;
 /// 9999-01-01T00:00:00Z
 const LATEST_CALL: i64 = 253_370_764_800_000_000;
 
+/// How many bytes the record of due deadlines takes.
+const TICK_LENGTH: u64 = 14;
+
 /// All that the service holds. The policy stands beside it: what depends on policy and request
 /// alone is understood before, by as many callers at once as there are.
 #[derive(Drop)]
 pub struct Core {
     pub(crate) tables: Tables,
     pub(crate) kept: KeptReplies,
+    pub(crate) stored: u64,
     pub(crate) changes: u64,
 }
 
@@ -60,7 +63,12 @@ impl Model for Core {
 
     ghost Value = { CoreState };
 
-    ghost view = { λ c. record { held = c.tables; keeps = c.kept; changes = c.changes } };
+    ghost view = { λ c. record {
+      held = c.tables;
+      keeps = c.kept;
+      stored = c.stored;
+      changes = c.changes;
+    } };
 }
 
 impl Core {
@@ -73,6 +81,7 @@ impl Core {
         Ok(Core {
             tables,
             kept,
+            stored: 0,
             changes: 0,
         })
     }
@@ -128,10 +137,15 @@ impl Core {
         ensures work { IfOk result (λ plan. plan.work ≡ Work.Tick moment) }
         ensures keep { IfOk result (λ plan. plan.keep ≡ None) }
         ensures answer { IfOk result (λ plan. plan.answer ≡ None) }
+        ensures length { IfOk result (λ plan. plan.length ≡ 14) }
         ensures fits { IfOk result (Fits self.new) }
     {
         let _ = alloc;
-        Ok(Plan::new(Work::Tick(moment), None, None, self.changes))
+        if self.stored > u64::MAX - TICK_LENGTH {
+            return Err(AllocError);
+        }
+        let work = Work::Tick(moment);
+        Ok(Plan::new(work, None, None, TICK_LENGTH, self.changes))
     }
 
     /// The answer that refuses a call at this moment, where it breaks a rule for what is demanded.
@@ -306,6 +320,7 @@ impl Core {
         requires { CanDo self.old.held work }
         ensures made { Works (recorded_in self.old.held) work (recorded_in self.new.held) }
         ensures keeps { self.new.keeps ≡ self.old.keeps }
+        ensures stored { self.new.stored ≡ self.old.stored }
         ensures changes { self.new.changes ≡ self.old.changes }
     {
         match work {
@@ -319,6 +334,7 @@ impl Core {
         requires { CanKeep self.old.keeps keep }
         ensures kept { self.new.keeps.kept ≡ with_kept self.old.keeps.kept keep }
         ensures held { self.new.held ≡ self.old.held }
+        ensures stored { self.new.stored ≡ self.old.stored }
         ensures changes { self.new.changes ≡ self.old.changes }
     {
         if let Some(ready) = keep {
@@ -334,9 +350,11 @@ impl Core {
         ensures changes { self.new.changes ≡ more_changes self.old.changes }
         ensures answer { result ≡ plan.answer }
     {
+        let length = plan.length();
         let (work, keep, answer) = plan.into_parts();
         self.work(work);
         self.keep(keep);
+        self.stored += length;
         self.changes = self.changes.saturating_add(1);
         answer
     }

@@ -6,3 +6,4 @@ pub mod BatchFacts
 pub mod SoundLaws
 pub mod FileFacts
 pub mod RoomLaws
+pub mod StoringLaws

@@ -17,18 +17,25 @@ use Rattle.service_effects.specs.Service.{Recorded, ServiceWorld}
 use Rattle.service_effects.specs.States.{IsRoomier, recorded_in}
 
 -- worlds with the same parts
-abbrev world_with : World → List TestResult → List TestExoneration → List Artifact → List KeptReply → ServiceWorld
-world_with rows results exonerations artifacts kept =
-    record { rows = rows; results = results; exonerations = exonerations; artifacts = artifacts; kept = kept }
+abbrev world_with : World → List TestResult → List TestExoneration → List Artifact → List KeptReply → ℕ → ServiceWorld
+world_with rows results exonerations artifacts kept stored = record {
+  rows = rows;
+  results = results;
+  exonerations = exonerations;
+  artifacts = artifacts;
+  kept = kept;
+  stored = stored;
+}
 
 pub same_parts : (v x : ServiceWorld) → v.rows ≡ x.rows → v.results ≡ x.results → v.exonerations ≡ x.exonerations
-    → v.artifacts ≡ x.artifacts → v.kept ≡ x.kept → v ≡ x
-same_parts v x rows results exonerations artifacts kept =
-    ap (λ (p : World). world_with p v.results v.exonerations v.artifacts v.kept) rows
-    ∙ (ap (λ (p : List TestResult). world_with x.rows p v.exonerations v.artifacts v.kept) results
-    ∙ (ap (λ (p : List TestExoneration). world_with x.rows x.results p v.artifacts v.kept) exonerations
-    ∙ (ap (λ (p : List Artifact). world_with x.rows x.results x.exonerations p v.kept) artifacts
-    ∙ ap (world_with x.rows x.results x.exonerations x.artifacts) kept)))
+    → v.artifacts ≡ x.artifacts → v.kept ≡ x.kept → v.stored ≡ x.stored → v ≡ x
+same_parts v x rows results exonerations artifacts kept stored =
+    ap (λ (p : World). world_with p v.results v.exonerations v.artifacts v.kept v.stored) rows
+    ∙ (ap (λ (p : List TestResult). world_with x.rows p v.exonerations v.artifacts v.kept v.stored) results
+    ∙ (ap (λ (p : List TestExoneration). world_with x.rows x.results p v.artifacts v.kept v.stored) exonerations
+    ∙ (ap (λ (p : List Artifact). world_with x.rows x.results x.exonerations p v.kept v.stored) artifacts
+    ∙ (ap (λ (p : List KeptReply). world_with x.rows x.results x.exonerations x.artifacts p v.stored) kept
+    ∙ ap (world_with x.rows x.results x.exonerations x.artifacts x.kept) stored))))
 
 -- tables have the room that they have
 pub roomier_tables : (t : Tables) → IsRoomier t t

@@ -5,3 +5,4 @@ pub mod Fitting
 pub mod Refused
 pub mod Planned
 pub mod Laws
+pub mod Storing

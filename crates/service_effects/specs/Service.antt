@@ -10,13 +10,15 @@ use Rattle.test_results.specs.Results as results
 use Rattle.invocation_world.specs.World.{World, IsValid, empty_world}
 
 -- The invocations with their inclusions and the moment of the last change; and the test results,
--- the exonerations, the artifacts and what is kept of numbered requests, each in order of arrival.
+-- the exonerations, the artifacts and what is kept of numbered requests, each in order of arrival;
+-- and how many bytes the records take that made it.
 pub record ServiceWorld : Type 0 where
   pub rows : World
   pub results : List TestResult
   pub exonerations : List TestExoneration
   pub artifacts : List Artifact
   pub kept : List KeptReply
+  pub stored : ℕ
 
 abbrev pub empty_service : ServiceWorld
 empty_service = record {
@@ -25,6 +27,7 @@ empty_service = record {
   exonerations = [];
   artifacts = [];
   kept = [];
+  stored = 0;
 }
 
 -- What is recorded: the parts that requests are about.

@@ -68,7 +68,7 @@ pub enum EffectFault {
 }
 
 /// The refusal by a rule with this number.
-fn refusal(rule: u8, subject: Vec<u8>) -> Refusal
+pub(crate) fn refusal(rule: u8, subject: Vec<u8>) -> Refusal
     ensures { result ≡ record { rule = rule; subject = subject.items } }
 {
     Refusal {

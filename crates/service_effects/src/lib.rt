@@ -8,6 +8,7 @@ mod effect;
 mod faults;
 mod laws;
 mod names;
+mod storing;
 mod tables;
 
 pub use artifact_batches::plan_artifacts;
@@ -16,4 +17,5 @@ pub use doing::carry_out;
 pub use effect::{Change, Effect, Planned};
 pub use faults::{EffectFault, FullTable};
 pub use laws::{effects_are_changes, effects_keep_valid};
+pub use storing::StoreFull;
 pub use tables::Tables;

@@ -13,3 +13,4 @@ pub mod FinalLaws
 pub mod FinalityLaws
 pub mod OnceLaws
 pub mod ShownLaws
+pub mod TickLaws

@@ -20,9 +20,9 @@ use Rattle.request_effects.specs.Answers.{Answers}
 use Rattle.request_effects.specs.Shows.{shows_of}
 use Rattle.request_effects.proofs.AnswerLaws.{one_answer}
 use Rattle.service_effects.proofs.EffectLaws.{one_settling}
-use Rattle.service_effects.proofs.RefusedLaws.{one_refusal as one_of_effect}
+use Rattle.service_effects.proofs.StoringLaws.{one_doing}
 use Rattle.service_effects.specs.Service.{ServiceWorld, recorded}
-use Rattle.service_core.specs.Step.{Acts, IsAccepted, IsJudgedAs, IsNew, IsRefusal, IsRefusedOf, IsRepeated, IsTold, Performs, Refuses, Repeats, case_in, effect_for, performed, refused, repeated, scene_of}
+use Rattle.service_core.specs.Step.{Acts, IsAccepted, IsJudgedAs, IsNew, IsRefusal, IsRefusedOf, IsRepeated, IsTold, Performs, Refuses, Repeats, bytes_for, case_in, effect_for, performed, refused, repeated, scene_of}
 use Rattle.service_effects.proofs.RoomLaws.{same_parts}
 use Rattle.service_core.proofs.UniqueLaws.{one_between}
 use Rattle.service_laws.specs.Laws.{StepsAreUnique}
@@ -42,7 +42,7 @@ one_of_wanted s w moment asked caller request r p (inl this) (inr that) =
 one_of_wanted s w moment asked caller request r p (inr this) (inl that) =
     let no : Some p ≡ None = one_judged_as s w moment asked caller request (Some p) None that this.0 in absurd cc
 one_of_wanted s w moment asked caller request r p (inr this) (inr that) =
-    one_of_effect (recorded w) (effect_for s w moment caller request) r p this.1 that.1
+    one_doing (recorded w) w.stored (effect_for s w moment caller request) (bytes_for s w moment asked caller request) r p this.1 that.1
 
 one_refusal : (s : Settings) (w : ServiceWorld) (moment : ℤ) (asked : Asked) (r p : Refusal) → IsRefusal s w moment asked r
     → IsRefusal s w moment asked p → r ≡ p
@@ -61,7 +61,8 @@ never_refused_of : (s : Settings) (w : ServiceWorld) (moment : ℤ) (asked : Ask
     → IsAccepted s w moment asked caller request → IsRefusedOf s w moment asked caller request r → ⊥
 never_refused_of s w moment asked caller request r accepted (inl is) =
     let no : Some r ≡ None = one_judged_as s w moment asked caller request (Some r) None is accepted.judged in cc
-never_refused_of s w moment asked caller request r accepted (inr is) = accepted.room r is.1
+never_refused_of s w moment asked caller request r accepted (inr is) =
+    elim is.1 [ inl full ↦ accepted.room r full | inr over ↦ accepted.store r over.1 ]
 
 never_refused : (s : Settings) (w : ServiceWorld) (moment : ℤ) (asked : Asked) (caller : ℕ) (request : Request) (r : Refusal)
     → IsAccepted s w moment asked caller request → IsRefusal s w moment asked r → ⊥
@@ -119,7 +120,8 @@ one_performed s w moment asked v r x q this that =
     (subst (λ (p : Request). Acts s w moment asked this.caller p v) request this.acts) in
     let rows : v.rows ≡ x.rows = one_settling moment (with_effect moment (effect_for s w moment that.caller that.request) w.rows) v.rows x.rows acts.made.rows that.acts.made.rows in
     let same : v ≡ x = same_parts v x rows (acts.made.results ∙ sym that.acts.made.results)
-    (acts.made.exonerations ∙ sym that.acts.made.exonerations) (acts.made.artifacts ∙ sym that.acts.made.artifacts) (acts.kept ∙ sym that.acts.kept) in (
+    (acts.made.exonerations ∙ sym that.acts.made.exonerations) (acts.made.artifacts ∙ sym that.acts.made.artifacts) (acts.kept ∙ sym that.acts.kept)
+    (acts.stored ∙ sym that.acts.stored) in (
       same,
       one_answer (scene_of s x) that.caller (shows_of (recorded w) that.request) r q
           (subst (λ (c : ℕ). Answers (scene_of s x) c (shows_of (recorded w) that.request) r) caller

@@ -1,5 +1,5 @@
 -- Each request has a step in each world.
-use Rattle.std.proofs.Common.{ℕ, ℤ, Option, Some, None, inl, inr, refl}
+use Rattle.std.proofs.Common.{ℕ, ◌+◌, ℤ, Option, Some, None, inl, inr, refl}
 use Rattle.call_forms.specs.declared.asked.Asked.{Asked}
 use Rattle.call_forms.specs.declared.forms.Refusal.{Refusal}
 use Rattle.call_forms.specs.Rules.{refusal_answer}
@@ -17,9 +17,11 @@ use Rattle.service_effects.specs.Service.{ServiceWorld, recorded}
 use Rattle.request_effects.specs.Keeps.{kept_answer, with_kept}
 use Rattle.request_effects.specs.Shows.{shows_of}
 use Rattle.request_effects.proofs.AnswerLaws.{answer_there}
+use Rattle.service_effects.specs.Storing.{IsStorable, stored_due}
 use Rattle.service_effects.proofs.RefusedLaws.{refused_or_not}
+use Rattle.service_effects.proofs.StoringLaws.{stored_or_not}
 use Rattle.service_core.specs.Service.{CatchesUp}
-use Rattle.service_core.specs.Step.{IsJudgedAs, IsNew, IsRefusal, IsRepeated, effect_for, keep_for, performed, refused, repeated, scene_of}
+use Rattle.service_core.specs.Step.{IsJudgedAs, IsNew, IsRefusal, IsRepeated, bytes_for, effect_for, keep_for, performed, refused, repeated, scene_of}
 use Rattle.service_laws.specs.Laws.{HasStep, HasSteps}
 use Rattle.service_laws.proofs.DecideLaws.{judged_as, repeated_or_fresh}
 
@@ -59,8 +61,8 @@ repeated_there s w moment asked between caller request reply advances wants agai
 performed_there : (s : Settings) (w : ServiceWorld) (moment : ℤ) (asked : Asked) (between : ServiceWorld) (caller : ℕ) (request : Request)
     → CatchesUp w moment between → IsNew s between moment asked caller request
     → IsJudgedAs s between moment asked caller request None → IsUnbroken (EffectRefused (recorded between) (effect_for s between moment caller request))
-    → HasStep s w moment asked
-performed_there s w moment asked between caller request advances new judged room =
+    → IsStorable between.stored (bytes_for s between moment asked caller request) → HasStep s w moment asked
+performed_there s w moment asked between caller request advances new judged room store =
     let effect : Effect = effect_for s between moment caller request in
     let settled = settling_there moment (with_effect moment effect between.rows) in
     let after : ServiceWorld = record {
@@ -69,6 +71,7 @@ performed_there s w moment asked between caller request advances new judged room
       exonerations = exonerations_after effect between.exonerations;
       artifacts = artifacts_after effect between.artifacts;
       kept = with_kept between.kept (keep_for s between moment asked caller request);
+      stored = between.stored + bytes_for s between moment asked caller request;
     } in
     let shown = answer_there (scene_of s after) caller (shows_of (recorded between) request) in
     record {
@@ -80,8 +83,12 @@ performed_there s w moment asked between caller request advances new judged room
         judged = performed (record {
           caller = caller;
           request = request;
-          accepted = record { new = new; judged = judged; room = room };
-          acts = record { made = record { rows = settled.1; results = refl; exonerations = refl; artifacts = refl }; kept = refl };
+          accepted = record { new = new; judged = judged; room = room; store = store };
+          acts = record {
+            made = record { rows = settled.1; results = refl; exonerations = refl; artifacts = refl };
+            kept = refl;
+            stored = refl;
+          };
           answers = shown.1;
         });
       };
@@ -94,8 +101,11 @@ judged_there s w moment asked between caller request (Some r) advances new judge
     refused_there s w moment asked between r advances (inr (caller, request, new, inl judged))
 judged_there s w moment asked between caller request None advances new judged =
     elim (refused_or_not (recorded between) (effect_for s between moment caller request)) [
-      | inl full ↦ refused_there s w moment asked between full.0 advances (inr (caller, request, new, inr (judged, full.1)))
-      | inr room ↦ performed_there s w moment asked between caller request advances new judged room
+      | inl full ↦ refused_there s w moment asked between full.0 advances (inr (caller, request, new, inr (judged, inl full.1)))
+      | inr room ↦ elim (stored_or_not between.stored (bytes_for s between moment asked caller request)) [
+        | inl over ↦ refused_there s w moment asked between over.0 advances (inr (caller, request, new, inr (judged, inr (room, over.1))))
+        | inr store ↦ performed_there s w moment asked between caller request advances new judged room store
+      ]
     ]
 
 wanted_there : (s : Settings) (w : ServiceWorld) (moment : ℤ) (asked : Asked) (between : ServiceWorld) (caller : ℕ) (request : Request)
@@ -111,10 +121,16 @@ wanted_there s w moment asked between caller request advances wants =
 pub step_there : HasSteps
 step_there s w moment asked =
     let due = advance_there moment w.rows in
-    let between : ServiceWorld =
-    record { rows = due.0; results = w.results; exonerations = w.exonerations; artifacts = w.artifacts; kept = w.kept } in
+    let between : ServiceWorld = record {
+      rows = due.0;
+      results = w.results;
+      exonerations = w.exonerations;
+      artifacts = w.artifacts;
+      kept = w.kept;
+      stored = stored_due due.1.deadlines w.stored;
+    } in
     let advances : CatchesUp w moment between =
-    record { due = record { rows = due.1; results = refl; exonerations = refl; artifacts = refl }; kept = refl } in
+    record { due = record { rows = due.1; results = refl; exonerations = refl; artifacts = refl }; kept = refl; stored = refl } in
     elim (said s asked) [
       | inl h ↦ refused_there s w moment asked between h.0 advances (inl h.1)
       | inr h ↦ wanted_there s w moment asked between h.0 h.1 advances h.2

@@ -1,12 +1,12 @@
 -- Laws of steps and histories.
-use Rattle.std.specs.Prelude.{◌≡◌, ◌⊎◌, ℕ, ℤ, List, [], ◌∷◌, ◌++◌, Contains, Some, length, slice_get}
+use Rattle.std.specs.Prelude.{◌≡◌, ◌⊎◌, ℕ, ◌+◌, ◌*◌, ◌^◌, ◌<◌, ℤ, List, [], ◌∷◌, ◌++◌, Contains, Some, length, slice_get}
 use Rattle.artifacts.specs.declared.artifact.Artifact.{Artifact}
 use Rattle.artifacts.specs.Artifacts as artifacts
 use Rattle.call_forms.specs.declared.asked.Asked.{Asked}
 use Rattle.call_forms.specs.declared.forms.Answer.{Answer}
 use Rattle.names_realms.specs.declared.states.State.TheVariants.{Finalized}
 use Rattle.invocations.specs.declared.invocation.Invocation.{Invocation}
-use Rattle.invocations.specs.Rows.{IsInState}
+use Rattle.invocations.specs.Rows.{IsInState, states_of}
 use Rattle.test_results.specs.declared.exoneration.TestExoneration.{TestExoneration}
 use Rattle.test_results.specs.declared.result.TestResult.{TestResult}
 use Rattle.test_results.specs.Exonerations as exonerations
@@ -29,6 +29,8 @@ use Rattle.message_forms.specs.declared.requests.Request.{Request}
 use Rattle.invocation_world.specs.World.{World}
 use Rattle.invocation_world.specs.World as worlds
 use Rattle.invocation_world.specs.Laws.{KeepsFinal}
+use Rattle.invocation_world.specs.Turns.{active_count}
+use Rattle.recorded_calls.specs.Commands.{tick_length}
 use Rattle.service_laws.specs.Finality.{AllInTime}
 use Rattle.service_core.specs.Service.{CatchesUp}
 use Rattle.service_laws.specs.Validity.{IsValid}
@@ -71,6 +73,13 @@ pub record IsSameInvocation (row later : Invocation) : Type 0 where
   pub realm : later.realm ≡ row.realm
   pub creator : later.creator ≡ row.creator
   pub created : later.created ≡ row.created
+
+-- There is always place for the records of due deadlines: in each history from the empty world,
+-- with a record more for each active invocation, the records stay below 2^30 bytes.
+abbrev pub TicksFit : Type 0
+TicksFit =
+    (s : Settings) (h : List Entry) (v : ServiceWorld) → HasNames s → IsLegal s empty_service h v
+    → v.stored + tick_length * active_count (states_of v.rows.invocations) < 2 ^ 30
 
 -- A history takes no invocation away: each stands at its place, the same one.
 abbrev pub RowsStay : Type 0

@@ -1,7 +1,7 @@
 //! Laws of steps and histories. These functions do nothing: what each of them ensures is the law.
 ghost use Rattle.service_laws.specs.Laws.{ArtifactsStay, EmptyIsValid, ExonerationsStay, FinalInTime, FinalStays};
 ghost use Rattle.service_laws.specs.Laws.{FirstIsKept, HasSteps, KeptStays, LegalKeepsValid, NumbersActOnce, ResultsStay, RowsStay};
-ghost use Rattle.service_laws.specs.Laws.{ShownIsNamed, StepsAreUnique};
+ghost use Rattle.service_laws.specs.Laws.{ShownIsNamed, StepsAreUnique, TicksFit};
 ghost use Rattle.service_laws.specs.Shown.{RecordedIsShown};
 
 /// Each request at a moment leads from each world to some world, with some answer.
@@ -54,6 +54,12 @@ pub fn recorded_is_shown()
 /// So what is shown by a place is what the request names, or makes.
 pub fn shown_is_named()
     ensures { ShownIsNamed }
+{}
+
+/// The records of due deadlines always have a place in the journal: in each history from the empty
+/// world, with one more for each active invocation, all records stay below 2^30 bytes.
+pub fn ticks_fit()
+    ensures { TicksFit }
 {}
 
 /// What is final stays as it is, with all that it holds and reaches, in each history from a valid

@@ -18,7 +18,7 @@ use Rattle.service_core.specs.Plans.{Carries, Fits, IsPlanOf}
 use Rattle.service_replay.specs.Replay.{IsKindOf, IsRecorded, Replays, command_of}
 use Rattle.service_core.specs.Step.{effect_for}
 use Rattle.service_core.proofs.ClearedLaws.{accepted_suits}
-use Rattle.service_core.proofs.PlanLaws.{kept_same}
+use Rattle.service_core.proofs.PlanLaws.{kept_same, stored_same}
 use Rattle.service_replay.proofs.ReplayLaws.{kind_is_there, recorded_is_replayed, tick_is_replayed}
 use Rattle.service_core.proofs.ServeLaws.{ticked as ticked_so}
 use Rattle.service_effects.proofs.RoomLaws.{same_parts}
@@ -37,7 +37,8 @@ plan_changes s w moment asked plan names timely is = λ nothing.
     (accepted_suits s w moment asked is.caller is.request names timely is.accepted) is.accepted.room acts.made).0 nothing in
     is.changes after there.1
     (same_parts after w (ap (λ r. r.rows) same) (ap (λ r. r.results) same) (ap (λ r. r.exonerations) same)
-    (ap (λ r. r.artifacts) same) (acts.kept ∙ sym (kept_same s w moment asked is.caller is.request nothing)))
+    (ap (λ r. r.artifacts) same) (acts.kept ∙ sym (kept_same s w moment asked is.caller is.request nothing))
+    (acts.stored ∙ sym (stored_same s w moment asked is.caller is.request nothing)))
 
 -- what was planned is recorded
 pub plan_recorded : (s : Settings) (w : ServiceWorld) (moment : ℤ) (asked : Asked) (plan : PlanState) (after : ServiceWorld) → HasNames s
@@ -70,14 +71,14 @@ change_fits s core moment asked plan command names timely short is fits of_it bo
 
 -- and so does the plan of due deadlines with its tick
 pub tick_fits : (core : CoreState) (moment : ℤ) (plan : PlanState) (command : List ℕ) → IsCallMoment moment → core.held.world.world.last ≤ℤ moment
-    → IsDueAt core.held.world.world moment → Fits core plan → plan.work ≡ Tick moment → plan.keep ≡ None → command ≡ command_bytes (ticked moment)
-    → IsFit core (record { plan = plan; command = command })
-tick_fits core moment plan command call later due fits is none form = record {
+    → IsDueAt core.held.world.world moment → Fits core plan → plan.work ≡ Tick moment → plan.keep ≡ None → plan.length ≡ 14
+    → command ≡ command_bytes (ticked moment) → IsFit core (record { plan = plan; command = command })
+tick_fits core moment plan command call later due fits is none length form = record {
   fits = fits;
   body = subst IsBody (sym form) (record { some = omega arith; few = omega arith });
   leads = λ after carries. replays_are_alone (world_in core) command after (
       subst (λ (bytes : List ℕ). Replays (world_in core) bytes after) (sym form)
-      (tick_is_replayed (world_in core) moment after call later due (ticked_so core core plan after moment refl is none carries)));
+      (tick_is_replayed (world_in core) moment after call later due (ticked_so core core plan after moment refl is none length due carries)));
 }
 
 -- commands of what was asked are equally long

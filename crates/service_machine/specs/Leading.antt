@@ -1,6 +1,6 @@
 -- That a command leads to one world, and that of a plan that fits to some: what the trait of a
 -- machine asks for.
-use Rattle.std.proofs.Common.{◌≡◌, ℕ, List, refl}
+use Rattle.std.proofs.Common.{◌≡◌, ℕ, ◌+◌, List, refl}
 use Rattle.invocation_world.proofs.ExistFacts.{advance_there, settling_there}
 use Rattle.service_effects.specs.Effects.{artifacts_after, exonerations_after, results_after}
 use Rattle.service_effects.specs.Effects.{with_effect}
@@ -45,8 +45,9 @@ carries_there w plan =
         exonerations = made.0.exonerations;
         artifacts = made.0.artifacts;
         kept = with_kept w.kept plan.keep;
+        stored = w.stored + plan.length;
       },
-      record { made = made.1; kept = refl },
+      record { made = made.1; kept = refl; stored = refl },
     )
 
 -- so the command of one that fits leads to some world

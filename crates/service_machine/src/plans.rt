@@ -128,6 +128,7 @@ impl RecordedPlan {
         ensures work { IfOk result (λ p. p.plan.work ≡ Tick moment) }
         ensures keep { IfOk result (λ p. p.plan.keep ≡ None) }
         ensures answer { IfOk result (λ p. p.plan.answer ≡ None) }
+        ensures length { IfOk result (λ p. p.plan.length ≡ 14) }
         ensures command { IfOk result (λ p. p.command ≡ command_bytes (ticked moment)) }
     {
         let plan = core.prepare_tick(alloc, moment)?;

@@ -1,5 +1,6 @@
 -- How a recorded request is done again, and why it is out of place.
-use Rattle.std.proofs.Common.{◌≡◌, ℕ, ℤ, List, Option, Some, None, Result, Ok, Err, refl, sym, ap, ◌∙◌, subst}
+use Rattle.std.proofs.Common.{◌≡◌, ◌+◌, ℕ, ℤ, List, Option, Some, None, Result, Ok, Err, refl, sym, ap, ◌∙◌, subst}
+use Rattle.std.specs.Prelude.{OnOk}
 use Rattle.std.proofs.lemmas.Option.{none-some}
 use Rattle.kept_replies.specs.declared.reply.KeptReply.{KeptReply}
 use Rattle.kept_replies.specs.Kept.{KeptState}
@@ -23,6 +24,7 @@ use Rattle.service_effects.specs.Refused.{IsUnrefused}
 use Rattle.service_effects.specs.Service.{ServiceWorld, recorded}
 use Rattle.request_effects.specs.declared.keeping.Numbered.{Numbered}
 use Rattle.request_effects.specs.Keeps.{kept_of, numbered_of, with_kept}
+use Rattle.request_effects.specs.Places.{held_in}
 use Rattle.request_effects.specs.Planned.{IsSafe}
 use Rattle.request_effects.proofs.KeepLaws.{numbered_is}
 use Rattle.service_replay.specs.declared.replaying.ReplayFault.{ReplayFault}
@@ -30,7 +32,9 @@ use Rattle.service_replay.specs.declared.replaying.ReplayFault.TheVariants.{OutO
 use Rattle.service_core.specs.Again.{Again, IsFreeFor, IsPreparedAgain, again_of}
 use Rattle.service_core.specs.CoreState.{CoreState, IsRoomier, PlanState, world_in}
 use Rattle.service_core.specs.Plans.{Carries}
-use Rattle.service_replay.specs.Replay.{ActsAgain, IsRefused, effect_again}
+use Rattle.service_core.specs.declared.plan.CallRecord.{CallRecord}
+use Rattle.service_effects.specs.Storing.{IsStorable}
+use Rattle.service_replay.specs.Replay.{ActsAgain, IsRefused, effect_again, length_again}
 use Rattle.service_replay.specs.Replaying.{IsActedAgain, IsDoneAgain}
 use Rattle.service_replay.proofs.ReplayLaws.{free_unused}
 use Rattle.service_core.proofs.PlanLaws.{same_world}
@@ -98,33 +102,63 @@ right_is_safe w held call method request right asks sayable = record {
 -- ---- what was prepared and carried out
 
 -- what was prepared and carried out was done again
-pub done_again : (old mid : CoreState) (moment : ℤ) (name : List ℕ) (numbered : Option Numbered) (request : Request) (plan : PlanState)
-    (after : ServiceWorld) → IsRoomier old mid → IsPreparedAgain mid (again_of old moment name numbered request) (Some plan)
-    → Carries (world_in mid) plan after → IsActedAgain (world_in old) moment name numbered request after
-done_again old mid moment name numbered request plan after roomier prepared carries =
-    let a : Again = again_of old moment name numbered request in
-    let made = subst (λ (p : PlanState). Carries (world_in mid) p after) prepared.1.1 carries in
-    let done : IsDoneAgain (world_in mid) moment name numbered a.effect after =
-    record { room = prepared.0; changes = prepared.1.0; made = made.made; kept = made.kept } in
-    subst (λ (w : ServiceWorld). IsDoneAgain w moment name numbered a.effect after) (same_world old mid roomier) done
+pub done_again : (old mid : CoreState) (moment : ℤ) (name : List ℕ) (said : CallRecord) (request : Request) (plan : PlanState)
+    (after : ServiceWorld) → IsRoomier old mid → IsPreparedAgain mid (again_of old moment name said request) (Some plan)
+    → Carries (world_in mid) plan after → IsActedAgain (world_in old) moment name said request after
+done_again old mid moment name said request plan after roomier prepared carries =
+    let a : Again = again_of old moment name said request in
+    let made = subst (λ (p : PlanState). Carries (world_in mid) p after) prepared.1.2 carries in
+    let done : IsDoneAgain (world_in mid) moment name said a.effect after = record {
+      room = prepared.0;
+      store = prepared.1.0;
+      changes = prepared.1.1;
+      made = made.made;
+      kept = made.kept;
+      stored = made.stored;
+    } in
+    subst (λ (w : ServiceWorld). IsDoneAgain w moment name said a.effect after) (same_world old mid roomier) done
 
 -- and where nothing was prepared nothing can be
-pub never_again : (old mid : CoreState) (moment : ℤ) (name : List ℕ) (numbered : Option Numbered) (request : Request) (next : ServiceWorld)
-    → IsRoomier old mid → IsPreparedAgain mid (again_of old moment name numbered request) None
-    → IsActedAgain (world_in old) moment name numbered request next → ⊥
-never_again old mid moment name numbered request next roomier prepared done =
-    let a : Again = again_of old moment name numbered request in
+pub never_again : (old mid : CoreState) (moment : ℤ) (name : List ℕ) (said : CallRecord) (request : Request) (next : ServiceWorld)
+    → IsRoomier old mid → IsPreparedAgain mid (again_of old moment name said request) None
+    → IsActedAgain (world_in old) moment name said request next → ⊥
+never_again old mid moment name said request next roomier prepared done =
+    let a : Again = again_of old moment name said request in
     done.changes
-    (prepared (subst (λ (w : ServiceWorld). IsUnrefused (recorded w) a.effect) (sym (same_world old mid roomier)) done.room))
+    (prepared (subst (λ (w : ServiceWorld). IsUnrefused (recorded w) a.effect) (sym (same_world old mid roomier)) done.room)
+    (subst (λ (w : ServiceWorld). IsStorable w.stored said.length) (sym (same_world old mid roomier)) done.store))
+
+-- what was done again was acted on again
+pub acts_from : (w : ServiceWorld) (call : CallSaid) (method : Method) (said : CallRecord) (request : Request) (after : ServiceWorld)
+    → IsUnused w.kept call.caller (demand_of request) → IsRight w.rows.invocations (held_in (recorded w)) call.moment (demand_of request)
+    → said.numbered ≡ numbered_of (asked_again method call.body) (demand_of request) → said.length ≡ length_again call
+    → IsActedAgain w call.moment call.caller said request after → ActsAgain w call method request after
+acts_from w call method said request after unused right is long done = record {
+  unused = unused;
+  right = right;
+  room = done.room;
+  store = subst (IsStorable w.stored) long done.store;
+  changes = done.changes;
+  made = done.made;
+  kept = done.kept
+      ∙ ap (λ (n : Option Numbered). with_kept w.kept (kept_of (recorded w) call.caller n (effect_again w call request))) is;
+  stored = done.stored ∙ ap (λ (n : ℕ). w.stored + n) long;
+}
+
+pub ok_more : (r : Result Unit ReplayFault) (P Q : Type 0) → (P → Q) → OnOk r P → OnOk r Q
+ok_more (Ok done) P Q more h = more h
+ok_more (Err fault) P Q more h = tt
 
 -- what is acted on again is done again
-pub plans_again : (w : ServiceWorld) (call : CallSaid) (method : Method) (numbered : Option Numbered) (request : Request) (after : ServiceWorld)
-    → numbered ≡ numbered_of (asked_again method call.body) (demand_of request) → ActsAgain w call method request after
-    → IsActedAgain w call.moment call.caller numbered request after
-plans_again w call method numbered request after is again = record {
+pub plans_again : (w : ServiceWorld) (call : CallSaid) (method : Method) (said : CallRecord) (request : Request) (after : ServiceWorld)
+    → said.numbered ≡ numbered_of (asked_again method call.body) (demand_of request) → said.length ≡ length_again call
+    → ActsAgain w call method request after → IsActedAgain w call.moment call.caller said request after
+plans_again w call method said request after is long again = record {
   room = again.room;
+  store = subst (IsStorable w.stored) (sym long) again.store;
   changes = again.changes;
   made = again.made;
   kept = again.kept
       ∙ ap (λ (n : Option Numbered). with_kept w.kept (kept_of (recorded w) call.caller n (effect_again w call request))) (sym is);
+  stored = again.stored ∙ ap (λ (n : ℕ). w.stored + n) (sym long);
 }

@@ -1,5 +1,5 @@
 -- A recorded command leads to one world, and the command of what was accepted to the world that it left.
-use Rattle.std.proofs.Common.{◌≡◌, ◌≢◌, ℕ, ◌^◌, ◌<◌, ℤ, Bool, true, List, [], ◌∷◌, length, Option, Some, None, option_map, refl, sym, ap, ◌∙◌, subst, inl, inr, rules}
+use Rattle.std.proofs.Common.{◌≡◌, ◌≢◌, ◌+◌, ℕ, ◌^◌, ◌<◌, ℤ, Bool, true, List, [], ◌∷◌, length, Option, Some, None, option_map, refl, sym, ap, ◌∙◌, subst, inl, inr, rules}
 use Rattle.std.specs.List.{find}
 use Rattle.std.specs.Str.{bytes_eq}
 use Rattle.std.specs.Cmp.Lexicographic.{bytes_decides}
@@ -36,13 +36,16 @@ use Rattle.service_effects.specs.declared.effect.Effect.TheVariants as does
 use Rattle.service_effects.specs.Effects.{with_effect}
 use Rattle.service_effects.specs.Fitting.{IsTimely}
 use Rattle.service_effects.specs.Service.{Recorded, ServiceWorld, recorded}
+use Rattle.service_effects.specs.Storing.{IsStorable}
 use Rattle.service_effects.proofs.EffectLaws.{one_settling}
+use Rattle.service_effects.proofs.StoringLaws.{bytes_of_change}
+use Rattle.request_demands.specs.Understood.{length_for}
 use Rattle.request_effects.specs.declared.keeping.Numbered.{Numbered}
 use Rattle.request_effects.specs.Effects.{effect_of}
 use Rattle.request_effects.specs.Keeps.{kept_of, numbered_of, with_kept}
 use Rattle.request_effects.specs.Places.{held_in}
-use Rattle.service_core.specs.Step.{Acts, IsAccepted, case_in, effect_for, keep_for}
-use Rattle.service_replay.specs.Replay.{ActsAgain, IsKindOf, RecordedIsReplayed, Replays, ReplaysAreUnique, ReplaysCall, ReplaysSaid, TickIsReplayed, command_of, effect_again, keep_again, recorded_method}
+use Rattle.service_core.specs.Step.{Acts, IsAccepted, bytes_for, case_in, effect_for, keep_for}
+use Rattle.service_replay.specs.Replay.{ActsAgain, IsKindOf, RecordedIsReplayed, Replays, ReplaysAreUnique, ReplaysCall, ReplaysSaid, TickIsReplayed, command_of, effect_again, keep_again, length_again, recorded_method}
 use Rattle.service_core.proofs.ClearedLaws.{IsCleared, accepted_found, safe, unused}
 use Rattle.service_effects.proofs.RoomLaws.{same_parts}
 use Rattle.service_core.proofs.UniqueLaws.{one_between}
@@ -55,7 +58,7 @@ one_act w call method request v x this that =
     same_parts v x
     (one_settling call.moment (with_effect call.moment (effect_again w call request) w.rows) v.rows x.rows this.made.rows that.made.rows)
     (this.made.results ∙ sym that.made.results) (this.made.exonerations ∙ sym that.made.exonerations)
-    (this.made.artifacts ∙ sym that.made.artifacts) (this.kept ∙ sym that.kept)
+    (this.made.artifacts ∙ sym that.made.artifacts) (this.kept ∙ sym that.kept) (this.stored ∙ sym that.stored)
 
 -- what a recorded call asks for by the method that it was for
 pub asks_as : (w : ServiceWorld) (call : CallSaid) (method : Method) (next : ServiceWorld) → recorded_method call.kind ≡ Some method
@@ -191,6 +194,8 @@ replayed_as s w moment asked caller request after k names timely short accepted 
     let call : CallSaid = record { kind = k; moment = moment; caller = name; body = asked.body } in
     let cleared : IsCleared s w moment asked caller request = record { new = accepted.new; judged = accepted.judged } in
     let d : Demand = demand_of request in
+    let bytes : bytes_for s w moment asked caller request ≡ length_again call =
+    bytes_of_change (effect_for s w moment caller request) (length_for s asked caller) changes in
     let keeps : keep_for s w moment asked caller request ≡ keep_again w call method request =
     ap (λ (n : Option Numbered). kept_of (recorded w) name n (effect_for s w moment caller request))
     (sym (same_number asked method d wants.asks.named)) in
@@ -223,9 +228,11 @@ replayed_as s w moment asked caller request after k names timely short accepted 
               (unused s w moment asked caller request cleared);
           right = right_as s w moment asked caller request names accepted;
           room = accepted.room;
+          store = subst (IsStorable w.stored) bytes accepted.store;
           changes = changes;
           made = acts.made;
           kept = acts.kept ∙ ap (with_kept w.kept) keeps;
+          stored = acts.stored ∙ ap (λ (n : ℕ). w.stored + n) bytes;
         };
       };
     }

@@ -1,5 +1,5 @@
 -- Recorded commands, and the world to which each leads.
-use Rattle.std.specs.Prelude.{⊤, ◌≡◌, ◌≢◌, ℕ, ◌^◌, ◌<◌, ℤ, ◌≤ℤ◌, List, Option, Some, Result, Ok, Err, length}
+use Rattle.std.specs.Prelude.{⊤, ◌≡◌, ◌≢◌, ℕ, ◌+◌, ◌^◌, ◌<◌, ℤ, ◌≤ℤ◌, List, Option, Some, Result, Ok, Err, length}
 use Rattle.kept_replies.specs.declared.reply.KeptReply.{KeptReply}
 use Rattle.call_forms.specs.declared.asked.Asked.{Asked}
 use Rattle.message_forms.specs.declared.requests.Method.{Method}
@@ -9,7 +9,7 @@ use Rattle.message_forms.specs.Methods.{method_of, name_of, service_of}
 use Rattle.message_forms.specs.Reading.{Asks}
 use Rattle.recorded_calls.specs.declared.command.CallKind.{CallKind}
 use Rattle.recorded_calls.specs.declared.command.CallKind.TheVariants as kind
-use Rattle.recorded_calls.specs.Commands.{CallSaid, IsCommand, Said, called, command_bytes, ticked}
+use Rattle.recorded_calls.specs.Commands.{CallSaid, IsCommand, Said, called, command_bytes, record_length, ticked}
 use Rattle.invocation_world.specs.Advancing.{IsDueAt, IsQuiet}
 use Rattle.invocation_world.specs.World.{IsCallMoment}
 use Rattle.request_rules.specs.Again.{IsRight, IsUnused}
@@ -22,6 +22,7 @@ use Rattle.service_effects.specs.Effects.{Makes}
 use Rattle.service_effects.specs.Fitting.{IsTimely}
 use Rattle.service_effects.specs.Refused.{IsUnrefused}
 use Rattle.service_effects.specs.Service.{ServiceWorld, recorded}
+use Rattle.service_effects.specs.Storing.{IsStorable}
 use Rattle.request_effects.specs.Effects.{effect_of}
 use Rattle.request_effects.specs.Keeps.{kept_of, numbered_of, with_kept}
 use Rattle.request_effects.specs.Places.{held_in}
@@ -50,17 +51,23 @@ keep_again w call method request =
     kept_of (recorded w) call.caller
     (numbered_of (asked_again method call.body) (demand_of request)) (effect_again w call request)
 
+-- how many bytes the record of a call takes
+abbrev pub length_again : CallSaid → ℕ
+length_again call = record_length call.caller call.body
+
 -- A recorded request is acted on again. Nothing was kept for its number, it breaks none of the
--- rules that are asked again, and it changes something: what it does is done, and what is kept of
--- it stands behind what was kept before.
+-- rules that are asked again, and it changes something: what it does is done, what is kept of it
+-- stands behind what was kept before, and its record takes its bytes.
 pub record ActsAgain (w : ServiceWorld) (call : CallSaid) (method : Method) (request : Request)
     (after : ServiceWorld) : Type 0 where
   pub unused : IsUnused w.kept call.caller (demand_of request)
   pub right : IsRight w.rows.invocations (held_in (recorded w)) call.moment (demand_of request)
   pub room : IsUnrefused (recorded w) (effect_again w call request)
+  pub store : IsStorable w.stored (length_again call)
   pub changes : effect_again w call request ≢ does.Nothing
   pub made : Makes call.moment (effect_again w call request) (recorded w) (recorded after)
   pub kept : after.kept ≡ with_kept w.kept (keep_again w call method request)
+  pub stored : after.stored ≡ w.stored + length_again call
 
 -- A recorded call is made again, where it isn't before the last change, and nothing is due at its
 -- moment: its body asks for a request of its method, which is acted on.

@@ -1,5 +1,5 @@
 //! Recorded commands, made again. No policy is asked: a command was allowed when it was recorded.
-ghost use Rattle.std.specs.Prelude.{◌≡◌, ◌≢◌, ◌≤ℤ◌, IfOk, OnOk, Some, Err, MatchBool, MatchOption};
+ghost use Rattle.std.specs.Prelude.{◌≡◌, ◌≢◌, ◌<◌, ◌≤ℤ◌, IfOk, OnOk, Some, Err, MatchBool, MatchOption};
 ghost use Rattle.invocation_world.specs.World.{IsCallMoment};
 ghost use Rattle.message_forms.specs.Methods.{name_of, service_of};
 ghost use Rattle.message_forms.specs.Reading.{Asks};
@@ -15,17 +15,17 @@ ghost use Rattle.service_effects.specs.States.{recorded_in};
 ghost use Rattle.service_core.specs.Again.{IsFreeFor};
 ghost use Rattle.service_core.specs.CoreState.{world_in};
 ghost use Rattle.service_replay.specs.Replay.{ActsAgain, IsKindOf, IsRefused, Replays, ReplaysCall, ReplaysSaid};
-ghost use Rattle.service_replay.specs.Replay.{ReplaysTick, recorded_method};
-ghost use Rattle.service_replay.specs.Replaying.{IsActedAgain};
+ghost use Rattle.service_replay.specs.Replay.{ReplaysTick, length_again, recorded_method};
+ghost use Rattle.service_replay.specs.Replaying.{IsActedAgain, IsRightIn};
 
 use call_forms::Asked;
 use message_forms::{FormFault, Method, Request, read_request};
 use names_realms::Moment;
-use recorded_calls::{CallKind, Command, RecordedCall, read_command};
+use recorded_calls::{CallKind, Command, RecordedCall, read_command, record_length};
 use request_demands::{Demand, NumberCheck, check_digest, demand_of, digest_again};
 use request_effects::{Context, Numbered, numbered_in};
 use request_rules::{Located, is_right};
-use service_core::Core;
+use service_core::{CallRecord, Core};
 use std::alloc::{AllocError, Global};
 
 /// Why a command isn't made again.
@@ -139,13 +139,27 @@ fn number_again(
     }
 }
 
+/// What the record of a call says beside its request, which has this number, if it has one.
+fn record_of(call: &RecordedCall, numbered: Option<Numbered>) -> CallRecord
+    requires { IsCallSayable (call_said call.now) }
+    ensures numbered { result.numbered ≡ numbered }
+    ensures length { result.length ≡ length_again (call_said call.now) }
+    ensures some { 0 < result.length }
+{
+    CallRecord {
+        numbered,
+        length: record_length(call.caller, call.body),
+    }
+}
+
 /// Does again what a recorded request does that breaks none of the rules that are asked again, and
-/// keeps what is kept of it. It is out of place where that is refused, or does nothing.
+/// keeps what is kept of it. It is out of place where that is refused, or does nothing, or its
+/// record has no place.
 fn act_again(
     alloc: Global,
     core: &mut Core,
     context: &Context,
-    numbered: Option<Numbered>,
+    said: CallRecord,
     request: Request,
 ) -> Result<(), ReplayFault>
     requires timely { IsTimely core.old.held.world.world context.now.moment }
@@ -153,18 +167,44 @@ fn act_again(
         request }
     requires places { context.now.located.now
         ≡ located_in (recorded_in core.old.held) (demand_of request) }
-    requires free { IsFreeFor core.old.keeps.kept context.now.name.now numbered }
+    requires free { IsFreeFor core.old.keeps.kept context.now.name.now said.numbered }
+    requires some { 0 < said.length }
     ensures ok { OnOk result (IsActedAgain (world_in core.old) context.now.moment
-        context.now.name.now numbered request (world_in core.new)) }
+        context.now.name.now said request (world_in core.new)) }
     ensures refused { IsRefused (IsActedAgain (world_in core.old) context.now.moment
-        context.now.name.now numbered request) result }
+        context.now.name.now said request) result }
 {
-    match core.prepare_again(alloc, context, numbered, request)? {
+    match core.prepare_again(alloc, context, said, request)? {
         Some(plan) => {
             core.commit(plan);
             Ok(())
         }
         None => Err(ReplayFault::OutOfPlace),
+    }
+}
+
+/// Where what a recorded request names stands. It is out of place where the request breaks a rule
+/// that is asked again.
+fn right_places(
+    alloc: Global,
+    core: &Core,
+    call: &RecordedCall,
+    request: &Request,
+) -> Result<Located, ReplayFault>
+    ensures places { IfOk result
+        (λ p. p ≡ located_in (recorded_in core.now.held) (demand_of request.now)) }
+    ensures right { IfOk result
+        (λ _. IsRightIn (world_in core.now) call.now.moment request.now) }
+    ensures refused { result ≡ Err ReplayFault.OutOfPlace
+        → ¬ IsRightIn (world_in core.now) call.now.moment request.now }
+{
+    let tables = core.tables();
+    let table = tables.world.table();
+    let places = Located::of(alloc, table, &tables.results, &tables.artifacts, request)?;
+    if is_right(table, call.moment, &places, request) {
+        Ok(places)
+    } else {
+        Err(ReplayFault::OutOfPlace)
     }
 }
 
@@ -185,19 +225,13 @@ fn make_again(
         (ActsAgain (world_in core.old) (call_said call.now) method request) result }
 {
     let numbered = number_again(alloc, core, call, method, &demand_of(&request))?;
-    let tables = core.tables();
-    let table = tables.world.table();
-    let places = Located::of(alloc, table, &tables.results, &tables.artifacts, &request)?;
-    if is_right(table, call.moment, &places, &request) {
-        let context = Context {
-            moment: call.moment,
-            name: call.caller,
-            located: &places,
-        };
-        act_again(alloc, core, &context, numbered, request)
-    } else {
-        Err(ReplayFault::OutOfPlace)
-    }
+    let places = right_places(alloc, core, call, &request)?;
+    let context = Context {
+        moment: call.moment,
+        name: call.caller,
+        located: &places,
+    };
+    act_again(alloc, core, &context, record_of(call, numbered), request)
 }
 
 /// Makes a recorded call again.

@@ -1,49 +1,54 @@
-use Rattle.std.proofs.Common.{List, ap, subst, ◌∙◌}
-use Rattle.invocations.specs.declared.invocation.Invocation.{Invocation}
+use Rattle.std.proofs.Common.{ap, subst, ◌∙◌}
 use Rattle.recorded_calls.specs.Commands.{call_said}
-use Rattle.request_rules.specs.Again.{IsRight, IsUnused}
+use Rattle.request_rules.specs.Again.{IsUnused}
 use Rattle.request_demands.specs.Numbered.{asked_again}
 use Rattle.request_demands.specs.Demands.{Demand, demand_of}
-use Rattle.request_rules.specs.Locating.{located}
 use Rattle.request_effects.specs.Keeps.{numbered_of}
 use Rattle.request_effects.specs.Places.{held_in}
-use Rattle.service_effects.specs.declared.tables.Tables.{Tables}
-use Rattle.service_effects.specs.States.{recorded_in}
-use Rattle.service_replay.proofs.AgainLaws.{free_again, plans_again, refused_more, right_is_safe}
+use Rattle.service_effects.specs.Service.{ServiceWorld, recorded}
+use Rattle.service_core.specs.CoreState.{world_in}
+use Rattle.service_replay.specs.Replay.{ActsAgain}
+use Rattle.service_replay.specs.Replaying.{IsActedAgain}
+use Rattle.service_replay.proofs.AgainLaws.{acts_from, free_again, ok_more, plans_again, refused_more, right_is_safe}
 use Rattle.service_replay.proofs.replaying.make_again.Goals as goal
 
 pub act_again-requires-clause-safe : goal.act_again-requires-clause-safe
 act_again-requires-clause-safe c =
-    let held = held_in (recorded_in c.tables-tables.result.now) in
-    let d = demand_of c.args.request in
-    let right = c.if-is_right.ensures held c.in_ok-places.ensures in
-    right_is_safe c.args.core.now.held.world.world held (call_said c.args.call.now) c.args.method c.args.request
-    (subst (λ (rows : List Invocation). IsRight rows held c.args.call.now.moment d)
-    (c.table-table.ensures.rows ∙ ap (λ (t : Tables). t.world.world.invocations) c.tables-tables.ensures) right)
-    c.requires.asks c.requires.sayable
-
-pub act_again-requires-clause-places : goal.act_again-requires-clause-places
-act_again-requires-clause-places c =
-    let d = demand_of c.args.request in
-    c.in_ok-places.ensures
-    ∙ (ap (λ (rows : List Invocation). located rows (held_in (recorded_in c.tables-tables.result.now)) d)
-    (c.table-table.ensures.rows ∙ ap (λ (t : Tables). t.world.world.invocations) c.tables-tables.ensures)
-    ∙ ap (λ (t : Tables). located c.args.core.now.held.world.world.invocations (held_in (recorded_in t)) d) c.tables-tables.ensures)
+    right_is_safe c.args.core.now.held.world.world (held_in (recorded (world_in c.args.core.now))) (call_said c.args.call.now) c.args.method
+    c.args.request c.in_ok-places.ensures.right c.requires.asks c.requires.sayable
 
 pub act_again-requires-clause-free : goal.act_again-requires-clause-free
 act_again-requires-clause-free c =
     let kept = c.args.core.now.keeps.kept in
     let name = c.args.call.now.caller.now in
     let asked = asked_again c.args.method c.args.call.now.body.now in
-    free_again kept name asked c.args.request c.in_ok-numbered.numbered c.requires.asks
+    free_again kept name asked c.args.request c.record_of.result.numbered c.requires.asks
     (subst (λ (d : Demand). IsUnused kept name d) c.demand_of.ensures c.in_ok-numbered.ensures.unused)
-    (c.in_ok-numbered.ensures.ok ∙ ap (λ (d : Demand). numbered_of asked d) c.demand_of.ensures)
+    (c.record_of.ensures.numbered ∙ (c.in_ok-numbered.ensures.ok ∙ ap (λ (d : Demand). numbered_of asked d) c.demand_of.ensures))
 
-pub returns-then-is_right-clause-refused : goal.returns-then-is_right-clause-refused
-returns-then-is_right-clause-refused c =
+pub returns-clause-refused : goal.returns-clause-refused
+returns-clause-refused c =
+    let w = world_in c.args.core.now in
     let call = call_said c.args.call.now in
     let asked = asked_again c.args.method c.args.call.now.body.now in
-    refused_more _ _ c.act_again.result
-    (λ next again. plans_again _ call c.args.method c.in_ok-numbered.numbered c.args.request next
-    (c.in_ok-numbered.ensures.ok ∙ ap (λ (d : Demand). numbered_of asked d) c.demand_of.ensures) again)
+    refused_more (λ (next : ServiceWorld). IsActedAgain w call.moment call.caller c.record_of.result c.args.request next)
+    (λ (next : ServiceWorld). ActsAgain w call c.args.method c.args.request next) c.act_again.result
+    (λ next again. plans_again w call c.args.method c.record_of.result c.args.request next
+    (c.record_of.ensures.numbered ∙ (c.in_ok-numbered.ensures.ok ∙ ap (λ (d : Demand). numbered_of asked d) c.demand_of.ensures))
+    c.record_of.ensures.length again)
     c.act_again.ensures.refused
+
+pub returns-clause-ok : goal.returns-clause-ok
+returns-clause-ok c =
+    let w = world_in c.args.core.now in
+    let call = call_said c.args.call.now in
+    let asked = asked_again c.args.method c.args.call.now.body.now in
+    let after = world_in c.act_again.new.core in
+    ok_more c.act_again.result (IsActedAgain w call.moment call.caller c.record_of.result c.args.request after)
+    (ActsAgain w call c.args.method c.args.request after)
+    (acts_from w call c.args.method c.record_of.result c.args.request after
+    (subst (λ (d : Demand). IsUnused c.args.core.now.keeps.kept c.args.call.now.caller.now d) c.demand_of.ensures c.in_ok-numbered.ensures.unused)
+    c.in_ok-places.ensures.right
+    (c.record_of.ensures.numbered ∙ (c.in_ok-numbered.ensures.ok ∙ ap (λ (d : Demand). numbered_of asked d) c.demand_of.ensures))
+    c.record_of.ensures.length)
+    c.act_again.ensures.ok

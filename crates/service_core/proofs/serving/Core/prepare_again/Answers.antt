@@ -11,22 +11,22 @@ use Rattle.service_core.proofs.serving.Core.prepare_again.Goals as goal
 use Rattle.service_core.proofs.serving.Core.prepare_again.Goals.{in-Some-2, in-None-2}
 
 pub returns-in-Refused-clause-prepared : goal.returns-in-Refused-clause-prepared
-returns-in-Refused-clause-prepared c = λ free.
+returns-in-Refused-clause-prepared c = λ free place.
     let context = c.args.context.now in
     let refused = subst (λ (p : Planned). IsPlanned c.plan_change.new.tables context.moment
     (effect_of (recorded_in c.self.inside.tables) context.moment context.name.now c.args.request) p)
     c.in-Refused.is c.in_ok-plan_change.ensures.planned in
-    elim c.match-numbered-2.branch [
-      | in-Some-2 w ↦ absurd (never_unrefused c.match-numbered-2.self _ c.args.self.now c.plan_change.new.tables context.moment context.name.now
+    elim c.match-said-2.branch [
+      | in-Some-2 w ↦ absurd (never_unrefused c.match-said-2.self _ c.args.self.now c.plan_change.new.tables context.moment context.name.now
           c.args.request c.in-Refused.field-0 (ap (λ (k : CoreState). k.held) w.self-is) c.self.view_is refused free)
-      | in-None-2 w ↦ absurd (never_unrefused c.match-numbered-2.self _ c.args.self.now c.plan_change.new.tables context.moment context.name.now
+      | in-None-2 w ↦ absurd (never_unrefused c.match-said-2.self _ c.args.self.now c.plan_change.new.tables context.moment context.name.now
           c.args.request c.in-Refused.field-0 (ap (λ (k : CoreState). k.held) w.self-is) c.self.view_is refused free)
     ]
 
 pub returns-in-Ready-clause-prepared : goal.returns-in-Ready-clause-prepared
 returns-in-Ready-clause-prepared c =
     let context = c.args.context.now in
-    let a = again_of c.args.self.now context.moment context.name.now c.args.numbered c.args.request in
+    let a = again_of c.args.self.now context.moment context.name.now c.args.said c.args.request in
     let ready = subst (λ (p : Planned). IsPlanned c.plan_change.new.tables context.moment
     (effect_of (recorded_in c.self.inside.tables) context.moment context.name.now c.args.request) p)
     c.in-Ready.is c.in_ok-plan_change.ensures.planned in

@@ -61,4 +61,4 @@ returns-in-Ok-clause-prepared c = λ asked is.
     prepared_in s old new c.args.moment asked c.args.call.caller c.args.call.request p (same_world old new c.plan.ensures.roomier)
     (record { valid = told.1.1.1; call = c.requires.in_range; later = c.requires.later; quiet = c.requires.quiet })
     (record { new = told.0; judged = told.1.0 }) comes)
-    (c.plan.ensures.comes asked is.digest_is)
+    (c.plan.ensures.comes asked is.digest_is is.length_is)

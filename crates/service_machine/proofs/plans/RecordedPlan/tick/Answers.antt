@@ -10,4 +10,4 @@ returns-clause-fits c =
     tick_fits c.prepare_tick.new.self c.args.moment c.in_ok-plan.plan c.in_ok-command.command c.requires.in_range
     (subst (λ (core : CoreState). core.held.world.world.last ≤ℤ c.args.moment) same c.requires.later)
     (subst (λ (core : CoreState). IsDueAt core.held.world.world c.args.moment) same c.requires.due) c.in_ok-plan.ensures.fits
-    c.in_ok-plan.ensures.work c.in_ok-plan.ensures.keep c.in_ok-command.ensures
+    c.in_ok-plan.ensures.work c.in_ok-plan.ensures.keep c.in_ok-plan.ensures.length c.in_ok-command.ensures
