@@ -8,16 +8,18 @@ import pathlib
 import random
 import resource
 import signal
+import struct
 import subprocess
 import threading
 import time
 
 from harness import BEARER, EXAMPLES, LENGTH, RDB, SECONDS, Wrong, changing, expect, named, new, replies, request, route, run
-from harness import results, same, told_by, words
+from harness import results, same, told_by, unread, words
 
 KILLS = 200
 EMPTY = b"RDBJRNL1\0"
 TAKEN = b"19 Taken: invocations/u-a/tests/t/results/r0\n"
+MOST = (1 << 30) - (1 << 22)  # bytes of the records, where a request adds one
 COUNTS = b"invocations %d, finalized %d, results %d, exonerations %d, artifacts 0, kept %d, bytes %d\n"
 
 
@@ -30,8 +32,7 @@ def journal_in(folder, content=None):
 
 def count(path):
     """What `check` does: its output, its line on errors and its status."""
-    done = subprocess.run([RDB, "check", "--journal", path], input=b"POST", capture_output=True, timeout=SECONDS)
-    return done.stdout, done.stderr, done.returncode
+    return unread([RDB, "check", "--journal", path])
 
 
 def shown(stream, folder, path):
@@ -63,7 +64,7 @@ def nothing_was_asked(folder):
     path = journal_in(folder)
     expect(run(b"", folder, journal=path), b"", b"", 0)
     same(path.read_bytes(), EMPTY)
-    for content in (None, b"RDBJ", b"nine byte"):
+    for content in (None, b"", b"RDBJ", b"nine byte"):
         path.unlink()
         journal_in(folder, content)
         expect(count(path), COUNTS % (0, 0, 0, 0, 0, 0), b"", 0)
@@ -103,14 +104,14 @@ def refused_journals(folder):
     for content, line in cases:
         path = journal_in(folder, content)
         wanted = b"", b"rdb: journal refused: %s\n" % line, 3
-        for got in (run(creation("u-b"), folder, journal=path), count(path)):
+        for got in (unread(words(folder, journal=path)), count(path)):
             same((got, path.read_bytes()), (wanted, content))
 
 
 def no_disk(folder):
     """A folder in the journal's place, and a folder that isn't there."""
     for path in (pathlib.Path(folder), pathlib.Path(folder) / "none" / "one.journal"):
-        for got in (run(creation("u-a"), folder, journal=path), count(path)):
+        for got in (unread(words(folder, journal=path)), count(path)):
             expect(got, b"", b"rdb: fault of disk\n", 4)
 
 
@@ -219,6 +220,48 @@ def a_full_disk(folder):
     same([status for status, _ in shown(stream, folder, path)], [200] * (1 + made) + [404] * (6 - made))
 
 
+def recorded(name, moment, length):
+    """The record of a creation by alice, with blanks behind its body, so that it has so many bytes."""
+    body = json.dumps(new(name)).encode().ljust(length - 25)
+    return struct.pack("<BIBQH", 1, length - 5, 1, moment, 5) + b"alice" + struct.pack("<I", len(body)) + body
+
+
+def after(seconds):
+    """The moment so many seconds from now."""
+    return time.strftime("%Y-%m-%dT%H:%M:%SZ", time.gmtime(time.time() + seconds))
+
+
+def padded(length, name, **more):
+    """A creation whose record would have so many bytes."""
+    text = json.dumps({**new(name), **more}).encode().ljust(length - 25)
+    head = [f"POST {route('CreateInvocation')} HTTP/1.1", *(": ".join(it) for it in BEARER.items())]
+    return "\r\n".join([*head, f"Content-Length: {len(text)}", "", ""]).encode() + text
+
+
+def a_full_journal(folder):
+    """A change whose record fills the journal to its last byte is made, and one with a byte more is refused by how many
+    bytes there are and would come. Reads and a repeat go on, and so do deadlines, past that bound, and after a run."""
+    path, size = journal_in(folder), 1 << 22
+    lengths = [size] * 254 + [size - 1014]  # the deadlines of all are due: that is a record of 14 bytes
+    with open(path, "wb") as journal:
+        journal.write(EMPTY[:8])
+        journal.writelines(recorded(f"u-{at}", at, length) for at, length in enumerate(lengths))
+        journal.write(b"\0")
+    calling = Calling(folder, path)
+    same(calling.ask(padded(1001, "u-x")), (429, f"21 StoreFull: {MOST - 1000} 1001\n"))
+    last = padded(1000, "u-x", requestId="q", invocation={"realm": "proj:ci", "deadline": after(11)})
+    made = calling.ask(last)
+    same((made[0], path.stat().st_size), (200, 9 + MOST))
+    same(calling.ask(creation("u-y")), (429, f"21 StoreFull: {MOST} {len(creation('u-y').partition(b'{')[2]) + 26}\n"))
+    same((calling.ask(last), calling.ask(request("GetInvocation", named("u-x")))), (made, made))
+    same(calling.ask(request("GetInvocation", named("u-0")))[1]["state"], "FINALIZED")
+    time.sleep(11.5)
+    same(calling.ask(request("GetInvocation", named("u-x")))[1]["state"], "FINALIZED")
+    calling.end()
+    same(shown(padded(1000, "u-y"), folder, path), [(429, f"21 StoreFull: {MOST + 14} 1000\n")])
+    expect(count(path), COUNTS % (256, 256, 0, 0, 1, MOST + 14), b"", 0)
+
+
 def lost(stream, folder, path):
     """Runs the program over this input where nobody reads its output, and gives how it ended."""
     reading, writing = os.pipe()
@@ -285,5 +328,6 @@ CHECKS = {
     "the example that sends a batch again": the_example,
     "kills under load": kills,
     "a full disk": a_full_disk,
+    "a full journal": a_full_journal,
     "one process at a time": one_at_a_time,
 }

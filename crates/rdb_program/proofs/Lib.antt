@@ -4,3 +4,4 @@ pub mod ConfigLaws
 pub mod RunLaws
 pub mod UploadLaws
 pub mod ServiceLaws
+pub mod ExitLaws

@@ -88,7 +88,7 @@ record IsStill (status : ℕ) (words : List (List ℕ)) (before after : Outside)
   unread : status ≡ 1 → after.work ≡ before.work
   asked : status ≡ 2 → IsAnswerWords words
   disk : status ≡ 2 → after.work.disk ≡ before.work.disk
-  config : (text : List ℕ) → before.work.config.left ≡ Some text → ConfigSays status words text before after
+  config : (text : List ℕ) → before.work.config.left ≡ Some text → ConfigSays status (IsAnswerWords words) text before after
   journal : status ≡ 3 → IsJournalRefused before after
   failed : status ≡ 4 → HasFailed before.work after.work
   kept : status ≢ 4 → after.work.config.faults ≡ before.work.config.faults
@@ -132,44 +132,44 @@ says_still status words before after s = record {
 
 -- ---- the configuration, by how the run ended
 
-config_other : (status : ℕ) (words : List (List ℕ)) (text : List ℕ) (before after : Outside) → ¬ IsAnswerWords words → status ≢ 2
-    → ConfigSays status words text before after
-config_other status words text before after other n2 = record {
+config_other : (status : ℕ) (asked : Type 0) (text : List ℕ) (before after : Outside) → ¬ asked → status ≢ 2
+    → ConfigSays status asked text before after
+config_other status asked text before after other n2 = record {
   refused = λ is. absurd (n2 is);
   served = λ are m2 m7 read. absurd (other are);
   has_fault = λ are read fault first. absurd (other are);
   has_none = λ tables policy. n2;
 }
 
-config_failed : (words : List (List ℕ)) (text : List ℕ) (before after : Outside) → Rose before.work.config.faults after.work.config.faults
-    → ConfigSays 4 words text before after
-config_failed words text before after rose = record {
+pub config_failed : (asked : Type 0) (text : List ℕ) (before after : Outside) → Rose before.work.config.faults after.work.config.faults
+    → ConfigSays 4 asked text before after
+config_failed asked text before after rose = record {
   refused = λ is. absurd (omega (arith, is));
   served = λ are m2 m7 read. absurd (read refl rose);
   has_fault = λ are read fault first. absurd (read refl rose);
   has_none = λ tables policy is. omega (arith, is);
 }
 
-config_left : (words : List (List ℕ)) (text : List ℕ) (before after : Outside) → ConfigSays 7 words text before after
-config_left words text before after = record {
+pub config_left : (asked : Type 0) (text : List ℕ) (before after : Outside) → ConfigSays 7 asked text before after
+config_left asked text before after = record {
   refused = λ is. absurd (omega (arith, is));
   served = λ are m2 m7 read. absurd (m7 refl);
   has_fault = λ are read fault first. inr refl;
   has_none = λ tables policy is. omega (arith, is);
 }
 
-config_refused : (words : List (List ℕ)) (text : List ℕ) (before after : Outside) (fault : PolicyFault) → IsFirstFault text fault
-    → IsReported (refusal_line fault) before.errors after.errors → ConfigSays 2 words text before after
-config_refused words text before after fault first line = record {
+pub config_refused : (asked : Type 0) (text : List ℕ) (before after : Outside) (fault : PolicyFault) → IsFirstFault text fault
+    → IsReported (refusal_line fault) before.errors after.errors → ConfigSays 2 asked text before after
+config_refused asked text before after fault first line = record {
   refused = λ is. (fault, first, line);
   served = λ are m2 m7 read. absurd (m2 refl);
   has_fault = λ are read other one. inl refl;
   has_none = λ tables policy is. policy_apart text tables fault policy first;
 }
 
-config_served : (status : ℕ) (words : List (List ℕ)) (text : List ℕ) (before after : Outside) (tables : PolicyTables) → status ≢ 2
-    → IsPolicyOf text tables → ConfigSays status words text before after
-config_served status words text before after tables n2 policy = record {
+pub config_served : (status : ℕ) (asked : Type 0) (text : List ℕ) (before after : Outside) (tables : PolicyTables) → status ≢ 2
+    → IsPolicyOf text tables → ConfigSays status asked text before after
+config_served status asked text before after tables n2 policy = record {
   refused = λ is. absurd (n2 is);
   served = λ are m2 m7 read. (tables, policy);
   has_fault = λ are read fault first. absurd (policy_apart text tables fault policy first);
@@ -189,7 +189,7 @@ says_words_refused words before after nothing same = says_still 1 words before a
   unread = λ is. same;
   asked = λ is. absurd (omega (arith, is));
   disk = λ is. absurd (omega (arith, is));
-  config = λ text told. config_other 1 words text before after (nothing_apart words nothing) (λ e. omega (arith, e));
+  config = λ text told. config_other 1 (IsAnswerWords words) text before after (nothing_apart words nothing) (λ e. omega (arith, e));
   journal = λ is. absurd (omega (arith, is));
   failed = λ is. absurd (omega (arith, is));
   kept = λ n4. ap (λ (w : Work). w.config.faults) same;
@@ -214,7 +214,7 @@ says_unstarted words before after same faults unasked disk = says_still 7 words 
   unread = λ is. absurd (omega (arith, is));
   asked = λ is. absurd (omega (arith, is));
   disk = λ is. absurd (omega (arith, is));
-  config = λ text told. config_left words text before after;
+  config = λ text told. config_left (IsAnswerWords words) text before after;
   journal = λ is. absurd (omega (arith, is));
   failed = λ is. absurd (omega (arith, is));
   kept = λ n4. faults;
@@ -239,7 +239,7 @@ says_config_fault words before after are same rose =
       unread = λ is. absurd (omega (arith, is));
       asked = λ is. are;
       disk = λ is. absurd (omega (arith, is));
-      config = λ text told. config_failed words text before after rose;
+      config = λ text told. config_failed (IsAnswerWords words) text before after rose;
       journal = λ is. absurd (omega (arith, is));
       failed = λ is. failed;
       kept = λ n4. absurd (n4 refl);
@@ -252,7 +252,7 @@ says_config_fault words before after are same rose =
 
 says_config_refused : (words : List (List ℕ)) (before after : Outside) → IsAnswerWords words → after.work.ends ≡ before.work.ends
     → after.work.disk ≡ before.work.disk → after.work.config.faults ≡ before.work.config.faults
-    → ((text : List ℕ) → before.work.config.left ≡ Some text → ConfigSays 2 words text before after) → StatusSays 2 words before after
+    → ((text : List ℕ) → before.work.config.left ≡ Some text → ConfigSays 2 (IsAnswerWords words) text before after) → StatusSays 2 words before after
 says_config_refused words before after are same disk faults config = says_still 2 words before after (record {
   same = same;
   not_done = λ e. omega (arith, e);
@@ -283,14 +283,14 @@ opening_range (openings.NewerVersion found) = (omega arith, omega arith)
 opening_range openings.DiskFailed = (omega arith, omega arith)
 opening_range openings.Memory = (omega arith, omega arith)
 
-opening_rose : (fault : OpenFault) (before now : ℕ) → FaultCause before fault now → (opening_row fault).status ≡ 4 → Rose before now
+pub opening_rose : (fault : OpenFault) (before now : ℕ) → FaultCause before fault now → (opening_row fault).status ≡ 4 → Rose before now
 opening_rose openings.DiskFailed before now cause is = cause.1
 opening_rose (openings.NotAJournal at) before now cause is = absurd (omega (arith, is))
 opening_rose (openings.Damaged at byte) before now cause is = absurd (omega (arith, is))
 opening_rose (openings.NewerVersion found) before now cause is = absurd (omega (arith, is))
 opening_rose openings.Memory before now cause is = absurd (omega (arith, is))
 
-opening_else : (fault : OpenFault) → (opening_row fault).status ≢ 3 → (opening_row fault).status ≢ 4 → (opening_row fault).status ≡ 7
+pub opening_else : (fault : OpenFault) → (opening_row fault).status ≢ 3 → (opening_row fault).status ≢ 4 → (opening_row fault).status ≡ 7
 opening_else (openings.NotAJournal at) n3 n4 = absurd (n3 refl)
 opening_else (openings.Damaged at byte) n3 n4 = absurd (n3 refl)
 opening_else (openings.NewerVersion found) n3 n4 = absurd (n3 refl)
@@ -319,12 +319,12 @@ reached_text words before after (inl answer) text asked = answer_apart words tex
 reached_text words before after (inr check) text asked = text_apart words text asked check.0
 
 reached_config : (status : ℕ) (words : List (List ℕ)) (before after : Outside) → ReachesDisk words before.work.config after.work.config → status ≢ 2
-    → (text : List ℕ) → before.work.config.left ≡ Some text → ConfigSays status words text before after
+    → (text : List ℕ) → before.work.config.left ≡ Some text → ConfigSays status (IsAnswerWords words) text before after
 reached_config status words before after (inl answer) n2 text told =
-    config_served status words text before after answer.1.0 n2
+    config_served status (IsAnswerWords words) text before after answer.1.0 n2
     (accepted_told before.work.config answer.1.0 after.work.config text answer.1.1 told)
 reached_config status words before after (inr check) n2 text told =
-    config_other status words text before after (λ are. check_apart words check.0 are) n2
+    config_other status (IsAnswerWords words) text before after (λ are. check_apart words check.0 are) n2
 
 says_unopened : (words : List (List ℕ)) (before after : Outside) (tb ta : List ℤ → Type 0) (fault : OpenFault)
     → StopsAtDisk fault words before.work tb after.work ta → IsReported (opening_row fault).line before.errors after.errors
@@ -380,7 +380,7 @@ says_written status words text before after result s n1 n2 n3 n7 n8 well failed 
   asked_to_serve = no_serve;
   unserved = λ is. absurd (n2 is);
   disk_untouched = λ is. absurd (n2 is);
-  config = λ told is. config_other status words told before after s.no_answer n2;
+  config = λ told is. config_other status (IsAnswerWords words) told before after s.no_answer n2;
   journal = λ is. absurd (n3 is);
   unopened = λ is. absurd (n3 is);
   done = λ is. s.done (record { config = s.config; unread = s.ends.unread; written = written_whole (well is) });
@@ -485,7 +485,7 @@ says_served words before after asked calls cause tables are config s =
       unserved = λ is. absurd (not_two cause is);
       disk_untouched = λ is. absurd (not_two cause is);
       config = λ text told.
-          config_served (status_at cause) words text before after tables (not_two cause)
+          config_served (status_at cause) (IsAnswerWords words) text before after tables (not_two cause)
           (accepted_told before.work.config tables after.work.config text config told);
       journal = λ is. absurd (not_three cause is);
       unopened = λ is. absurd (not_three cause is);
@@ -529,7 +529,7 @@ says words before after tb ta (ConfigRefused fault) run line =
     says_config_refused words before after run.words_are run.ends run.disk run.config.faults
     (λ text told.
     let whole = refused_told before.work.config fault after.work.config text run.config told in
-    config_refused words text before after whole.0 whole.1
+    config_refused (IsAnswerWords words) text before after whole.0 whole.1
     (subst (λ (l : List ℕ). IsReported l before.errors after.errors) whole.2 line))
 says words before after tb ta Unstarted (inl run) line =
     says_unstarted words before after (ap (λ (w : Work). w.ends) run.0) (ap (λ (w : Work). w.config.faults) run.0)
@@ -586,6 +586,7 @@ history_from {T} {D} tells told faults tables shown opened world start then now 
       last = last;
       moves = whole.moves;
       leaves = served_leaves told Plays (record { policy = tables }) opened whole.moves.history last.world journal whole.book;
+      moments = whole.moments;
     })
 
 -- ---- the journal that was opened

@@ -13,6 +13,7 @@ use Rattle.rdb_program.specs.Statuses.{ExitSays}
 use Rattle.rdb_program.specs.Words.{SayNothing, IsServeWords}
 use Rattle.rdb_program.specs.declared.ending.Ending.{Ending}
 use Rattle.rdb_program.specs.declared.ending.Ending.TheVariants.{WordsRefused, Shown, ConfigFault, ConfigRefused, Unstarted, Unopened, Counted, Served, DoorsServed, Uploaded}
+use Rattle.rdb_program.proofs.ExitLaws.{service_here, sink_serve_apart}
 use Rattle.rdb_program.proofs.RunLaws.{says, work_at, opening_range}
 
 -- ---- an ending that no service has
@@ -114,18 +115,21 @@ program_service telling link_ends tells told faults status words cb ca input ob 
       line = line;
     }
 
-pub exit_service : {A L T D : Type 0} (telling : Telling A L) (tells : T → List ℤ → Type 0) (told : D → Option Told)
+pub exit_service : {A L X T D : Type 0} (telling : Telling A L) (link_ends : X → Ends) (tells : T → List ℤ → Type 0) (told : D → Option Told)
     (faults : D → ℕ) (status : ℕ) (words : List (List ℕ)) (cb ca input : Incoming) (ob oa eb ea : Outgoing) (db : DiskEnd) (left disk : D)
-    (start end clock : T) (doors back : List A) (ending : Ending) → IsServeWords words → status ≡ status_of ending → disk ≡ left → clock ≡ end
-    → DoesHere telling ending words (work_at cb input ob db) (tells start) doors (work_at ca input oa (disk_end told faults left)) (tells end) back
+    (start end clock : T) (links now : Links A X) (back : List A) (ending : Ending) → IsServeWords words → status ≡ status_of ending
+    → disk ≡ left → clock ≡ end → now.doors ≡ back
+    → DoesHere telling ending words (work_at cb input ob db) (tells start) links.doors (work_at ca input oa (disk_end told faults left)) (tells end) back
     → IsReported (line_of ending) eb ea
-    → ExitSays status words (outside cb input ob eb db) (outside ca input oa ea (disk_end told faults disk))
-exit_service telling tells told faults status words cb ca input ob oa eb ea db left disk start end clock doors back ending are is same_disk same_clock here line =
+    → ExitSays telling link_ends status words (outside cb input ob eb db) links (outside ca input oa ea (disk_end told faults disk)) now
+exit_service telling link_ends tells told faults status words cb ca input ob oa eb ea db left disk start end clock links now back ending are is same_disk same_clock same_doors here line =
     let before = outside cb input ob eb db in
     let after = outside ca input oa ea (disk_end told faults disk) in
-    let whole = here_at telling tells told faults ending words (work_at cb input ob db) ca input oa left disk start end clock doors back back same_disk same_clock refl here in
-    subst (λ (s : ℕ). ExitSays s words before after) (sym is)
+    let whole = here_at telling tells told faults ending words (work_at cb input ob db) ca input oa left disk start end clock links.doors back now.doors same_disk same_clock same_doors here in
+    subst (λ (s : ℕ). ExitSays telling link_ends s words before links after now) (sym is)
     (record {
-      words_refused = service_words telling ending words before after (tells start) (tells clock) doors back whole line;
-      others = λ other also. absurd (other are);
+      words_refused = service_words telling ending words before after (tells start) (tells clock) links.doors now.doors whole line;
+      others = λ no_serve no_sink. absurd (no_serve are);
+      upload = λ sink also. absurd (sink_serve_apart words sink also are);
+      service = λ also. service_here telling ending words before after (tells start) (tells clock) links.doors now.doors whole also line;
     })

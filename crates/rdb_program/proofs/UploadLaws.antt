@@ -14,6 +14,7 @@ use Rattle.program_words.specs.declared.sink_words.SinkWords.{SinkWords}
 use Rattle.record_desk.specs.Clocked.{IsClocked}
 use Rattle.sink_runs.specs.Endings.{end_status, fault_status, sink_status, write_status, Tells}
 use Rattle.sink_runs.specs.Runs.{IsSending}
+use Rattle.sink_runs.specs.Statuses.{EachStatusSays}
 use Rattle.sink_runs.specs.declared.ending.SinkEnd.{SinkEnd}
 use Rattle.sink_runs.specs.declared.ending.SinkEnd.TheVariants as sink_ends
 use Rattle.sink_runs.specs.declared.ending.SinkEnding.{SinkEnding}
@@ -21,11 +22,12 @@ use Rattle.sink_runs.specs.declared.ending.SinkEnding.TheVariants as endings
 use Rattle.sink_uploads.specs.declared.course.Sent.{Sent}
 use Rattle.sink_uploads.specs.declared.course.SinkFault.{SinkFault}
 use Rattle.sink_uploads.specs.declared.course.SinkFault.TheVariants as sink_faults
-use Rattle.rdb_program.specs.Run.{DiskEnd, Work, Outside, outside, disk_end, IsReported, status_of, line_of, IsRun, Does, Links, ProgramRun, Telling}
+use Rattle.rdb_program.specs.Run.{DiskEnd, Work, Outside, outside, disk_end, IsReported, status_of, line_of, IsRun, Does, Links, ProgramRun, Telling, sending}
 use Rattle.rdb_program.specs.Statuses.{ExitSays}
 use Rattle.rdb_program.specs.Words.{SayNothing, IsSaid}
 use Rattle.rdb_program.specs.declared.ending.Ending.{Ending}
 use Rattle.rdb_program.specs.declared.ending.Ending.TheVariants.{WordsRefused, Shown, ConfigFault, ConfigRefused, Unstarted, Unopened, Counted, Served, DoorsServed, Uploaded}
+use Rattle.rdb_program.proofs.ExitLaws.{other_run, service_other, sink_serve_apart, upload_other, upload_same}
 use Rattle.rdb_program.proofs.RunLaws.{says, run_through, unasked, work_at}
 
 -- what reading the words answered is what they say
@@ -78,18 +80,26 @@ program_other telling link_ends tells told faults status words cb ca ib i ia j o
       line = line;
     }
 
-pub exit_other : {T D : Type 0} (tells : T → List ℤ → Type 0) (told : D → Option Told) (faults : D → ℕ) (status : ℕ)
+pub exit_other : {A L X T D : Type 0} (telling : Telling A L) (link_ends : X → Ends) (tells : T → List ℤ → Type 0) (told : D → Option Told) (faults : D → ℕ) (status : ℕ)
     (words : List (List ℕ)) (cb ca ib i ia j : Incoming) (ob o oa p eb ea : Outgoing) (db : DiskEnd) (left disk : D) (start end clock : T)
-    (ending : Ending) → status ≡ status_of ending → disk ≡ left → clock ≡ end → ib ≡ i → ia ≡ j → ob ≡ o → oa ≡ p
+    (links now : Links A X) (ending : Ending) → status ≡ status_of ending → disk ≡ left → clock ≡ end → now.doors ≡ links.doors → now.dials ≡ links.dials
+    → ib ≡ i → ia ≡ j → ob ≡ o → oa ≡ p
     → IsRun ending words (work_at cb ib ob db) (tells start) (work_at ca ia oa (disk_end told faults left)) (tells end)
     → IsReported (line_of ending) eb ea
-    → ExitSays status words (outside cb i o eb db) (outside ca j p ea (disk_end told faults disk))
-exit_other tells told faults status words cb ca ib i ia j ob o oa p eb ea db left disk start end clock ending is same_disk same_clock one two three four run line =
+    → ExitSays telling link_ends status words (outside cb i o eb db) links (outside ca j p ea (disk_end told faults disk)) now
+exit_other telling link_ends tells told faults status words cb ca ib i ia j ob o oa p eb ea db left disk start end clock links now ending is same_disk same_clock doors same one two three four run line =
     let before = outside cb i o eb db in
     let after = outside ca j p ea (disk_end told faults disk) in
     let whole = moved tells told faults words cb ca ib i ia j ob o oa p db left disk start end clock ending same_disk same_clock one two three four run in
     let all = says words before after (tells start) (tells clock) ending whole line in
-    subst (λ (s : ℕ). ExitSays s words before after) (sym is) (record { words_refused = all.words_refused; others = λ other also. all })
+    let other = other_run ending words before.work after.work (tells start) (tells clock) whole in
+    subst (λ (s : ℕ). ExitSays telling link_ends s words before links after now) (sym is)
+    (record {
+      words_refused = all.words_refused;
+      others = λ no_serve no_sink. all;
+      upload = λ sink are. upload_other link_ends words (status_of ending) sink before.work after.work links.dials now.dials other same are;
+      service = λ are. service_other telling words (status_of ending) before after links.doors now.doors other doors are;
+    })
 
 -- ---- a run that uploads a report
 
@@ -143,11 +153,21 @@ upload_not_one : (ending : SinkEnding) → sink_status ending ≢ 1
 upload_not_one (endings.Stopped end) e = end_not_one end e
 upload_not_one (endings.Told written) e = write_not_one written e
 
-pub exit_upload : (status : ℕ) (words : List (List ℕ)) (before after : Outside) (sink : SinkWords) (ending : SinkEnding)
-    → Says words (commands.Sink sink) → status ≡ sink_status ending → ExitSays status words before after
-exit_upload status words before after sink ending are is =
-    subst (λ (s : ℕ). ExitSays s words before after) (sym is)
+pub exit_upload : {A L X D : Type 0} (telling : Telling A L) (link_ends : X → Ends) (told : D → Option Told) (faults : D → ℕ) (status : ℕ)
+    (words : List (List ℕ)) (cb ca ib ia : Incoming) (ob oa eb ea : Outgoing) (disk left : D) (links now : Links A X)
+    (sink : SinkWords) (sent : Result Sent SinkEnd) (ending : SinkEnding) → Says words (commands.Sink sink) → status ≡ sink_status ending
+    → EachStatusSays link_ends sink (record { config = cb; input = ib; dials = links.dials }) sent (record { config = ca; input = ia; dials = now.dials })
+    → Tells sent ob ending oa
+    → ExitSays telling link_ends status words (outside cb ib ob eb (disk_end told faults disk)) links (outside ca ia oa ea (disk_end told faults left)) now
+exit_upload telling link_ends told faults status words cb ca ib ia ob oa eb ea disk left links now sink sent ending are is each told_so =
+    let before = outside cb ib ob eb (disk_end told faults disk) in
+    let after = outside ca ia oa ea (disk_end told faults left) in
+    subst (λ (s : ℕ). ExitSays telling link_ends s words before links after now) (sym is)
     (record {
       words_refused = λ one. absurd (upload_not_one ending one);
-      others = λ other also. absurd (also (sink, are));
+      others = λ no_serve no_sink. absurd (no_sink (sink, are));
+      upload = λ other also.
+          upload_same link_ends words (sink_status ending) sink other (sending before.work links.dials) (sending after.work now.dials) ob oa are also
+          (each ending ob oa told_so);
+      service = λ serve. absurd (sink_serve_apart words sink are serve);
     })

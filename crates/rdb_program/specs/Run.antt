@@ -20,7 +20,7 @@ use Rattle.service_machine.specs.Machines.{Plays}
 use Rattle.service_core.specs.Service.{Service, service_of}
 use Rattle.tellers.specs.Exchange.{Exchange}
 use Rattle.record_desk.specs.Clocked.{IsClocked}
-use Rattle.record_desk.specs.Standing.{HasLast, Moves}
+use Rattle.record_desk.specs.Standing.{AtEachCall, HasLast, Moves, point_at}
 use Rattle.rdb_program.specs.Words.{SayNothing, IsAnswerWords, IsCheckWords, IsServeWords, AskForText}
 use Rattle.program_words.specs.Grammar.{Says}
 use Rattle.program_words.specs.declared.command.Command.TheVariants.{Sink}
@@ -145,7 +145,8 @@ IsUnopened (Uploaded ending) before after = ⊥
 -- These were asked and told in one legal history from the world of the opened journal, under this
 -- policy, of one seat, at the moments that the clock's answers make. Each image of the disk has the
 -- world that it led to; or, behind an entry that was told Unavailable after which none changed the
--- world, the one that there was to record of it.
+-- world, the one that there was to record of it. At each moment inside a call an image has what the
+-- entries before left, or a world to which leads what there is to record of that entry.
 pub record IsHistory (tables : PolicyTables) (opened : ServiceWorld)
     (tells_before : List ℤ → Type 0) (before : DiskEnd) (exchanges : List Exchange)
     (tells_after : List ℤ → Type 0) (after : DiskEnd) : Type 0 where
@@ -154,6 +155,9 @@ pub record IsHistory (tables : PolicyTables) (opened : ServiceWorld)
       exchanges last tells_after after.faults
   pub leaves : Leaves after.told
       (HasLast Plays (record { policy = tables }) opened moves.history last.world)
+  pub moments : AtEachCall Plays (service_of (record { policy = tables }) opened)
+      (point_at [] opened before.told) moves.history
+      (point_at moves.history last.world after.told)
 
 -- The output got this text, as far as it took it, and nothing was read.
 pub record ShowsText (text : List ℕ) (before : Ends) (result : Result (Unit {0}) WriteEnd)

@@ -14,15 +14,20 @@ use Rattle.http_wire.specs.declared.message.WireFault.{WireFault}
 use Rattle.journal_book.specs.Books.{IsOpenFault}
 use Rattle.program_words.specs.Grammar.{Says}
 use Rattle.program_words.specs.declared.command.Command.{Command}
+use Rattle.program_words.specs.declared.command.Command.TheVariants.{Sink}
+use Rattle.program_words.specs.declared.sink_words.SinkWords.{SinkWords}
 use Rattle.result_journal.specs.Grammar.{records}
 use Rattle.result_journal.specs.Journals.{Leaves, ReadsAs}
 use Rattle.result_journal.specs.declared.opening.OpenFault.{OpenFault}
 use Rattle.service_effects.specs.Service.{ServiceWorld, empty_service}
 use Rattle.service_machine.specs.Machines.{Plays}
+use Rattle.serve_runs.specs.Statuses.{DoorFailed, IsServed, NoneFailed}
+use Rattle.sink_runs.specs.Statuses.{SinkSays}
 use Rattle.rdb_program.specs.Causes.{opening_row}
+use Rattle.rdb_program.specs.Configured.{Accepts}
 use Rattle.rdb_program.specs.Counted.{world_text}
 use Rattle.rdb_program.specs.Words.{SayNothing, IsAnswerWords, IsCheckWords, IsServeWords, IsSinkWords, AskForText}
-use Rattle.rdb_program.specs.Run.{Opens, Outside, Work, IsReported, refusal_line}
+use Rattle.rdb_program.specs.Run.{DiskEnd, Links, Opens, Outside, Telling, Work, IsReported, premises, refusal_line, sending}
 
 -- The stream that was to be read, where it is told, is messages to its end.
 abbrev pub IsWhole : Ends → Type 0
@@ -108,19 +113,20 @@ EndsIn end status found before after =
 abbrev pub IsConfigRead : ℕ → Work → Work → Type 0
 IsConfigRead status before after = status ≡ 4 → ¬ Rose before.config.faults after.config.faults
 
--- What a status says of a configuration whose whole text is told.
-pub record ConfigSays (status : ℕ) (words : List (List ℕ)) (text : List ℕ)
+-- What a status says of a configuration whose whole text is told, where this says that it was asked
+-- for.
+pub record ConfigSays (status : ℕ) (asked : Type 0) (text : List ℕ)
     (before after : Outside) : Type 0 where
   -- 2: this is its first fault, whose number and name the errors got.
   pub refused : status ≡ 2
       → (fault : PolicyFault) × IsFirstFault text fault
       × IsReported (refusal_line fault) before.errors after.errors
-  -- Where the connection was served, this is its policy.
-  pub served : IsAnswerWords words → status ≢ 2 → status ≢ 7
+  -- Where what it is for was served, this is its policy.
+  pub served : asked → status ≢ 2 → status ≢ 7
       → IsConfigRead status before.work after.work
       → (tables : PolicyTables) × IsPolicyOf text tables
   -- A text with a fault is refused by it, unless a read of it failed or memory is wanting.
-  pub has_fault : IsAnswerWords words → IsConfigRead status before.work after.work
+  pub has_fault : asked → IsConfigRead status before.work after.work
       → (fault : PolicyFault) → IsFirstFault text fault → (status ≡ 2) ⊎ (status ≡ 7)
   -- A policy's text is never refused.
   pub has_none : (tables : PolicyTables) → IsPolicyOf text tables → status ≢ 2
@@ -145,7 +151,7 @@ pub record StatusSays (status : ℕ) (words : List (List ℕ)) (before after : O
   pub unserved : status ≡ 2 → after.work.ends ≡ before.work.ends
   pub disk_untouched : status ≡ 2 → after.work.disk ≡ before.work.disk
   pub config : (text : List ℕ) → before.work.config.left ≡ Some text
-      → ConfigSays status words text before after
+      → ConfigSays status (IsAnswerWords words) text before after
   -- 3: the journal is refused. Then the input and the output are untouched.
   pub journal : status ≡ 3 → IsJournalRefused before after
   pub unopened : status ≡ 3 → after.work.ends ≡ before.work.ends
@@ -183,8 +189,73 @@ pub record StatusSays (status : ℕ) (words : List (List ℕ)) (before after : O
   pub broken_stream : IsAnswerWords words → status ≢ 2 → status ≢ 3 → (fault : WireFault)
       → EndsIn (Fault fault) 8 status before.work after.work
 
--- What an exit status says: of words that ask for no service and no upload what stands here. Of
--- those that do, the run's own record says it by its ending.
-pub record ExitSays (status : ℕ) (words : List (List ℕ)) (before after : Outside) : Type 0 where
+-- A service was begun, under a policy and over a journal that were accepted, and all doors were
+-- served to their ends; the output got the sums of what was counted.
+pub record IsServiceDone {A L : Type 0} (telling : Telling A L)
+    (before : Work) (doors_before : List A) (after : Work) (doors_after : List A)
+    : Type 0 where
+  pub tables : PolicyTables
+  pub config : Accepts before.config tables after.config
+  pub opened : ServiceWorld
+  pub disk : DiskEnd
+  pub opens : Opens before.disk opened disk
+  pub served : IsServed telling.tells telling.ends telling.holds
+      (premises before doors_before) (premises after doors_after)
+
+-- The disk, the input, the output and the doors are as they were.
+pub record IsUntouched {A : Type 0} (before : Work) (doors_before : List A)
+    (after : Work) (doors_after : List A) : Type 0 where
+  pub ends : after.ends ≡ before.ends
+  pub disk : after.disk ≡ before.disk
+  pub doors : doors_after ≡ doors_before
+
+-- the statuses of a run whose words ask for a service
+abbrev pub IsServiceStatus : ℕ → Type 0
+IsServiceStatus status =
+    (status ≡ 0) ⊎ ((status ≡ 2) ⊎ ((status ≡ 3) ⊎ ((status ≡ 4) ⊎ ((status ≡ 7)
+    ⊎ (status ≡ 9)))))
+
+-- What a status says of a run whose words ask for a service.
+pub record ServiceSays {A L : Type 0} (telling : Telling A L) (status : ℕ)
+    (before : Outside) (doors_before : List A) (after : Outside) (doors_after : List A)
+    : Type 0 where
+  -- It is one of these. Nothing is read of the input.
+  pub known : IsServiceStatus status
+  pub unread : after.work.ends.incoming ≡ before.work.ends.incoming
+  -- 0: all doors were served to their ends, and that was told.
+  pub done : status ≡ 0
+      → IsServiceDone telling before.work doors_before after.work doors_after
+  -- 2: the configuration is refused. Then nothing else was touched.
+  pub config : (text : List ℕ) → before.work.config.left ≡ Some text
+      → ConfigSays status (Unit {0}) text before after
+  pub unbegun : status ≡ 2 → IsUntouched before.work doors_before after.work doors_after
+  -- 3: the journal is refused. Then the output and the doors are untouched.
+  pub journal : status ≡ 3 → IsJournalRefused before after
+  pub unopened : status ≡ 3
+      → (after.work.ends ≡ before.work.ends) × (doors_after ≡ doors_before)
+  -- 4: a read of the configuration failed, or the disk did while the journal was opened, or a write
+  -- to the output, or a call for a link at a door. 9: the output took nothing.
+  pub failed : status ≡ 4
+      → HasFailed before.work after.work ⊎ DoorFailed telling.tells doors_before doors_after
+  pub stalled : status ≡ 9 → HasStalled before.work after.work
+  -- A count rises at the statuses that it stands for, or, of stalls, where a door failed.
+  pub no_config_fault : status ≢ 4 → after.work.config.faults ≡ before.work.config.faults
+  pub no_write_fault : status ≢ 4
+      → after.work.ends.outgoing.faults ≡ before.work.ends.outgoing.faults
+  pub no_door_fault : status ≢ 4 → NoneFailed telling.tells doors_before doors_after
+  pub no_stall : status ≢ 4 → status ≢ 9
+      → after.work.ends.outgoing.stalls ≡ before.work.ends.outgoing.stalls
+
+-- What an exit status says, by what the words ask for. Of an upload that is what it says of a run
+-- of the sink.
+pub record ExitSays {A L X : Type 0} (telling : Telling A L) (ends : X → Ends) (status : ℕ)
+    (words : List (List ℕ)) (before : Outside) (links_before : Links A X)
+    (after : Outside) (links_after : Links A X) : Type 0 where
   pub words_refused : status ≡ 1 → SayNothing words
   pub others : ¬ IsServeWords words → ¬ IsSinkWords words → StatusSays status words before after
+  pub upload : (sink : SinkWords) → Says words (Sink sink)
+      → SinkSays ends sink status (sending before.work links_before.dials)
+      (sending after.work links_after.dials)
+      before.work.ends.outgoing after.work.ends.outgoing
+  pub service : IsServeWords words
+      → ServiceSays telling status before links_before.doors after links_after.doors

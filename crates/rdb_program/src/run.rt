@@ -329,8 +329,8 @@ where
     requires { vec_len doors ≤ 64 }
 
     // The whole run: the policy, the world of the opened journal, which messages were answered, the
-    // history that they made, the bytes that were written, and what a crash leaves of the disk; or
-    // the plan of the report, and what each link took and gave.
+    // history that they made, the bytes that were written, and what a crash leaves of the disk,
+    // inside each call and at the end; or the plan of the report, and what each link took and gave.
     ensures run { ProgramRun
         (record { tells = A.tells; ends = A.L.ends; holds = A.L.holds })
         X.L.ends result.status (map string_bytes words.now)
@@ -343,12 +343,16 @@ where
         (C.tells (C.state result.clock))
         (record { doors = result.doors.items; dials = X.dials dialer.new }) }
 
-    // What the exit status says.
-    ensures status { ExitSays result.status (map string_bytes words.now)
+    // What the exit status says, by what the words ask for.
+    ensures status { ExitSays
+        (record { tells = A.tells; ends = A.L.ends; holds = A.L.holds })
+        X.L.ends result.status (map string_bytes words.now)
         (outside (I.ends config.old) (I.ends input.old) (O.ends output.old) (O.ends errors.old)
         (disk_end D.told D.faults disk))
+        (record { doors = doors.items; dials = X.dials dialer.old })
         (outside (I.ends config.new) (I.ends input.new) (O.ends output.new) (O.ends errors.new)
-        (disk_end D.told D.faults result.disk)) }
+        (disk_end D.told D.faults result.disk))
+        (record { doors = result.doors.items; dials = X.dials dialer.new }) }
 {
     let lent = Lent { disk, clock };
     match read_words(alloc, words) {

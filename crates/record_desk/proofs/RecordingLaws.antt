@@ -1,10 +1,15 @@
 -- What a part of a call makes of the book.
-use Rattle.std.proofs.Common.{◌≡◌, ◌≢◌, ◌⊎◌, inl, inr, ℕ, ℤ, ◌≤ℤ◌, true, false, List, Option, Some, None, [], Result, Err, refl, sym, ap, subst, ◌∙◌}
-use Rattle.disks.specs.Moments.{Told as DiskTold}
-use Rattle.result_journal.specs.Journals.{is_settled, prepared}
+use Rattle.std.proofs.Common.{◌≡◌, ◌≢◌, ◌⊎◌, inl, inr, ℕ, ℤ, ◌≤ℤ◌, Bool, true, false, List, Option, Some, None, [], Result, Err}
+use Rattle.std.proofs.Common.{refl, sym, ap, subst, ◌∙◌}
+use Rattle.disks.specs.Parts.{Image}
+use Rattle.disks.specs.Moments.{AtEachMoment, Told as DiskTold}
+use Rattle.disks.proofs.MomentLaws.{at_both, at_each_of}
+use Rattle.result_journal.specs.Journals.{disk_of, is_settled, prepared}
 use Rattle.result_journal.specs.declared.journal.Journal.{Journal}
-use Rattle.journal_book.specs.Worlds.{Play}
-use Rattle.journal_book.specs.Books.{HasRecordCause, LeavesToSettle, Stands}
+use Rattle.result_journal.proofs.StandLaws.{stands_leave}
+use Rattle.journal_book.specs.Worlds.{HasSettled, HasWorld, Play}
+use Rattle.journal_book.specs.Books.{HasEither, HasRecordCause, LeavesToSettle, Stands}
+use Rattle.journal_book.proofs.StepLaws.{settled_images, unmoved_moments, world_settled}
 use Rattle.journal_book.specs.declared.book.RecordFault.{RecordFault}
 use Rattle.journal_book.specs.declared.book.RecordFault.TheVariants.{DiskFailed, Full, Memory as NoMemory}
 use Rattle.call_forms.specs.declared.asked.Asked.{Asked}
@@ -26,7 +31,7 @@ use Rattle.service_core.specs.Step.{IsTold, moment_of, performed}
 use Rattle.service_machine.specs.Machines.{IsFit, RecordedState}
 use Rattle.service_machine.proofs.MachineLaws.{replayed_is_carried}
 use Rattle.record_desk.specs.Standing.{IsTried, RoseIf}
-use Rattle.record_desk.specs.Recording.{IsToldBy, KeepsBook, has_failed, is_unavailable, standin_of}
+use Rattle.record_desk.specs.Recording.{HasWorldOrTried, IsToldBy, KeepsBook, StandsFromNothing, TriesAtMost, has_failed, is_unavailable, standin_of}
 
 -- ---- books that are kept
 
@@ -74,6 +79,72 @@ kept_settled told plays w old tried after new settled stands = record {
   stands = stands;
   unsettled = λ unsettled next leads. let both : true ≡ false = sym settled ∙ unsettled in cc;
 }
+
+-- ---- moments inside a part of a call
+
+-- a part that leaves the disk has one moment
+pub tries_nothing : {D : Type 0} (told : D → Option DiskTold) (plays : Play ServiceWorld) (w : ServiceWorld) (journal : Journal D)
+    (tried : ServiceWorld → Type 0) → StandsFromNothing told plays w journal → TriesAtMost told plays w journal tried journal
+tries_nothing told plays w journal tried stands =
+    let settled = is_settled journal in
+    let book = stands.1 in
+    unmoved_moments (told (disk_of journal)) (HasWorldOrTried plays w journal tried)
+    (λ t is image may. inl (settled_images plays empty_service w (told (disk_of journal)) settled stands.0 (prepared journal) book.leads
+    book.failed (stands_leave told journal stands.0 book.on_disk) t is image may))
+
+pub tries_weaker : {D : Type 0} (told : D → Option DiskTold) (plays : Play ServiceWorld) (w : ServiceWorld) (old : Journal D)
+    (tried also : ServiceWorld → Type 0) (new : Journal D) → ((next : ServiceWorld) → tried next → also next)
+    → TriesAtMost told plays w old tried new → TriesAtMost told plays w old also new
+tries_weaker told plays w old tried also new weaker each =
+    at_each_of (told (disk_of old)) (told (disk_of new)) (HasWorldOrTried plays w old tried) (HasWorldOrTried plays w old also)
+    (λ image has. elim has [ inl was ↦ inl was | inr new_one ↦ inr (new_one.0, new_one.1, weaker new_one.0 new_one.2) ]) each
+
+pub tries_as : {D : Type 0} (told : D → Option DiskTold) (plays : Play ServiceWorld) (v w : ServiceWorld) (old : Journal D)
+    (tried : ServiceWorld → Type 0) (new : Journal D) → v ≡ w → TriesAtMost told plays v old tried new → TriesAtMost told plays w old tried new
+tries_as told plays v w old tried new same each = subst (λ (x : ServiceWorld). TriesAtMost told plays x old tried new) same each
+
+-- what an image has behind the first part of a call
+module _ {D : Type 0} (told : D → Option DiskTold) (plays : Play ServiceWorld) (w : ServiceWorld) (old : Journal D)
+    (failed tried : ServiceWorld → Type 0) (between : ServiceWorld) (mid : Journal D) (kept : KeepsBook told plays w old failed between mid)
+    (also : (next : ServiceWorld) → failed next → tried next) (from : tried between ⊎ (between ≡ w)) where
+  has_world : (image : Image) → HasWorld plays empty_service between image → HasWorldOrTried plays w old tried image
+  has_world image has = elim from [
+    | inl new_one ↦ inr (between, has, new_one)
+    | inr same ↦ inl (world_settled plays empty_service w (is_settled old) (prepared old) image
+        (subst (λ (v : ServiceWorld). HasWorld plays empty_service v image) same has))
+  ]
+
+  has_next : (image : Image) (next : ServiceWorld) → is_settled mid ≡ false → plays between (prepared mid) next
+      → HasWorld plays empty_service next image → HasWorldOrTried plays w old tried image
+  has_next image next unsettled leads has = elim (kept.unsettled unsettled next leads) [
+    | inl was ↦ inl (subst (λ (b : Bool). HasSettled plays empty_service w b (prepared old) image) (sym was.0) (inr (next, was.2, has)))
+    | inr new_one ↦ inr (next, has, also next new_one)
+  ]
+
+  has_before : (image : Image) → HasSettled plays empty_service between (is_settled mid) (prepared mid) image
+      → HasWorldOrTried plays w old tried image
+  has_before image = by_settled (is_settled mid) refl
+    where
+      by_settled : (b : Bool) → is_settled mid ≡ b → HasSettled plays empty_service between b (prepared mid) image
+          → HasWorldOrTried plays w old tried image
+      by_settled true is has = has_world image has
+      by_settled false is has = elim has [ inl world ↦ has_world image world | inr next ↦ has_next image next.0 is next.1 next.2 ]
+
+  pub tries_both : (new : Journal D) → TriesAtMost told plays w old tried mid → TriesAtMost told plays between mid tried new
+      → TriesAtMost told plays w old tried new
+  tries_both new first second =
+      at_both (told (disk_of old)) (told (disk_of mid)) (told (disk_of new)) (HasWorldOrTried plays w old tried)
+      (HasWorldOrTried plays between mid tried) (HasWorldOrTried plays w old tried) (λ image has. has)
+      (λ image has. elim has [ inl before ↦ has_before image before | inr new_one ↦ inr new_one ]) first second
+
+-- a record of a plan that fits
+pub tries_plan : {D : Type 0} (told : D → Option DiskTold) (core : CoreState) (p : RecordedState) (old new : Journal D) → IsFit core p
+    → AtEachMoment (told (disk_of old)) (told (disk_of new)) (HasEither Plays empty_service (world_in core) old p.command)
+    → TriesAtMost told Plays (world_in core) old (Carries (world_in core) p.plan) new
+tries_plan told core p old new fit each =
+    at_each_of (told (disk_of old)) (told (disk_of new)) (HasEither Plays empty_service (world_in core) old p.command)
+    (HasWorldOrTried Plays (world_in core) old (Carries (world_in core) p.plan))
+    (λ image has. elim has [ inl was ↦ inl was | inr next ↦ inr (next.0, next.2, replayed_is_carried core p next.0 fit next.1) ]) each
 
 -- ---- a change that wasn't recorded
 
@@ -141,6 +212,7 @@ quiet_caught w moment quiet = record {
     artifacts = refl;
   };
   kept = refl;
+  stored = refl;
 }
 
 -- ---- a request's change

@@ -1,8 +1,10 @@
 -- A service, its clock and its disk go on by one call.
-use Rattle.std.proofs.Common.{◌≡◌, inl, inr, ℕ, ℤ, Bool, true, false, List, [], ◌∷◌, ◌++◌, Option, refl, sym, ap, subst, ◌∙◌, append_assoc}
+use Rattle.std.proofs.Common.{◌≡◌, ◌⊎◌, inl, inr, ℕ, ℤ, Bool, true, false, List, [], ◌∷◌, ◌++◌, Option, refl, sym, ap, subst, ◌∙◌, append_assoc}
 use Rattle.std.proofs.lemmas.List.{map-append}
 use Rattle.std.specs.List.{AllByRecursion}
+use Rattle.disks.specs.Parts.{Image}
 use Rattle.disks.specs.Moments.{Told as DiskTold}
+use Rattle.disks.proofs.MomentLaws.{at_each_of}
 use Rattle.result_journal.specs.Journals.{Leaves, disk_of, is_settled, prepared}
 use Rattle.result_journal.proofs.StandLaws.{stands_leave}
 use Rattle.result_journal.specs.declared.journal.Journal.{Journal}
@@ -19,8 +21,9 @@ use Rattle.service_core.specs.History.{Entry, IsLegal, Leads, Serves, entry_at}
 use Rattle.service_core.specs.Service.{Service}
 use Rattle.service_core.proofs.HistoryLaws.{timed_goes_on, timed_is_legal}
 use Rattle.tellers.specs.Exchange.{Exchange}
-use Rattle.record_desk.specs.Standing.{GoesThrough, HasBook, HasLast, HasRecorded, HasServed, IsTried, MayStand, Rises, RoseIf, exchange_of}
-use Rattle.record_desk.specs.Recording.{KeepsBook}
+use Rattle.record_desk.specs.Standing.{AtCall, AtEachCall, GoesThrough, HasBook, HasLast, HasRecorded, HasServed, HasTried, IsTried, MayStand, Point}
+use Rattle.record_desk.specs.Standing.{Rises, RoseIf, exchange_of, point_at}
+use Rattle.record_desk.specs.Recording.{HasWorldOrTried, KeepsBook, TriesAtMost}
 use Rattle.record_desk.proofs.ClockedLaws.{clocked_nothing, clocked_more}
 
 -- ---- nothing was asked yet
@@ -41,6 +44,7 @@ pub recorded_nothing : {D : Type 0} (told : D → Option DiskTold) (faults : D �
 recorded_nothing told faults plays s tells journal commands stands settled = record {
   goes = goes_nowhere s tells (faults (disk_of journal));
   book = record { commands = commands; stands = stands; failed = λ unsettled. absurd (settled unsettled) };
+  moments = refl;
 }
 
 pub recorded_opened : {D : Type 0} (told : D → Option DiskTold) (faults : D → ℕ) (plays : Play ServiceWorld) (s : Service)
@@ -57,6 +61,7 @@ served_nothing told faults plays s tells journal commands stands settled =
     record {
       moves = record { history = []; exchanges_are = refl; seats = tt; goes = recorded.goes };
       book = recorded.book;
+      moments = recorded.moments;
     }
 
 -- ---- one call more
@@ -132,6 +137,35 @@ failed_more told plays s first h w old e after new book legal leads keeps unsett
       | inr new_one ↦ stands_new s first h w after next e legal leads new_one.0 new_one.1
     ]
 
+-- what an image has of a book, it has of the history
+has_last : {D : Type 0} (told : D → Option DiskTold) (plays : Play ServiceWorld) (s : Settings) (first : ServiceWorld)
+    (h : List Entry) (w : ServiceWorld) (journal : Journal D) → HasBook told plays s first h w journal → (image : Image)
+    → HasSettled plays empty_service w (is_settled journal) (prepared journal) image → HasLast plays s first h w image
+has_last told plays s first h w journal book image = by_settled (is_settled journal) refl
+  where
+    by_settled : (b : Bool) → is_settled journal ≡ b → HasSettled plays empty_service w b (prepared journal) image → HasLast plays s first h w image
+    by_settled true is has = inl has
+    by_settled false is has = elim has [ inl world ↦ inl world | inr next ↦ inr (next.0, next.2, book.failed is next.0 next.1) ]
+
+-- the moments inside a call that tries what there is to record of its entry
+at_call : {D : Type 0} (told : D → Option DiskTold) (plays : Play ServiceWorld) (first : Service) (h : List Entry) (w : ServiceWorld)
+    (old : Journal D) (e : Entry) (after : ServiceWorld) (new : Journal D) → HasBook told plays first.settings first.world h w old → Leads first.settings w e after
+    → TriesAtMost told plays w old (IsTried first.settings w e) new
+    → AtCall plays first (point_at h w (told (disk_of old))) e (point_at (h ++ e ∷ []) after (told (disk_of new)))
+at_call told plays first h w old e after new book leads tries = record {
+  entries = refl;
+  leads = leads;
+  moments = at_each_of (told (disk_of old)) (told (disk_of new)) (HasWorldOrTried plays w old (IsTried first.settings w e))
+      (λ image. HasLast plays first.settings first.world h w image ⊎ HasTried plays first.settings w e image)
+      (λ image has. elim has [ inl was ↦ inl (has_last told plays first.settings first.world h w old book image was) | inr tried ↦ inr tried ]) tries;
+}
+
+each_call_more : (plays : Play ServiceWorld) (first : Service) (here : Point) (h : List Entry) (now : Point) (e : Entry) (next : Point)
+    → AtEachCall plays first here h now → AtCall plays first now e next → AtEachCall plays first here (h ++ e ∷ []) next
+each_call_more plays first here [] now e next each at = (next, subst (λ (p : Point). AtCall plays first p e next) each at, refl)
+each_call_more plays first here (x ∷ h) now e next each at =
+    (each.0, each.1, each_call_more plays first each.0 h now e next each.2 at)
+
 -- what was known of a book goes on by the entry of one call
 pub recorded_more : {D : Type 0} (told : D → Option DiskTold) (faults : D → ℕ) (plays : Play ServiceWorld) (first now after : Service)
     (tf tn ta : List ℤ → Type 0) (start old new : Journal D) (history : List Entry) (seat : ℕ) (answer : ℤ) (asked : Asked) (answered : Told)
@@ -143,9 +177,10 @@ pub recorded_more : {D : Type 0} (told : D → Option DiskTold) (faults : D → 
     → KeepsBook told plays now.world old
     (λ next. (answered ≡ Instead Unavailable) × IsTried s now.world (entry_at now.world seat answer asked answered rose) next)
     after.world new
+    → TriesAtMost told plays now.world old (IsTried s now.world (entry_at now.world seat answer asked answered rose)) new
     → HasRecorded told faults plays first tf start (history ++ entry_at now.world seat answer asked answered rose ∷ []) after ta new
 recorded_more {D} told faults plays first now after tf tn ta start old new history seat answer asked answered rose s here recorded serves settings clocked
-    rises keeps =
+    rises keeps tries =
     let goes = recorded.goes in
     let same : s ≡ first.settings = here ∙ goes.settings in
     let e : Entry = entry_at now.world seat answer asked answered rose in
@@ -164,6 +199,11 @@ recorded_more {D} told faults plays first now after tf tn ta start old new histo
         stands = stood.1;
         failed = failed_more told plays first.settings first.world history now.world old e after.world new recorded.book legal leads kept;
       };
+      moments = each_call_more plays first (point_at [] first.world (told (disk_of start))) history
+          (point_at history now.world (told (disk_of old))) e
+          (point_at (history ++ e ∷ []) after.world (told (disk_of new))) recorded.moments
+          (at_call told plays first history now.world old e after.world new recorded.book leads
+          (subst (λ (t : Settings). TriesAtMost told plays now.world old (IsTried t now.world e) new) same tries));
     }
 
 -- one exchange more of one seat
@@ -177,13 +217,14 @@ pub served_more : {D : Type 0} (told : D → Option DiskTold) (faults : D → �
     → KeepsBook told plays now.world old
     (λ next. (answered ≡ Instead Unavailable) × IsTried s now.world (entry_at now.world 0 answer asked answered rose) next)
     after.world new
+    → TriesAtMost told plays now.world old (IsTried s now.world (entry_at now.world 0 answer asked answered rose)) new
     → HasServed told faults plays first tf start (exchanges ++ record { asked = asked; told = answered } ∷ []) after ta new
 served_more {D} told faults plays first now after tf tn ta start old new exchanges answer asked answered rose s here served serves settings clocked rises
-    keeps =
+    keeps tries =
     let moves = served.moves in
     let e : Entry = entry_at now.world 0 answer asked answered rose in
     let recorded = recorded_more told faults plays first now after tf tn ta start old new moves.history 0 answer asked answered rose s here
-    (record { goes = moves.goes; book = served.book }) serves settings clocked rises keeps in
+    (record { goes = moves.goes; book = served.book; moments = served.moments }) serves settings clocked rises keeps tries in
     record {
       moves = record {
         history = moves.history ++ e ∷ [];
@@ -192,6 +233,7 @@ served_more {D} told faults plays first now after tf tn ta start old new exchang
         goes = recorded.goes;
       };
       book = recorded.book;
+      moments = recorded.moments;
     }
 
 -- ---- what a crash leaves
@@ -199,12 +241,7 @@ served_more {D} told faults plays first now after tf tn ta start old new exchang
 pub served_leaves : {D : Type 0} (told : D → Option DiskTold) (plays : Play ServiceWorld) (s : Settings) (first : ServiceWorld)
     (h : List Entry) (w : ServiceWorld) (journal : Journal D) → HasBook told plays s first h w journal
     → Leaves (told (disk_of journal)) (HasLast plays s first h w)
-served_leaves told plays s first h w journal book = by_settled (is_settled journal) refl
+served_leaves told plays s first h w journal book = λ t is image may.
+    has_last told plays s first h w journal book image
     (settled_images plays empty_service w (told (disk_of journal)) (is_settled journal) book.commands (prepared journal) book.stands.leads
-    book.stands.failed (stands_leave told journal book.commands book.stands.on_disk))
-  where
-    by_settled : (b : Bool) → is_settled journal ≡ b → Leaves (told (disk_of journal)) (HasSettled plays empty_service w b (prepared journal))
-        → Leaves (told (disk_of journal)) (HasLast plays s first h w)
-    by_settled true is leaves = λ t e image may. inl (leaves t e image may)
-    by_settled false is leaves = λ t e image may.
-        elim (leaves t e image may) [ inl has ↦ inl has | inr next ↦ inr (next.0, next.2, book.failed is next.0 next.1) ]
+    book.stands.failed (stands_leave told journal book.commands book.stands.on_disk) t is image may)

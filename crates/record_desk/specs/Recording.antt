@@ -1,9 +1,10 @@
 -- The code's own words: what a part of a call makes of the book, and is told.
 use Rattle.std.specs.Prelude.{◌≡◌, ◌≢◌, ◌⊎◌, ℕ, ℤ, Bool, true, false, List, Option, Result, Ok, Err}
-use Rattle.disks.specs.Moments.{Told as DiskTold}
-use Rattle.result_journal.specs.Journals.{is_settled, prepared}
+use Rattle.disks.specs.Parts.{Image}
+use Rattle.disks.specs.Moments.{AtEachMoment, Told as DiskTold}
+use Rattle.result_journal.specs.Journals.{disk_of, is_settled, prepared}
 use Rattle.result_journal.specs.declared.journal.Journal.{Journal}
-use Rattle.journal_book.specs.Worlds.{Play}
+use Rattle.journal_book.specs.Worlds.{HasSettled, HasWorld, Play}
 use Rattle.journal_book.specs.Books.{Stands}
 use Rattle.journal_book.specs.declared.book.RecordFault.{RecordFault}
 use Rattle.journal_book.specs.declared.book.RecordFault.TheVariants.{DiskFailed, Full, Memory as NoMemory}
@@ -53,6 +54,20 @@ pub record KeepsBook {D : Type 0} (told : D → Option DiskTold) (plays : Play S
       → (more : List (List ℕ)) × Stands told plays empty_service after new more
   pub unsettled : is_settled new ≡ false → (next : ServiceWorld) → plays after (prepared new) next
       → ((is_settled old ≡ false) × (after ≡ w) × plays w (prepared old) next) ⊎ tried next
+
+-- An image has the world before, or, where something was to settle, the one to which its command
+-- leads; or a world that was tried.
+abbrev pub HasWorldOrTried : {D : Type 0} → Play ServiceWorld → ServiceWorld → Journal D
+    → (ServiceWorld → Type 0) → Image → Type 0
+HasWorldOrTried plays w old tried image =
+    HasSettled plays empty_service w (is_settled old) (prepared old) image
+    ⊎ ((next : ServiceWorld) × HasWorld plays empty_service next image × tried next)
+
+-- So it is at each moment from the disk of one journal to that of the other.
+abbrev pub TriesAtMost : {D : Type 0} → (D → Option DiskTold) → Play ServiceWorld → ServiceWorld
+    → Journal D → (ServiceWorld → Type 0) → Journal D → Type 0
+TriesAtMost told plays w old tried new =
+    AtEachMoment (told (disk_of old)) (told (disk_of new)) (HasWorldOrTried plays w old tried)
 
 -- What a request was told at a moment at which nothing is due. Where the disk failed, its step
 -- would have changed the world.

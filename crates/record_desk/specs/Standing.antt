@@ -3,7 +3,7 @@ use Rattle.std.specs.Prelude.{◌≡◌, ◌⊎◌, ℕ, ◌≤◌, ℤ, Bool, t
 use Rattle.std.specs.List.{AllByRecursion}
 use Rattle.fault_counts.specs.Causes.{Rose}
 use Rattle.disks.specs.Parts.{Image}
-use Rattle.disks.specs.Moments.{Told}
+use Rattle.disks.specs.Moments.{AtEachMoment, Told}
 use Rattle.result_journal.specs.Journals.{disk_of, is_settled, prepared}
 use Rattle.result_journal.specs.declared.journal.Journal.{Journal}
 use Rattle.journal_book.specs.Worlds.{HasWorld, Play}
@@ -96,6 +96,37 @@ HasLast plays s first history w image =
     ⊎ ((next : ServiceWorld) × HasWorld plays empty_service next image
     × MayStand s first history w next)
 
+-- An image has a world to which leads what there is to record of an entry.
+abbrev pub HasTried : Play ServiceWorld → Settings → ServiceWorld → Entry → Image → Type 0
+HasTried plays s w e image =
+    (next : ServiceWorld) × HasWorld plays empty_service next image × IsTried s w e next
+
+-- A point of a history: the entries up to it, the world that they led to, and what the disk tells
+-- there.
+pub record Point : Type 0 where
+  pub entries : List Entry
+  pub world : ServiceWorld
+  pub disk : Option Told
+
+abbrev pub point_at : List Entry → ServiceWorld → Option Told → Point
+point_at entries w told = record { entries = entries; world = w; disk = told }
+
+-- The call of an entry led from one point to the next. At each moment inside it an image has what
+-- the entries before left, or a world to which leads what there is to record of this one.
+pub record AtCall (plays : Play ServiceWorld) (first : Service) (here : Point) (e : Entry)
+    (next : Point) : Type 0 where
+  pub entries : next.entries ≡ here.entries ++ e ∷ []
+  pub leads : Leads first.settings here.world e next.world
+  pub moments : AtEachMoment here.disk next.disk
+      (λ image. HasLast plays first.settings first.world here.entries here.world image
+      ⊎ HasTried plays first.settings here.world e image)
+
+-- So did the call of each entry of a history, one after the other.
+abbrev pub AtEachCall : Play ServiceWorld → Service → Point → List Entry → Point → Type 0
+AtEachCall plays first here [] end = end ≡ here
+AtEachCall plays first here (e ∷ h) end =
+    (next : Point) × AtCall plays first here e next × AtEachCall plays first next h end
+
 -- So a service, its clock and its journal went on by a history of any seats, the journal having
 -- stood at the start.
 pub record HasRecorded {D : Type 0} (told : D → Option Told) (faults : D → ℕ)
@@ -106,6 +137,8 @@ pub record HasRecorded {D : Type 0} (told : D → Option Told) (faults : D → �
   pub goes : GoesThrough before tells_before (faults (disk_of first)) history
       after tells_after (faults (disk_of journal))
   pub book : HasBook told plays before.settings before.world history after.world journal
+  pub moments : AtEachCall plays before (point_at [] before.world (told (disk_of first))) history
+      (point_at history after.world (told (disk_of journal)))
 
 -- So they went on by the exchanges of one seat.
 pub record HasServed {D : Type 0} (told : D → Option Told) (faults : D → ℕ)
@@ -116,3 +149,5 @@ pub record HasServed {D : Type 0} (told : D → Option Told) (faults : D → ℕ
   pub moves : Moves before tells_before (faults (disk_of first)) exchanges
       after tells_after (faults (disk_of journal))
   pub book : HasBook told plays before.settings before.world moves.history after.world journal
+  pub moments : AtEachCall plays before (point_at [] before.world (told (disk_of first)))
+      moves.history (point_at moves.history after.world (told (disk_of journal)))

@@ -14,7 +14,7 @@ ghost use Rattle.service_core.specs.Service.{CatchesUp};
 ghost use Rattle.service_core.specs.Step.{IsTold};
 ghost use Rattle.service_machine.specs.Machines.{IsFit};
 ghost use Rattle.record_desk.specs.Standing.{IsTried, RoseIf};
-ghost use Rattle.record_desk.specs.Recording.{IsToldBy, KeepsBook, StandsFromNothing};
+ghost use Rattle.record_desk.specs.Recording.{IsToldBy, KeepsBook, StandsFromNothing, TriesAtMost};
 ghost use Rattle.record_desk.specs.Recording.{has_failed, is_unavailable, standin_of};
 
 use crate::Inquiry;
@@ -58,6 +58,8 @@ fn record_change<D: Disk>(
         (λ next. (result ≡ Err Standin.Unavailable)
         × Carries (world_in book.old.machine.core) plan.plan next)
         (world_in book.new.machine.core) book.new.journal }
+    ensures any_moment { TriesAtMost D.told Plays (world_in book.old.machine.core) book.old.journal
+        (Carries (world_in book.old.machine.core) plan.plan) book.new.journal }
     ensures rose { RoseIf (has_failed result) (D.faults (disk_of book.old.journal))
         (D.faults (disk_of book.new.journal)) }
     ensures unspent { result ≢ Err Standin.Spent }
@@ -70,6 +72,7 @@ fn record_change<D: Disk>(
 
 /// Carries out the deadlines that are due at a moment, if there are any, by a tick that is recorded
 /// first. `Err` says what the call is told, and then the world is as before.
+#[tactic(auto, using(crate::proofs::RecordingLaws::tries_nothing))]
 fn catch_up<D: Disk>(
     alloc: Global,
     book: &mut Book<ServiceMachine, D>,
@@ -92,6 +95,9 @@ fn catch_up<D: Disk>(
         × (IsDueAt book.old.machine.core.held.world.world moment
         × CatchesUp (world_in book.old.machine.core) moment next))
         (world_in book.new.machine.core) book.new.journal }
+    ensures any_moment { TriesAtMost D.told Plays (world_in book.old.machine.core) book.old.journal
+        (λ next. IsDueAt book.old.machine.core.held.world.world moment
+        × CatchesUp (world_in book.old.machine.core) moment next) book.new.journal }
     ensures rose { RoseIf (has_failed result) (D.faults (disk_of book.old.journal))
         (D.faults (disk_of book.new.journal)) }
     ensures unspent { result ≢ Err Standin.Spent }
@@ -107,6 +113,7 @@ fn catch_up<D: Disk>(
 }
 
 /// Records the change of an accepted request, makes it, and tells its answer.
+#[tactic(auto, using(crate::proofs::RecordingLaws::tries_nothing))]
 fn change<D: Disk>(
     alloc: Global,
     book: &mut Book<ServiceMachine, D>,
@@ -127,6 +134,10 @@ fn change<D: Disk>(
         × ((answer : AnswerOf) × IsTold (record { policy = wanted.now.policy.now })
         (world_in book.old.machine.core) wanted.now.moment wanted.now.asked.now next answer))
         (world_in book.new.machine.core) book.new.journal }
+    ensures any_moment { TriesAtMost D.told Plays (world_in book.old.machine.core) book.old.journal
+        (λ next. (answer : AnswerOf) × IsTold (record { policy = wanted.now.policy.now })
+        (world_in book.old.machine.core) wanted.now.moment wanted.now.asked.now next answer)
+        book.new.journal }
     ensures rose { RoseIf (is_unavailable result) (D.faults (disk_of book.old.journal))
         (D.faults (disk_of book.new.journal)) }
 {
@@ -142,6 +153,7 @@ fn change<D: Disk>(
 
 /// Answers a request at a moment at which nothing is due. Only what changes the world touches the
 /// disk.
+#[tactic(auto, using(crate::proofs::RecordingLaws::tries_nothing))]
 fn answer<D: Disk>(
     alloc: Global,
     book: &mut Book<ServiceMachine, D>,
@@ -161,6 +173,10 @@ fn answer<D: Disk>(
         × ((answer : AnswerOf) × IsTold (record { policy = wanted.now.policy.now })
         (world_in book.old.machine.core) wanted.now.moment wanted.now.asked.now next answer))
         (world_in book.new.machine.core) book.new.journal }
+    ensures any_moment { TriesAtMost D.told Plays (world_in book.old.machine.core) book.old.journal
+        (λ next. (answer : AnswerOf) × IsTold (record { policy = wanted.now.policy.now })
+        (world_in book.old.machine.core) wanted.now.moment wanted.now.asked.now next answer)
+        book.new.journal }
     ensures rose { RoseIf (is_unavailable result) (D.faults (disk_of book.old.journal))
         (D.faults (disk_of book.new.journal)) }
 {
@@ -205,6 +221,10 @@ pub fn serve<D: Disk>(
         (entry_at (world_in book.old.machine.core) seat now inquiry.entry.asked.now result
         (is_unavailable result)) next)
         (world_in book.new.machine.core) book.new.journal }
+    ensures any_moment { (seat : ℕ) → TriesAtMost D.told Plays (world_in book.old.machine.core)
+        book.old.journal (IsTried (record { policy = inquiry.entry.policy.now })
+        (world_in book.old.machine.core) (entry_at (world_in book.old.machine.core) seat now
+        inquiry.entry.asked.now result (is_unavailable result))) book.new.journal }
     ensures rose { RoseIf (is_unavailable result) (D.faults (disk_of book.old.journal))
         (D.faults (disk_of book.new.journal)) }
 {

@@ -11,10 +11,7 @@ use Rattle.service_core.specs.History.{Entry}
 use Rattle.service_core.specs.Service.{service_of}
 use Rattle.service_effects.specs.Service.{ServiceWorld}
 use Rattle.service_machine.specs.Machines.{Plays}
-use Rattle.serve_runs.specs.Runs.{IsServedHistory, Premises}
-
-abbrev pub premises_of : {A D : Type 0} → (D → Option Told) → (D → ℕ) → D → List A → Outgoing → Premises A
-premises_of told faults disk doors output = record { disk = told disk; faults = faults disk; doors = doors; output = output }
+use Rattle.serve_runs.specs.Runs.{IsServedHistory, premises_of}
 
 pub history_of : {A D T : Type 0} (told : D → Option Told) (faults : D → ℕ) (tells : T → List ℤ → Type 0) (tables : PolicyTables) (opened world : ServiceWorld)
     (start end clock : T) (first journal : Journal D) (disk : D) (log : List Entry) (doors now : List A) (output after : Outgoing)
@@ -32,4 +29,5 @@ history_of {A} {D} {T} told faults tells tables opened world start end clock fir
       last = service_of (record { policy = tables }) world;
       goes = recorded.goes;
       leaves = served_leaves told Plays (record { policy = tables }) opened log world journal recorded.book;
+      moments = recorded.moments;
     }))

@@ -8,7 +8,7 @@ use Rattle.outside.specs.Ends.{Ends, Outgoing}
 use Rattle.outside.specs.Whole.{WritesWhole}
 use Rattle.outside.specs.declared.whole.WriteEnd.{WriteEnd}
 use Rattle.policy_tables.specs.declared.tables.PolicyTables.{PolicyTables}
-use Rattle.record_desk.specs.Standing.{GoesThrough, HasLast}
+use Rattle.record_desk.specs.Standing.{AtEachCall, GoesThrough, HasLast, point_at}
 use Rattle.result_journal.specs.Journals.{Leaves}
 use Rattle.served_desk.specs.Posts.{ServesDoors}
 use Rattle.service_core.specs.History.{Entry}
@@ -27,10 +27,16 @@ pub record Premises (A : Type 0) : Type 0 where
   pub doors : List A
   pub output : Outgoing
 
+abbrev pub premises_of : {A D : Type 0} → (D → Option Told) → (D → ℕ) → D → List A → Outgoing
+    → Premises A
+premises_of told faults disk doors output =
+    record { disk = told disk; faults = faults disk; doors = doors; output = output }
+
 -- What was asked and told is one legal history from the world of the opened journal, under this
 -- policy, at the moments that the clock's answers make. Each image of the disk has the world that
 -- it led to; or, behind an entry that was told Unavailable after which none changed the world, the
--- one that there was to record of it.
+-- one that there was to record of it. At each moment inside a call an image has what the entries
+-- before left, or a world to which leads what there is to record of that entry.
 pub record IsServedHistory {A : Type 0} (tables : PolicyTables) (opened : ServiceWorld)
     (tells_before : List ℤ → Type 0) (before : Premises A) (log : List Entry)
     (tells_after : List ℤ → Type 0) (after : Premises A) : Type 0 where
@@ -38,6 +44,8 @@ pub record IsServedHistory {A : Type 0} (tables : PolicyTables) (opened : Servic
   pub goes : GoesThrough (service_of (record { policy = tables }) opened) tells_before
       before.faults log last tells_after after.faults
   pub leaves : Leaves after.disk (HasLast Plays (record { policy = tables }) opened log last.world)
+  pub moments : AtEachCall Plays (service_of (record { policy = tables }) opened)
+      (point_at [] opened before.disk) log (point_at log last.world after.disk)
 
 -- All doors were served, in one history: what was asked on the links of each are the calls of its
 -- number. The output got the sums of what was counted, as far as it took them.

@@ -15,7 +15,7 @@ use Rattle.service_core.proofs.HistoryLaws.{timed_is_legal}
 use Rattle.service_machine.specs.Machines.{Plays}
 use Rattle.tellers.specs.Exchange.{Exchange}
 use Rattle.record_desk.specs.Standing.{IsTried, RoseIf, exchange_of}
-use Rattle.record_desk.specs.Recording.{KeepsBook}
+use Rattle.record_desk.specs.Recording.{KeepsBook, TriesAtMost}
 use Rattle.record_desk.proofs.StandingLaws.{recorded_more}
 use Rattle.turnstile.specs.declared.board.Known.{Known}
 use Rattle.turnstile.specs.Seats.{Stood, TakesTurn}
@@ -115,8 +115,11 @@ pub stands_more : {D C S : Type 0} (told : D → Option DiskTold) (faults : D �
     → KeepsBook told Plays (service_on old).world old.book.journal
     (λ next. (answered ≡ Instead Unavailable) × IsTried s (service_on old).world (entry_at (service_on old).world seat answer asked answered rose) next)
     (service_on new).world new.book.journal
+    → TriesAtMost told Plays (service_on old).world old.book.journal
+    (IsTried s (service_on old).world (entry_at (service_on old).world seat answer asked answered rose)) new.book.journal
     → StandsFor told faults tells new start (log ++ entry_at (service_on old).world seat answer asked answered rose ∷ [])
-stands_more {D} {C} {S} told faults tells start old new log s seat answer asked answered rose opened stands is same more serves clocked rises keeps =
+stands_more {D} {C} {S} told faults tells start old new log s seat answer asked answered rose opened stands is same more serves clocked rises keeps
+    tries =
     let led = stands.led opened in
     let w = (service_on old).world in
     let e : Entry = entry_at w seat answer asked answered rose in
@@ -125,5 +128,5 @@ stands_more {D} {C} {S} told faults tells start old new log s seat answer asked 
       counted = more ∙ ap (λ n. n + 1) stands.counted ∙ sym (length-append log (e ∷ []));
       led = λ _. recorded_more told faults Plays (service_on start) (service_on old) (service_on new) (tells start.clock) (tells old.clock)
           (tells new.clock) start.book.journal old.book.journal new.book.journal log seat answer asked answered rose s here led serves same clocked
-          rises keeps;
+          rises keeps tries;
     }

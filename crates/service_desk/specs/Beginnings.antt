@@ -24,5 +24,6 @@ begins told faults tells shelf none = record {
       stands = opened.stands;
       failed = λ unsettled. absurd (true≢false (sym opened.settled ∙ unsettled));
     };
+    moments = refl;
   };
 }

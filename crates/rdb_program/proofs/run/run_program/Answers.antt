@@ -4,7 +4,7 @@ use Rattle.program_words.specs.Grammar.{Says}
 use Rattle.program_words.specs.declared.command.Command.TheVariants as commands
 use Rattle.rdb_program.specs.Words.{IsSaid, IsServeWords}
 use Rattle.rdb_program.proofs.ServiceLaws.{program_service, exit_service}
-use Rattle.rdb_program.proofs.UploadLaws.{is_said, program_other, exit_other, program_upload}
+use Rattle.rdb_program.proofs.UploadLaws.{is_said, program_other, exit_other, exit_upload, program_upload}
 use Rattle.rdb_program.proofs.run.run_program.Goals.{in_default-via-in-Ok+in-Answer-1, in_default-via-in-Err-1}
 use Rattle.rdb_program.proofs.run.run_program.Goals as goal
 
@@ -17,6 +17,15 @@ returns-in-Ok-Sink-clause-run g c =
     c.args.disk c.finish.result.disk c.args.clock c.finish.result.clock _ _ c.in-Ok-Sink.sink c.send_report-sent.result c.tell.result
     (subst (Says _) is c.in-Ok-Sink.ensures.said) c.finish.ensures.status c.finish.ensures.disk c.finish.ensures.clock
     (ap (λ v. v.items) c.finish.ensures.doors) c.send_report-sent.ensures.sent c.tell.ensures c.finish.ensures.line
+
+pub returns-in-Ok-Sink-clause-status : goal.returns-in-Ok-Sink-clause-status
+returns-in-Ok-Sink-clause-status g c =
+    let one = c.in-Ok-Sink.field-0-is in
+    let two = c.in-Ok-Sink.sink-is in
+    let is : c.in-Ok-Sink.field-0 ≡ commands.Sink c.in-Ok-Sink.sink = cc in
+    exit_upload _ _ g.D.Disk.told g.D.Disk.faults _ _ _ _ _ _ _ _ _ _
+    c.args.disk c.finish.result.disk _ _ c.in-Ok-Sink.sink c.send_report-sent.result c.tell.result
+    (subst (Says _) is c.in-Ok-Sink.ensures.said) c.finish.ensures.status c.send_report-sent.ensures.status c.tell.ensures
 
 -- The link still holds the input and the output that it was made of, so what it leaves of them is theirs.
 pub returns-in_default-clause-run : goal.returns-in_default-clause-run
@@ -58,10 +67,10 @@ returns-in_default-clause-status g c =
     ] in
     let said = subst (IsSaid (map string_bytes c.args.words.now)) (sym same)
     (is_said (map string_bytes c.args.words.now) c.read_words.result c.read_words.ensures.said (λ refused. c.read_words.ensures.refused refused)) in
-    exit_other (λ clock. g.C.Clock.tells (g.C.Clock.state clock)) g.D.Disk.told g.D.Disk.faults _ _ _ _ _ _ _ _ _ _ _ _ _ _ _
+    exit_other _ _ (λ clock. g.C.Clock.tells (g.C.Clock.state clock)) g.D.Disk.told g.D.Disk.faults _ _ _ _ _ _ _ _ _ _ _ _ _ _ _
     c.run_words-ending.result.1.disk c.finish-in_default.result.disk c.args.clock c.run_words-ending.result.1.clock
-    c.finish-in_default.result.clock c.run_words-ending.result.0 c.finish-in_default.ensures.status c.finish-in_default.ensures.disk
-    c.finish-in_default.ensures.clock
+    c.finish-in_default.result.clock _ _ c.run_words-ending.result.0 c.finish-in_default.ensures.status c.finish-in_default.ensures.disk
+    c.finish-in_default.ensures.clock (ap (λ v. v.items) c.finish-in_default.ensures.doors) refl
     (ap g.I.Source.ends c.new-link.ensures.source_now) (ap g.I.Source.ends (sym input))
     (ap g.O.Sink.ends c.new-link.ensures.sink_now) (ap g.O.Sink.ends (sym output))
     (c.run_words-ending.ensures.run _ said)
@@ -86,8 +95,7 @@ returns-in-Ok-Serve-clause-status g c =
     let are : IsServeWords (map string_bytes c.args.words.now) = (c.in-Ok-Serve.field-0-0, subst (Says _) is c.in-Ok-Serve.ensures.said) in
     let back = c.serve_doors-ending.result.1 in
     let finished = c.finish-in-Ok-Serve.ensures in
-    exit_service (record { tells = g.A.Door.tells; ends = g.A.L.Link.ends; holds = g.A.L.Link.holds })
-    (λ clock. g.C.Clock.tells (g.C.Clock.state clock)) g.D.Disk.told g.D.Disk.faults _ _ _ _ _ _ _ _ _ _
-    back.lent.disk c.finish-in-Ok-Serve.result.disk c.args.clock back.lent.clock c.finish-in-Ok-Serve.result.clock c.args.doors.items back.doors.items
-    c.serve_doors-ending.result.0 are finished.status finished.disk finished.clock
+    exit_service _ _ (λ clock. g.C.Clock.tells (g.C.Clock.state clock)) g.D.Disk.told g.D.Disk.faults _ _ _ _ _ _ _ _ _ _
+    back.lent.disk c.finish-in-Ok-Serve.result.disk c.args.clock back.lent.clock c.finish-in-Ok-Serve.result.clock _ _ back.doors.items
+    c.serve_doors-ending.result.0 are finished.status finished.disk finished.clock (ap (λ v. v.items) finished.doors)
     (c.serve_doors-ending.ensures _ (g.I.Source.ends c.args.input.now) are) finished.line

@@ -9,7 +9,7 @@ use Rattle.service_core.specs.Plans.{IsPrepared}
 use Rattle.service_core.specs.Step.{IsTold, performed, refused, repeated}
 use Rattle.service_core.proofs.PlanLaws.{same_world, told_at_once}
 use Rattle.service_machine.specs.Machines.{Plays}
-use Rattle.record_desk.specs.Recording.{KeepsBook}
+use Rattle.record_desk.specs.Recording.{KeepsBook, TriesAtMost}
 use Rattle.record_desk.proofs.recording.answer.Goals as goal
 
 pub prepare-requires-clause-understood : goal.prepare-requires-clause-understood
@@ -68,3 +68,10 @@ returns-in-Ok-Change-clause-keeps g c =
     × ((answer : Answer) × IsTold s w c.args.wanted.now.moment c.args.wanted.now.asked.now next answer))
     (world_in c.change.new.book.machine.core) c.change.new.book.journal)
     (same_world c.args.book.now.machine.core c.prepare.new.self c.prepare.ensures.roomier) c.change.ensures.keeps
+
+pub returns-in-Ok-Change-clause-any_moment : goal.returns-in-Ok-Change-clause-any_moment
+returns-in-Ok-Change-clause-any_moment g c =
+    let s : Settings = record { policy = c.args.wanted.now.policy.now } in
+    subst (λ (w : ServiceWorld). TriesAtMost g.D.Disk.told Plays w c.args.book.now.journal
+    (λ next. (answer : Answer) × IsTold s w c.args.wanted.now.moment c.args.wanted.now.asked.now next answer) c.change.new.book.journal)
+    (same_world c.args.book.now.machine.core c.prepare.new.self c.prepare.ensures.roomier) c.change.ensures.any_moment

@@ -5,7 +5,7 @@ use Rattle.service_core.specs.CoreState.{PlanState, world_in}
 use Rattle.service_core.specs.Plans.{Carries}
 use Rattle.service_machine.specs.Machines.{Plays}
 use Rattle.service_machine.specs.Leading.{carries_there}
-use Rattle.record_desk.proofs.RecordingLaws.{change_told, change_unrecorded, kept_weaker, not_spent, plan_told, same_standin}
+use Rattle.record_desk.proofs.RecordingLaws.{change_told, change_unrecorded, kept_weaker, not_spent, plan_told, same_standin, tries_weaker}
 use Rattle.record_desk.proofs.recording.change.Goals as goal
 
 pub returns-in-Ok-Some-clause-told : goal.returns-in-Ok-Some-clause-told
@@ -45,3 +45,27 @@ returns-in-Err-clause-keeps g c =
             (subst (λ (p : PlanState). Carries w p next) c.in-Ok.ensures.plan tried.1),
       ),
     )) c.in-Err.ensures.keeps
+
+pub returns-in-Ok-Some-clause-any_moment : goal.returns-in-Ok-Some-clause-any_moment
+returns-in-Ok-Some-clause-any_moment g c =
+    let s : Settings = record { policy = c.args.wanted.now.policy.now } in
+    let w = world_in c.args.book.now.machine.core in
+    let is = c.requires.plan in
+    tries_weaker g.D.Disk.told Plays w c.args.book.now.journal _ _ c.record_change.new.book.journal
+    (λ next tried. (
+      is.answer,
+      plan_told s w c.args.wanted.now.moment c.args.wanted.now.asked.now c.args.plan is next
+          (subst (λ (p : PlanState). Carries w p next) c.in-Ok.ensures.plan tried),
+    )) c.record_change.ensures.any_moment
+
+pub returns-in-Err-clause-any_moment : goal.returns-in-Err-clause-any_moment
+returns-in-Err-clause-any_moment g c =
+    let s : Settings = record { policy = c.args.wanted.now.policy.now } in
+    let w = world_in c.args.book.now.machine.core in
+    let is = c.requires.plan in
+    tries_weaker g.D.Disk.told Plays w c.args.book.now.journal _ _ c.record_change.new.book.journal
+    (λ next tried. (
+      is.answer,
+      plan_told s w c.args.wanted.now.moment c.args.wanted.now.asked.now c.args.plan is next
+          (subst (λ (p : PlanState). Carries w p next) c.in-Ok.ensures.plan tried),
+    )) c.record_change.ensures.any_moment

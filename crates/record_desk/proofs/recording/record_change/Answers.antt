@@ -4,7 +4,7 @@ use Rattle.service_core.specs.CoreState.{world_in}
 use Rattle.service_machine.specs.Machines.{Plays}
 use Rattle.service_effects.specs.Service.{empty_service}
 use Rattle.service_machine.proofs.MachineLaws.{replayed_is_carried}
-use Rattle.record_desk.proofs.RecordingLaws.{kept_err, kept_settled, kept_weaker, never_spent, rose_err}
+use Rattle.record_desk.proofs.RecordingLaws.{kept_err, kept_settled, kept_weaker, never_spent, rose_err, tries_plan}
 use Rattle.record_desk.proofs.recording.record_change.Goals as goal
 
 pub record-requires-clause-stands : goal.record-requires-clause-stands
@@ -32,3 +32,13 @@ returns-in-Err-clause-rose g c = rw c.standin_of.ensures (rose_err (Option Answe
 
 pub returns-in-Err-clause-unspent : goal.returns-in-Err-clause-unspent
 returns-in-Err-clause-unspent g c = rw c.standin_of.ensures (never_spent _ c.in-Err.fault)
+
+pub returns-in-Ok-clause-any_moment : goal.returns-in-Ok-clause-any_moment
+returns-in-Ok-clause-any_moment g c =
+    tries_plan g.D.Disk.told c.args.book.now.machine.core c.args.plan c.args.book.now.journal c.record.new.self.journal c.requires.fits
+    (c.record.ensures.any_moment empty_service c.requires.stands.0 c.requires.stands.1)
+
+pub returns-in-Err-clause-any_moment : goal.returns-in-Err-clause-any_moment
+returns-in-Err-clause-any_moment g c =
+    tries_plan g.D.Disk.told c.args.book.now.machine.core c.args.plan c.args.book.now.journal c.record.new.self.journal c.requires.fits
+    (c.record.ensures.any_moment empty_service c.requires.stands.0 c.requires.stands.1)

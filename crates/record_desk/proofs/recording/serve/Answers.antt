@@ -1,11 +1,14 @@
-use Rattle.std.proofs.Common.{ℕ, FitsSigned, w64, to_z-of_z, subst}
+use Rattle.std.proofs.Common.{ℕ, inl, inr, FitsSigned, w64, to_z-of_z, subst}
 use Rattle.result_journal.specs.Journals.{disk_of}
 use Rattle.call_forms.specs.declared.forms.Told.TheVariants.{Standin as Instead}
+use Rattle.request_demands.specs.Settings.{Settings}
 use Rattle.service_core.specs.CoreState.{world_in}
+use Rattle.service_core.specs.History.{entry_at}
 use Rattle.service_machine.specs.Machines.{Plays}
-use Rattle.record_desk.specs.Standing.{RoseIf}
+use Rattle.record_desk.specs.Standing.{IsTried, RoseIf}
 use Rattle.record_desk.specs.Recording.{is_unavailable}
 use Rattle.record_desk.proofs.RecordingLaws.{kept_both, kept_weaker, not_spent, same_standin, serves_after, serves_at_once, told_rose, tried_due, tried_step}
+use Rattle.record_desk.proofs.RecordingLaws.{tries_both, tries_weaker}
 use Rattle.record_desk.proofs.recording.serve.Goals as goal
 
 pub answer-requires-clause-stands : goal.answer-requires-clause-stands
@@ -64,3 +67,35 @@ returns-in-Err-clause-keeps g c = λ seat.
 
 pub returns-in-Err-clause-rose : goal.returns-in-Err-clause-rose
 returns-in-Err-clause-rose g c = told_rose (Unit {0}) c.in-Err.standin _ _ c.in-Err.ensures.rose
+
+pub returns-in-Ok-clause-any_moment : goal.returns-in-Ok-clause-any_moment
+returns-in-Ok-clause-any_moment g c = λ seat.
+    let fits : FitsSigned w64 c.args.now = c.ranges.now in
+    let value = simp to_z-of_z at c.moment_of-moment.ensures.value in
+    let s : Settings = record { policy = c.args.inquiry.policy.now } in
+    let w = world_in c.args.book.now.machine.core in
+    let between = world_in c.catch_up.new.book.machine.core in
+    let old = c.args.book.now.journal in
+    let mid = c.catch_up.new.book.journal in
+    let new = c.answer.new.book.journal in
+    let asked = c.args.inquiry.asked.now in
+    let told = c.answer.result in
+    let moment = c.moment_of-moment.result in
+    let e = entry_at w seat c.args.now asked told (is_unavailable told) in
+    tries_both g.D.Disk.told Plays w old _ (IsTried s w e) between mid c.in-Ok.ensures.keeps (λ next tried. absurd (let no = tried.0 in cc))
+    (elim c.in-Ok.ensures.due [
+      | inl due ↦ inl (tried_due s w between seat c.args.now moment asked told value (due, c.in-Ok.ensures.ok))
+      | inr same ↦ inr same
+    ]) new
+    (tries_weaker g.D.Disk.told Plays w old _ (IsTried s w e) mid (λ next tried. tried_due s w next seat c.args.now moment asked told value tried)
+    c.catch_up.ensures.any_moment)
+    (tries_weaker g.D.Disk.told Plays between mid _ (IsTried s w e) new
+    (λ next tried. tried_step s w between next seat c.args.now moment asked told value c.in-Ok.ensures.ok tried) c.answer.ensures.any_moment)
+
+pub returns-in-Err-clause-any_moment : goal.returns-in-Err-clause-any_moment
+returns-in-Err-clause-any_moment g c = λ seat.
+    let fits : FitsSigned w64 c.args.now = c.ranges.now in
+    let value = simp to_z-of_z at c.moment_of-moment.ensures.value in
+    tries_weaker g.D.Disk.told Plays (world_in c.args.book.now.machine.core) c.args.book.now.journal _ _ c.catch_up.new.book.journal
+    (λ next tried. tried_due (record { policy = c.args.inquiry.policy.now }) (world_in c.args.book.now.machine.core) next seat c.args.now
+    c.moment_of-moment.result c.args.inquiry.asked.now (Instead c.in-Err.standin) value tried) c.catch_up.ensures.any_moment

@@ -19,6 +19,7 @@ returns-clause-told g c = λ first before served.
     let fits : FitsSigned w64 c.now-now.result = record { sfits = c.now-now.type_inv } in
     let serves = simp to_z-of_z at (c.serve.ensures.serves 0) in
     let keeps = simp to_z-of_z at (c.serve.ensures.keeps 0) in
+    let tries = simp to_z-of_z at (c.serve.ensures.any_moment 0) in
     let asks : Settings = record { policy = c.new-inquiry.result.policy.now } in
     let opened : Service = service_of (record { policy = first.policy.now }) (world_in first.book.now.machine.core) in
     let old : Service = service_of (record { policy = c.args.self.now.policy.now }) (world_in c.args.self.now.book.now.machine.core) in
@@ -28,4 +29,4 @@ returns-clause-told g c = λ first before served.
     c.new-inquiry.ensures.asked
     (served_more g.D.Disk.told g.D.Disk.faults Plays opened old new _ _ _ first.book.now.journal c.args.self.now.book.now.journal
     c.serve.new.book.journal before c.now-now.result c.new-inquiry.result.asked.now c.serve.result (is_unavailable c.serve.result) asks
-    (ap (λ p. record { policy = p }) c.new-inquiry.ensures.policy) served serves refl c.now-now.ensures c.serve.ensures.rose keeps)
+    (ap (λ p. record { policy = p }) c.new-inquiry.ensures.policy) served serves refl c.now-now.ensures c.serve.ensures.rose keeps tries)

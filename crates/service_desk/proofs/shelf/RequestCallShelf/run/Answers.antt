@@ -26,11 +26,12 @@ returns g c = λ start log suits stands few.
     let seat : ℕ = c.args._seat_number in
     let s : Settings = record { policy = c.args.self.inquiry.policy.now } in
     let serves = simp to_z-of_z at (c.serve-told.ensures.serves seat) in
-    let keeps = simp to_z-of_z at (c.serve-told.ensures.keeps seat) in (
+    let keeps = simp to_z-of_z at (c.serve-told.ensures.keeps seat) in
+    let tries = simp to_z-of_z at (c.serve-told.ensures.any_moment seat) in (
       entry_at (service_on old).world seat c.now-now.result asked told (is_unavailable told),
       stands_more g.D.Disk.told g.D.Disk.faults (λ clock. g.C.Clock.tells (g.C.Clock.state clock)) start old _ log s seat c.now-now.result asked told
           (is_unavailable told) suits.0 stands (ap (λ p. record { policy = p }) suits.1) refl refl serves c.now-now.ensures
-          c.serve-told.ensures.rose keeps,
+          c.serve-told.ensures.rose keeps tries,
       refl,
       (refl, refl),
     )
