@@ -27,9 +27,7 @@ LIMITS = {
 # begin of the list
 LISTED = {
     "lines": {
-        "http_wire": 1522,
         "json_fields": 1524,
-        "tap_reader": 1593,
     },
     "functions": {
         "json_fields": 101,
@@ -47,7 +45,7 @@ LISTED = {
         "names_realms": 14,
         "outside": 38,
         "permissions": 3,
-        "policy_trial": 5,
+        "policy_trial": 2,
         "program_words": 8,
         "result_journal": 28,
         "tellers": 1,
