@@ -490,6 +490,16 @@ def house_rules(tree):
 Definition = collections.namedtuple("Definition", "crate file name lines words")
 
 
+def home(tree, owner, file):
+    """The crate and file of a definition. What a crate hands on of one further down stands under that one's name in camel case."""
+    while True:
+        first, _, rest = file.partition(".")
+        further = re.sub(r"(?<!^)([A-Z])", r"_\1", first).lower()
+        if not rest or further not in tree.stands_on or (tree.crate(owner) / "specs" / f"{first}.antt").is_file():
+            return owner, file
+        owner, file = further, rest
+
+
 def read_definitions(tree, crate, path):
     """The definitions of a file of specs/, by name, and its imports: name to (crate, file, name)."""
     text = tree.text(tree.crate(crate) / path)
@@ -497,10 +507,10 @@ def read_definitions(tree, crate, path):
     for owner, file, names in re.findall(r"^use Rattle\.(\w+)\.specs\.([\w.]+?)\.\{([^}]*)\}", text, re.M):
         for name in names.split(","):
             name, _, own = name.strip().partition(" as ")
-            imports[own or name] = (owner, file, name)
+            imports[own or name] = (*home(tree, owner, file), name)
     for owner, file, own in re.findall(r"^use Rattle\.(\w+)\.specs\.([\w.]+) as (\w+)", text, re.M):
         for name in re.findall(rf"\b{own}\.(\w+)", text):
-            imports[f"{own}.{name}"] = (owner, file, name)
+            imports[f"{own}.{name}"] = (*home(tree, owner, file), name)
     found = {}
     for block in re.split(r"\n\s*\n", text):
         code = [line for line in block.splitlines() if line and not line.startswith(("use ", "--"))]
@@ -521,7 +531,7 @@ def reached(tree):
     words = set(re.findall(r"[A-Za-z_]\w*", contract))
     todo = []
     for owner, file, names in re.findall(r"^ghost use Rattle\.(\w+)\.specs\.([\w.]+?)\.\{([^}]*)\}", source, re.M):
-        todo += [(owner, file, n.strip()) for n in names.split(",") if n.strip() in words]
+        todo += [(*home(tree, owner, file), n.strip()) for n in names.split(",") if n.strip() in words]
     ours, kit, files = {}, set(), {}
     while todo:
         owner, file, name = todo.pop()

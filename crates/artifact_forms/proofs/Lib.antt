@@ -1,3 +1,5 @@
+pub use Rattle.result_forms.proofs as ResultForms
+pub use Rattle.text_kinds.proofs as TextKinds
 pub mod Opened
 pub mod NameThere
 pub mod DecodedBytes

@@ -19,3 +19,4 @@ pub use batches::BatchCreateArtifacts;
 pub use hashes::hash_text;
 pub use listed::ListArtifacts;
 pub use named::GetArtifact;
+pub use text_kinds;

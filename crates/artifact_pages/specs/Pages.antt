@@ -9,9 +9,9 @@ use Rattle.artifacts.specs.Laws.{last_id}
 use Rattle.artifacts.specs.Artifacts.{keys_of}
 use Rattle.artifacts.specs.Orders.{IsRising, id_at}
 use Rattle.artifacts.specs.Pages.{IsListed}
-use Rattle.artifact_forms.specs.Listed.{counted_size, query_of}
-use Rattle.artifact_forms.specs.Tokens.{token_text}
-use Rattle.artifact_forms.specs.declared.listed.ListArtifacts.{ListArtifacts}
+use Rattle.artifact_replies.specs.ArtifactForms.Listed.{counted_size, query_of}
+use Rattle.artifact_replies.specs.ArtifactForms.Tokens.{token_text}
+use Rattle.artifact_replies.specs.ArtifactForms.declared.listed.ListArtifacts.{ListArtifacts}
 use Rattle.artifact_pages.specs.declared.queries.ArtifactQuery.{ArtifactQuery}
 use Rattle.artifact_replies.specs.Replies.{ArtifactsShown}
 

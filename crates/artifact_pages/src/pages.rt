@@ -4,7 +4,7 @@ ghost use Rattle.std.specs.Prelude.{string_bytes};
 ghost use Rattle.std.specs.List.{All};
 ghost use Rattle.artifacts.specs.Artifacts.{keys_of};
 ghost use Rattle.artifacts.specs.Orders.{id_at};
-ghost use Rattle.artifact_forms.specs.Tokens.{token_text};
+ghost use Rattle.artifact_replies.specs.ArtifactForms.Tokens.{token_text};
 ghost use Rattle.artifact_pages.specs.Pages.{IsShownPage, next_token};
 
 use crate::copies::copied_id;

@@ -2,9 +2,9 @@
 use Rattle.std.proofs.Common.{◌≡◌, ℕ, List, [], ◌∷◌, ◌++◌, length, codes, true, false, Some, refl, sym, ap, ◌∙◌, append_assoc}
 use Rattle.serde_json.specs.Data.{string}
 use Rattle.serde_json.specs.Written.{compact_text}
-use Rattle.names_realms.specs.ArtifactNames.{artifact_name}
-use Rattle.names_realms.specs.declared.artifact_names.ArtifactName.{ArtifactName}
-use Rattle.result_forms.specs.Shown.{text_shown}
+use Rattle.json_fields.specs.NamesRealms.ArtifactNames.{artifact_name}
+use Rattle.json_fields.specs.NamesRealms.declared.artifact_names.ArtifactName.{ArtifactName}
+use Rattle.artifact_forms.specs.ResultForms.Shown.{text_shown}
 use Rattle.artifacts.specs.declared.artifact.Artifact.{Artifact}
 use Rattle.artifact_forms.specs.Names as name
 use Rattle.artifact_forms.specs.Hashes.{hash_text}

@@ -11,7 +11,7 @@ use Rattle.base64.specs.GeneralPurpose.{encode_of, IsBytes}
 use Rattle.base64.specs.Rfc4648.{encode_symbols, padding_len}
 use Rattle.base64.proofs.EngineFacts.{encode_of-nil}
 use Rattle.serde_json.specs.Data.{string}
-use Rattle.result_forms.specs.Shown.{unless_empty}
+use Rattle.artifact_forms.specs.ResultForms.Shown.{unless_empty}
 use Rattle.artifact_forms.specs.Files.{contents_shown}
 use Rattle.artifact_replies.specs.Texts.{is_plain, key_text, member_text}
 

@@ -1,11 +1,11 @@
 -- What replies show of artifacts. What is empty is left out.
 use Rattle.std.specs.Prelude.{◌==◌, if◌then◌else◌, ℕ, List, [], ◌∷◌, length, decimal, Option, Some, None, option_map}
 use Rattle.serde_json.specs.Data.{Data, string}
-use Rattle.names_realms.specs.ArtifactNames.{artifact_name}
+use Rattle.json_fields.specs.NamesRealms.ArtifactNames.{artifact_name}
 use Rattle.json_fields.specs.Names.{NameForm}
 use Rattle.json_fields.specs.Writing.{list_data}
-use Rattle.result_forms.specs.Members.{object_of}
-use Rattle.result_forms.specs.Shown.{text_shown}
+use Rattle.artifact_forms.specs.ResultForms.Members.{object_of}
+use Rattle.artifact_forms.specs.ResultForms.Shown.{text_shown}
 use Rattle.artifacts.specs.declared.artifact.Artifact.{Artifact}
 use Rattle.artifact_forms.specs.Names as name
 use Rattle.artifact_forms.specs.Hashes.{hash_text}

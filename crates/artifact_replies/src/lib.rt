@@ -8,5 +8,7 @@ mod listed;
 mod texts;
 mod wholes;
 
+pub use artifact_forms::{self, text_kinds};
+pub use artifacts;
 pub use listed::{ShownArtifacts, append_artifacts};
 pub use wholes::append_artifact;

@@ -2,15 +2,15 @@
 ghost use Rattle.std.specs.Prelude.{◌≡◌, ◌++◌, true, false, Some, OnOk, codes, string_bytes};
 ghost use Rattle.serde_json.specs.Data.{string};
 ghost use Rattle.serde_json.specs.Written.{compact_text};
-ghost use Rattle.names_realms.specs.ArtifactNames.{artifact_name};
-ghost use Rattle.result_forms.specs.Shown.{as_text, text_shown};
+ghost use Rattle.json_fields.specs.NamesRealms.ArtifactNames.{artifact_name};
+ghost use Rattle.artifact_forms.specs.ResultForms.Shown.{as_text, text_shown};
 ghost use Rattle.artifact_replies.specs.Replies.{size_shown, line_data};
 ghost use Rattle.artifact_replies.specs.Texts.{member_text};
 
 use crate::texts::{append, append_text};
 use artifacts::Artifact;
 use json_fields::SpelledOut;
-use names_realms::{ArtifactId, ArtifactName};
+use json_fields::names_realms::{ArtifactId, ArtifactName};
 use std::alloc::{AllocError, Global};
 use std::str::from_utf8;
 

@@ -8,8 +8,8 @@ ghost use Rattle.artifacts.specs.Requests.{IsSizeWrong, artifact_of, digested, p
 
 use crate::artifact::Artifact;
 use crate::hashed_bytes::HashedBytes;
-use lists::Bytes;
 use names_realms::ArtifactName;
+use names_realms::lists::Bytes;
 use std::alloc::{AllocError, Global};
 use std::marker::Model;
 

@@ -1,3 +1,4 @@
+pub use Rattle.text_kinds.proofs as TextKinds
 pub mod NumberLaws
 pub mod ListLaws
 pub mod ObjectLaws

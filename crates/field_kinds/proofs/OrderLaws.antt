@@ -9,10 +9,10 @@ use Rattle.std.proofs.lemmas.List.Sorted.{Contains-permutation, IsPermutation-sy
 use Rattle.std.proofs.lemmas.Option.{slice_get_within, get_or_from_slice_get}
 use Rattle.serde_json.proofs.Views.{Entry}
 use Rattle.serde_json.specs.View.{members_view}
-use Rattle.names_realms.specs.declared.pairs.Pair.{Pair}
-use Rattle.names_realms.specs.Variants.{IsBefore, IsAscending, IsFirstRepeat}
-use Rattle.name_parts.specs.declared.faults.NameFault.{NameFault}
-use Rattle.name_parts.specs.declared.faults.NameFault.TheVariants.{Empty, TooLong, BadByte, NotCanonical, OutOfRange, Memory}
+use Rattle.json_fields.specs.NamesRealms.declared.pairs.Pair.{Pair}
+use Rattle.json_fields.specs.NamesRealms.Variants.{IsBefore, IsAscending, IsFirstRepeat}
+use Rattle.json_fields.specs.NameParts.declared.faults.NameFault.{NameFault}
+use Rattle.json_fields.specs.NameParts.declared.faults.NameFault.TheVariants.{Empty, TooLong, BadByte, NotCanonical, OutOfRange, Memory}
 use Rattle.field_kinds.specs.Variants.{pairs_of}
 
 pub ascending_members : (es : List Entry) → IsStrictlySortedBy string_cmp (keys_of es) → IsAscending (pairs_of (members_view es))

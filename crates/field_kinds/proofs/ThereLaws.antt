@@ -10,8 +10,8 @@ use Rattle.std.proofs.lemmas.List.Sorted.{IsPermutation-refl}
 use Rattle.serde_json.specs.Data.{Data, null, boolean, number, string, array, object, Items, no_items, item, Members, no_members}
 use Rattle.serde_json.specs.Data as made
 use Rattle.serde_json.specs.Find.{get, get_member}
-use Rattle.names_realms.specs.declared.pairs.Pair.{Pair}
-use Rattle.names_realms.specs.Variants.{IsAscending}
+use Rattle.json_fields.specs.NamesRealms.declared.pairs.Pair.{Pair}
+use Rattle.json_fields.specs.NamesRealms.Variants.{IsAscending}
 use Rattle.json_fields.specs.Names.{NameForm}
 use Rattle.json_fields.specs.Faults.{moved}
 use Rattle.json_fields.specs.Fields.{or_else, member, set, filled, set_at, filled_at, fault_required, fault_optional, required, optional, fault_from, list_of, Pairs, Holds}

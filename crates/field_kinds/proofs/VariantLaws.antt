@@ -8,12 +8,12 @@ use Rattle.std.specs.Ordering.{ordering_reverse}
 use Rattle.std.proofs.lemmas.Cmp.{nat_list_cmp_total}
 use Rattle.std.proofs.lemmas.List.Sorted.{IsPermutation-refl, All-permutation}
 use Rattle.serde_json.specs.Data.{Data, string, object, Members, no_members, member, put}
-use Rattle.names_realms.specs.declared.pairs.Pair.{Pair}
-use Rattle.names_realms.specs.Pairs.{pair_fault}
-use Rattle.names_realms.specs.Variants.{IsBefore, IsAscending}
-use Rattle.names_realms.proofs.PairLemmas.{pair-fault}
-use Rattle.name_parts.specs.declared.parts.PartForm.TheVariants.{PairKey}
-use Rattle.name_parts.proofs.PartLemmas.{IsPart-utf8}
+use Rattle.json_fields.specs.NamesRealms.declared.pairs.Pair.{Pair}
+use Rattle.json_fields.specs.NamesRealms.Pairs.{pair_fault}
+use Rattle.json_fields.specs.NamesRealms.Variants.{IsBefore, IsAscending}
+use Rattle.json_fields.proofs.NamesRealms.PairLemmas.{pair-fault}
+use Rattle.json_fields.specs.NameParts.declared.parts.PartForm.TheVariants.{PairKey}
+use Rattle.json_fields.proofs.NameParts.PartLemmas.{IsPart-utf8}
 use Rattle.json_fields.specs.Fields.{set_at, optional}
 use Rattle.json_fields.specs.Kinds.{never_empty}
 use Rattle.json_fields.specs.Writing.{IsWritten}

@@ -1,3 +1,4 @@
+pub use Rattle.text_kinds.specs as TextKinds
 pub mod Numbers
 pub mod Readings
 pub mod Flags

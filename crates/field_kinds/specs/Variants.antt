@@ -2,11 +2,11 @@
 use Rattle.std.specs.Prelude.{Bool, true, ◌&&◌, if◌then◌else◌, List, [], ◌∷◌, codes, Option, Some, None, is_some, unwrap_or, IsPermutation, All}
 use Rattle.serde_json.specs.Data.{Data, null, boolean, number, string, array, object, Members, no_members, member}
 use Rattle.serde_json.specs.Find.{as_str}
-use Rattle.names_realms.specs.declared.pairs.Pair.{Pair}
-use Rattle.names_realms.specs.declared.pairs.PairFault.{PairFault}
-use Rattle.names_realms.specs.declared.pairs.PairFault.TheVariants.{Key, Value, Memory}
-use Rattle.names_realms.specs.Pairs.{pair_fault, IsPairKey, IsPairValue}
-use Rattle.names_realms.specs.Variants.{IsAscending}
+use Rattle.json_fields.specs.NamesRealms.declared.pairs.Pair.{Pair}
+use Rattle.json_fields.specs.NamesRealms.declared.pairs.PairFault.{PairFault}
+use Rattle.json_fields.specs.NamesRealms.declared.pairs.PairFault.TheVariants.{Key, Value, Memory}
+use Rattle.json_fields.specs.NamesRealms.Pairs.{pair_fault, IsPairKey, IsPairValue}
+use Rattle.json_fields.specs.NamesRealms.Variants.{IsAscending}
 use Rattle.json_fields.specs.Names.{NameForm, word}
 use Rattle.json_fields.specs.Faults.{here, first}
 use Rattle.json_fields.specs.Fields.{optional, fault_of, set_at}

@@ -25,4 +25,5 @@ pub use limited_lists::{LimitedList, ListRule, QueryNames};
 pub use numbers::{ByteSize, NumberRule, PageSize, Whole};
 pub use outside_profile::{NoMessage, NoText};
 pub use properties::Properties;
+pub use text_kinds;
 pub use variants::VariantMap;

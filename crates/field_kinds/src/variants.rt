@@ -5,8 +5,8 @@ ghost use Rattle.std.specs.Str.{IsUtf8};
 ghost use Rattle.serde_json.specs.Data.{object, string, put as with_member};
 ghost use Rattle.serde_json.specs.View.{view, members_view};
 ghost use Rattle.serde_json.specs.Find.{as_str};
-ghost use Rattle.names_realms.specs.Pairs.{pair_fault};
-ghost use Rattle.names_realms.specs.Variants.{IsAscending};
+ghost use Rattle.json_fields.specs.NamesRealms.Pairs.{pair_fault};
+ghost use Rattle.json_fields.specs.NamesRealms.Variants.{IsAscending};
 ghost use Rattle.json_fields.specs.Faults.{Says};
 ghost use Rattle.json_fields.specs.Texts.{refused};
 ghost use Rattle.json_fields.specs.Fields.{optional, set_at};
@@ -14,8 +14,8 @@ ghost use Rattle.field_kinds.specs.Variants.{def_name, all_texts, pairs_of, pair
 ghost use Rattle.field_kinds.specs.Variants.{a_def, IsPairOfGrammar, AreOfGrammar, def_members, variant_data};
 
 use crate::defaults::Defaulted;
+use json_fields::names_realms::{NameFault, Pair, PairFault, Variant};
 use json_fields::{FaultKind, Form, Name, ReadFault, Why, Written, object, optional};
-use names_realms::{NameFault, Pair, PairFault, Variant};
 use serde_json::{Map, Value};
 use std::alloc::{AllocError, Global};
 use std::marker::Model;
@@ -123,8 +123,8 @@ struct Pairs {
 
 impl Model for Pairs {
     ghost use Rattle.std.specs.Prelude.{List};
-    ghost use Rattle.names_realms.specs.declared.pairs.Pair.{Pair};
-    ghost use Rattle.names_realms.specs.Variants.{IsAscending};
+    ghost use Rattle.json_fields.specs.NamesRealms.declared.pairs.Pair.{Pair};
+    ghost use Rattle.json_fields.specs.NamesRealms.Variants.{IsAscending};
     ghost use Rattle.field_kinds.specs.Variants.{AreOfGrammar};
 
     ghost Value = { List Pair };
@@ -182,7 +182,7 @@ pub struct VariantMap {
 
 impl Model for VariantMap {
     ghost use Rattle.std.specs.Prelude.{List};
-    ghost use Rattle.names_realms.specs.declared.pairs.Pair.{Pair};
+    ghost use Rattle.json_fields.specs.NamesRealms.declared.pairs.Pair.{Pair};
     ghost use Rattle.field_kinds.specs.Variants.{AreOfGrammar};
 
     ghost Value = { List Pair };

@@ -17,8 +17,8 @@ use Rattle.json_fields.proofs.FormLaws.{GivesForm, moment_form, optional_form, o
 use Rattle.json_fields.proofs.MeaningLaws.{first_left, first_right, holds_one, maybe_one, list_one, same_one, moment_one, tag_one, required_there, optional_there, list_there, same_there, moment_there, tag_there}
 use Rattle.json_fields.proofs.PlainLaws.{IsPlain, plain-put, plain_text, no_members_plain, plain_object, plain-put_optional, plain-put_list, plain_tag}
 use Rattle.json_fields.proofs.WriteLaws.{member_put, member_other, member_beside_optional, member_beside_list, filled_found, required_found, optional_written, list_written, kept_none, kept_set}
-use Rattle.text_kinds.specs.Texts.{a_request_id, is_blank, request_id_why, IsRequestId}
-use Rattle.text_kinds.proofs.TextLaws.{not_blank, read_form, string_there}
+use Rattle.field_kinds.specs.TextKinds.Texts.{a_request_id, is_blank, request_id_why, IsRequestId}
+use Rattle.field_kinds.proofs.TextKinds.TextLaws.{not_blank, read_form, string_there}
 use Rattle.field_kinds.specs.Filled.{optional_filled}
 use Rattle.field_kinds.proofs.FilledLaws.{filled_form, filled_kept, filled_there, filled_written}
 use Rattle.invocation_forms.specs.Names as name

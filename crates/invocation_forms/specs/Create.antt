@@ -13,7 +13,7 @@ use Rattle.json_fields.specs.Tags.{a_tag, tag_data, IsTag, IsPairOfGrammar}
 use Rattle.json_fields.specs.Writing.{put_required, put_optional, put_list}
 use Rattle.json_fields.specs.declared.faults.FieldFault.{FieldFault}
 use Rattle.field_kinds.specs.Filled.{optional_filled}
-use Rattle.text_kinds.specs.Texts.{a_request_id, IsRequestId}
+use Rattle.field_kinds.specs.TextKinds.Texts.{a_request_id, IsRequestId}
 use Rattle.invocation_forms.specs.Names as name
 use Rattle.field_kinds.specs.Requests.{RequestForm}
 use Rattle.invocation_forms.specs.declared.create.NewInvocation.{NewInvocation}

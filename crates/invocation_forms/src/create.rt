@@ -6,12 +6,13 @@ ghost use Rattle.names_realms.specs.Names.{invocation_id_fault};
 ghost use Rattle.json_fields.specs.Kinds.{empty_text, never_empty};
 ghost use Rattle.json_fields.specs.Texts.{a_text, IsText, IsSame};
 ghost use Rattle.json_fields.specs.Writing.{IsWritten};
-ghost use Rattle.text_kinds.specs.Texts.{a_request_id, is_blank};
+ghost use Rattle.field_kinds.specs.TextKinds.Texts.{a_request_id, is_blank};
 ghost use Rattle.invocation_forms.specs.Create.{a_new_invocation, IsNewInvocation, new_invocation_data};
 ghost use Rattle.invocation_forms.specs.Create.{a_create_request, IsCreate, create_members, create_data};
 
 use crate::names::{deadline, invocation, invocation_id, realm, request_id, tags};
 use field_kinds::optional_filled;
+use field_kinds::text_kinds::{LimitedText, RequestId};
 use json_fields::{
     Form, ReadFault, Tag, object, optional, optional_list, put, required, write_list,
     write_optional, write_required,
@@ -20,7 +21,6 @@ use lists::Listed;
 use names_realms::{InvocationId, Moment, Realm};
 use serde_json::{Map, Value};
 use std::alloc::{AllocError, Global};
-use text_kinds::{LimitedText, RequestId};
 
 /// What a request says of the invocation that it makes.
 #[derive(Debug, Drop)]

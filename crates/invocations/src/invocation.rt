@@ -1,6 +1,6 @@
 //! An invocation, as the service keeps it.
 
-use lists::{Bytes, Listed};
+use names_realms::lists::{Bytes, Listed};
 use names_realms::{InvocationId, Moment, Pair, Realm, State};
 
 /// An invocation.

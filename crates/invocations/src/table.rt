@@ -11,7 +11,7 @@ use crate::due::{Due, DueIndex};
 use crate::faults::AddFault;
 use crate::ids::IdIndex;
 use crate::invocation::Invocation;
-use lists::Listed;
+use names_realms::lists::Listed;
 use names_realms::{InvocationId, Moment, Pair, State};
 use std::alloc::{AllocError, Global};
 use std::marker::Model;

@@ -1,6 +1,6 @@
 //! Calls in turn, and a full table.
 use crate::{AddFault, Invocation, Table, laws};
-use lists::{Bytes, Listed};
+use names_realms::lists::{Bytes, Listed};
 use names_realms::{InvocationId, Moment, Pair, Realm, State};
 use std::alloc::Global;
 use std::test::Fail;

@@ -6,18 +6,18 @@ use Rattle.std.specs.Option.{ForSome, option_or}
 use Rattle.std.proofs.lemmas.List.Elements.{All-cons, All-nil}
 use Rattle.std.proofs.lemmas.Option.{none-some, same_Some}
 use Rattle.serde_json.specs.Data.{Data, null, boolean, number, string, array, object}
-use Rattle.name_parts.specs.declared.faults.NameFault.{NameFault}
-use Rattle.name_parts.specs.declared.alphabets.Alphabet.TheVariants as alphabet
-use Rattle.name_parts.specs.declared.parts.PartForm.{PartForm}
-use Rattle.name_parts.specs.declared.parts.PartForm.TheVariants.{Letters, PairKey}
-use Rattle.name_parts.specs.Parts.{IsPart, bad_place, limited_fault, most_bytes, part_fault, unempty_fault}
-use Rattle.name_parts.proofs.PartLemmas.{part_fault-None}
+use Rattle.names_realms.specs.NameParts.declared.faults.NameFault.{NameFault}
+use Rattle.names_realms.specs.NameParts.declared.alphabets.Alphabet.TheVariants as alphabet
+use Rattle.names_realms.specs.NameParts.declared.parts.PartForm.{PartForm}
+use Rattle.names_realms.specs.NameParts.declared.parts.PartForm.TheVariants.{Letters, PairKey}
+use Rattle.names_realms.specs.NameParts.Parts.{IsPart, bad_place, limited_fault, most_bytes, part_fault, unempty_fault}
+use Rattle.names_realms.proofs.NameParts.PartLemmas.{part_fault-None}
 use Rattle.names_realms.specs.Pairs.{IsPairValue, pair_value_fault, utf8_place}
 use Rattle.names_realms.specs.Realms.{IsRealm, bad_subrealm_place, colon_fault, project_len, realm_fault}
 use Rattle.names_realms.proofs.RealmLemmas.{realm_fault-None}
-use Rattle.moments_spans.specs.Moments.{IsInYears}
-use Rattle.moments_spans.specs.MomentGrammar.{IsMomentText}
-use Rattle.moments_spans.proofs.SaidLaws.{one_moment_said}
+use Rattle.names_realms.specs.MomentsSpans.Moments.{IsInYears}
+use Rattle.names_realms.specs.MomentsSpans.MomentGrammar.{IsMomentText}
+use Rattle.names_realms.proofs.MomentsSpans.SaidLaws.{one_moment_said}
 use Rattle.json_fields.specs.declared.faults.FieldFault.{FieldFault}
 use Rattle.json_fields.specs.declared.names.Step.TheVariants.{Member, Place}
 use Rattle.json_fields.specs.Names.{NameForm}

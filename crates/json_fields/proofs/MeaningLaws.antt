@@ -1,11 +1,11 @@
 -- What a value means: at most one value of the program, and some where it has no fault.
 use Rattle.std.proofs.Common.{◌≡◌, ℕ, ℤ, ◌+◌, Bool, List, [], ◌∷◌, Option, Some, None, refl, sym, ap, ◌∙◌}
-use Rattle.name_parts.specs.declared.faults.NameFault.{NameFault}
-use Rattle.name_parts.specs.declared.faults.NameFault.TheVariants as name
+use Rattle.names_realms.specs.NameParts.declared.faults.NameFault.{NameFault}
+use Rattle.names_realms.specs.NameParts.declared.faults.NameFault.TheVariants as name
 use Rattle.names_realms.specs.declared.pairs.Pair.{Pair}
 use Rattle.names_realms.specs.Pairs.{pair_value_fault}
-use Rattle.moments_spans.specs.MomentGrammar.{IsMomentText, IsMomentFault, empty as no_text, bad, outside}
-use Rattle.moments_spans.proofs.SaidLaws.{one_moment_said}
+use Rattle.names_realms.specs.MomentsSpans.MomentGrammar.{IsMomentText, IsMomentFault, empty as no_text, bad, outside}
+use Rattle.names_realms.proofs.MomentsSpans.SaidLaws.{one_moment_said}
 use Rattle.serde_json.specs.Data.{Data, null, boolean, number, string, array, object}
 use Rattle.json_fields.specs.Names.{NameForm}
 use Rattle.json_fields.specs.Faults.{first, moved}

@@ -2,15 +2,15 @@
 use Rattle.std.proofs.Common.{◌≡◌, ℕ, ◌==◌, nat_eq, nat_lt, if◌then◌else◌, Bool, true, false, List, ◌++◌, length, drop, codes, Option, Some, None, option_map, refl}
 use Rattle.std.specs.List.{common_prefix_len}
 use Rattle.std.proofs.lemmas.Bool.{eqb-true}
-use Rattle.name_parts.specs.declared.alphabets.Alphabet.TheVariants as alphabet
-use Rattle.name_parts.specs.declared.faults.NameFault.{NameFault}
-use Rattle.name_parts.specs.declared.faults.NameFault.TheVariants.{Empty, TooLong, BadByte, NotCanonical, OutOfRange, Memory}
-use Rattle.name_parts.specs.declared.parts.PartForm.{PartForm}
-use Rattle.name_parts.specs.declared.parts.PartForm.TheVariants.{Letters}
-use Rattle.name_parts.specs.Parts.{part_fault, unempty_fault, most_bytes, bad_place, shifted}
-use Rattle.name_parts.specs.Sequences.{behind}
-use Rattle.name_parts.proofs.PartLemmas.{part_fault-None}
-use Rattle.name_parts.proofs.SequenceLemmas.{begins_with}
+use Rattle.names_realms.specs.NameParts.declared.alphabets.Alphabet.TheVariants as alphabet
+use Rattle.names_realms.specs.NameParts.declared.faults.NameFault.{NameFault}
+use Rattle.names_realms.specs.NameParts.declared.faults.NameFault.TheVariants.{Empty, TooLong, BadByte, NotCanonical, OutOfRange, Memory}
+use Rattle.names_realms.specs.NameParts.declared.parts.PartForm.{PartForm}
+use Rattle.names_realms.specs.NameParts.declared.parts.PartForm.TheVariants.{Letters}
+use Rattle.names_realms.specs.NameParts.Parts.{part_fault, unempty_fault, most_bytes, bad_place, shifted}
+use Rattle.names_realms.specs.NameParts.Sequences.{behind}
+use Rattle.names_realms.proofs.NameParts.PartLemmas.{part_fault-None}
+use Rattle.names_realms.proofs.NameParts.SequenceLemmas.{begins_with}
 use Rattle.names_realms.specs.Names.{IsInvocationName, invocation_id_fault, invocation_name_fault}
 use Rattle.names_realms.proofs.NameLaws.{one_invocation_named}
 use Rattle.serde_json.specs.Data.{Data}

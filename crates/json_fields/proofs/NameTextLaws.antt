@@ -7,8 +7,8 @@ use Rattle.std.proofs.lemmas.Bool.Decides.{nat_tests}
 use Rattle.std.proofs.lemmas.Str.{IsAscii-append, IsUtf8-append, IsUtf8-from_ascii}
 use Rattle.std.proofs.lemmas.Str.Ascii.{IsAscii-nil, IsAscii-cons}
 use Rattle.percent_encoding.specs.Percent.{percent_encode_byte}
-use Rattle.name_parts.specs.Escapes.{escaped, is_plain, spelling}
-use Rattle.name_parts.proofs.PartLemmas.{IsPart-utf8, ascii_literal}
+use Rattle.names_realms.specs.NameParts.Escapes.{escaped, is_plain, spelling}
+use Rattle.names_realms.proofs.NameParts.PartLemmas.{IsPart-utf8, ascii_literal}
 use Rattle.names_realms.specs.declared.result_names.ResultName.{ResultName}
 use Rattle.names_realms.specs.declared.parents.Parent.{Parent}
 use Rattle.names_realms.specs.declared.parents.Parent.TheVariants.{Invocation, Result}

@@ -1,8 +1,8 @@
 -- A value's one text spells it, and so it is read again.
 use Rattle.std.proofs.Common.{◌≡◌, ◌≤◌, ℕ, ℤ, List, None, refl}
-use Rattle.name_parts.specs.Parts.{IsPart, part_fault}
-use Rattle.name_parts.specs.declared.parts.PartForm.{PartForm}
-use Rattle.name_parts.proofs.PartLemmas.{IsPart-part_fault}
+use Rattle.names_realms.specs.NameParts.Parts.{IsPart, part_fault}
+use Rattle.names_realms.specs.NameParts.declared.parts.PartForm.{PartForm}
+use Rattle.names_realms.proofs.NameParts.PartLemmas.{IsPart-part_fault}
 use Rattle.names_realms.specs.Realms.{IsRealm, realm_fault}
 use Rattle.names_realms.specs.Names.{IsInvocationId, IsTestId, IsResultId, IsArtifactId, IsInvocationName, invocation_id_fault, test_id_fault, result_id_fault, artifact_id_fault, invocation_name, invocation_name_fault}
 use Rattle.names_realms.specs.Parents.{IsParentName, parent_name, parent_fault}
@@ -16,11 +16,11 @@ use Rattle.names_realms.proofs.InvocationNameLemmas.{IsInvocationName-fault}
 use Rattle.names_realms.proofs.ParentLemmas.{IsParentName-fault}
 use Rattle.names_realms.proofs.ResultNameLemmas.{IsResultName-fault}
 use Rattle.names_realms.proofs.ArtifactNameLemmas.{IsArtifactName-fault}
-use Rattle.moments_spans.specs.Moments.{IsInYears, moment_text}
-use Rattle.moments_spans.specs.MomentGrammar.{IsMomentText}
-use Rattle.moments_spans.specs.Spans.{most_span, span_text}
-use Rattle.moments_spans.specs.SpanGrammar.{IsSpanText}
-use Rattle.moments_spans.proofs.SaidLaws.{printed_moment_is_said, printed_span_is_said}
+use Rattle.names_realms.specs.MomentsSpans.Moments.{IsInYears, moment_text}
+use Rattle.names_realms.specs.MomentsSpans.MomentGrammar.{IsMomentText}
+use Rattle.names_realms.specs.MomentsSpans.Spans.{most_span, span_text}
+use Rattle.names_realms.specs.MomentsSpans.SpanGrammar.{IsSpanText}
+use Rattle.names_realms.proofs.MomentsSpans.SaidLaws.{printed_moment_is_said, printed_span_is_said}
 use Rattle.json_fields.specs.Texts.{IsSame, moment_fault, span_fault}
 use Rattle.json_fields.specs.Writing.{IsSpelled}
 use Rattle.json_fields.proofs.NameTextLaws.{result_name_utf8, parent_name_utf8, artifact_name_utf8}

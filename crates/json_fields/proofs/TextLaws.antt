@@ -2,20 +2,20 @@
 use Rattle.std.proofs.Common.{◌≡◌, ℕ, ℤ, ◌≤◌, ◌==◌, Bool, true, false, nat_le, List, [], ◌∷◌, length, Option, Some, None, Result, Ok, Err, option_map, if◌then◌else◌, refl, ap, subst, ◌∙◌, arith}
 use Rattle.std.proofs.lemmas.Bool.{leb-true}
 use Rattle.std.proofs.lemmas.Int.{ints}
-use Rattle.name_parts.specs.declared.faults.NameFault.{NameFault}
-use Rattle.name_parts.specs.declared.faults.NameFault.TheVariants.{Empty, OutOfRange}
+use Rattle.names_realms.specs.NameParts.declared.faults.NameFault.{NameFault}
+use Rattle.names_realms.specs.NameParts.declared.faults.NameFault.TheVariants.{Empty, OutOfRange}
 use Rattle.names_realms.specs.Pairs.{IsPairKey, IsPairValue, pair_value_fault, pair_fault}
 use Rattle.names_realms.specs.declared.pairs.PairFault.TheVariants.{Value}
 use Rattle.names_realms.proofs.PairLemmas.{pair_fault-None, pair-fault}
-use Rattle.moments_spans.specs.Moments.{IsInYears}
-use Rattle.moments_spans.specs.Spans.{most_span}
-use Rattle.moments_spans.specs.MomentGrammar.{IsMomentText, IsMomentFault}
-use Rattle.moments_spans.specs.SpanGrammar.{IsSpanText, IsSpanFault}
-use Rattle.moments_spans.specs.MomentReading.{moment_of, moment_from, moment_judged, is_in_years}
-use Rattle.moments_spans.specs.SpanReading.{span_of, span_from, span_judged}
-use Rattle.moments_spans.proofs.MomentTexts.{said_of_text, fault_of_text}
-use Rattle.moments_spans.proofs.SpanTexts.{said_of_text as span_said_of_text, fault_of_text as span_fault_of_text}
-use Rattle.moments_spans.proofs.SaidLaws.{said_moment_has_no_fault, one_moment_fault, said_span_has_no_fault, one_span_fault}
+use Rattle.names_realms.specs.MomentsSpans.Moments.{IsInYears}
+use Rattle.names_realms.specs.MomentsSpans.Spans.{most_span}
+use Rattle.names_realms.specs.MomentsSpans.MomentGrammar.{IsMomentText, IsMomentFault}
+use Rattle.names_realms.specs.MomentsSpans.SpanGrammar.{IsSpanText, IsSpanFault}
+use Rattle.names_realms.specs.MomentsSpans.MomentReading.{moment_of, moment_from, moment_judged, is_in_years}
+use Rattle.names_realms.specs.MomentsSpans.SpanReading.{span_of, span_from, span_judged}
+use Rattle.names_realms.proofs.MomentsSpans.MomentTexts.{said_of_text, fault_of_text}
+use Rattle.names_realms.proofs.MomentsSpans.SpanTexts.{said_of_text as span_said_of_text, fault_of_text as span_fault_of_text}
+use Rattle.names_realms.proofs.MomentsSpans.SaidLaws.{said_moment_has_no_fault, one_moment_fault, said_span_has_no_fault, one_span_fault}
 use Rattle.json_fields.specs.Texts.{wrong_of, moment_fault, span_fault}
 
 -- a value that has no fault as a value of a pair

@@ -1,10 +1,10 @@
 -- Laws of the faults of moments and spans: they are those of the grammars.
 use Rattle.std.specs.Prelude.{◌≡◌, ◌↔◌, ◌≤◌, ℕ, ℤ, List, Some, None}
-use Rattle.name_parts.specs.declared.faults.NameFault.{NameFault}
-use Rattle.moments_spans.specs.Moments.{IsInYears}
-use Rattle.moments_spans.specs.MomentGrammar.{IsMomentText, IsMomentFault}
-use Rattle.moments_spans.specs.Spans.{most_span}
-use Rattle.moments_spans.specs.SpanGrammar.{IsSpanText, IsSpanFault}
+use Rattle.names_realms.specs.NameParts.declared.faults.NameFault.{NameFault}
+use Rattle.names_realms.specs.MomentsSpans.Moments.{IsInYears}
+use Rattle.names_realms.specs.MomentsSpans.MomentGrammar.{IsMomentText, IsMomentFault}
+use Rattle.names_realms.specs.MomentsSpans.Spans.{most_span}
+use Rattle.names_realms.specs.MomentsSpans.SpanGrammar.{IsSpanText, IsSpanFault}
 use Rattle.json_fields.specs.Texts.{moment_fault, span_fault}
 
 -- The fault of a moment's text is the one that its grammar says.

@@ -1,3 +1,5 @@
+pub use Rattle.names_realms.specs.NameParts
+pub use Rattle.names_realms.specs as NamesRealms
 pub mod Names
 pub mod Whys
 pub mod Faults

@@ -1,9 +1,9 @@
 -- Tags: pairs of a key and a value, each an object of two texts.
 use Rattle.std.specs.Prelude.{ℕ, ◌==◌, if◌then◌else◌, List, [], ◌∷◌, length, codes, Option}
 use Rattle.serde_json.specs.Data.{Data, string, object, Members, no_members, put}
-use Rattle.name_parts.specs.Parts.{part_fault}
-use Rattle.name_parts.specs.declared.faults.NameFault.{NameFault}
-use Rattle.name_parts.specs.declared.parts.PartForm.TheVariants.{PairKey}
+use Rattle.names_realms.specs.NameParts.Parts.{part_fault}
+use Rattle.names_realms.specs.NameParts.declared.faults.NameFault.{NameFault}
+use Rattle.names_realms.specs.NameParts.declared.parts.PartForm.TheVariants.{PairKey}
 use Rattle.names_realms.specs.declared.pairs.Pair.{Pair}
 use Rattle.names_realms.specs.Pairs.{IsPairKey, IsPairValue, pair_value_fault}
 use Rattle.json_fields.specs.Names.{NameForm, word}

@@ -1,9 +1,9 @@
 -- Texts that are read by a grammar.
 use Rattle.std.specs.Prelude.{◌≡◌, ℕ, List, Option, Some, None, Result, Ok, Err}
 use Rattle.serde_json.specs.Data.{Data, null, boolean, number, string, array, object}
-use Rattle.name_parts.specs.declared.faults.NameFault.{NameFault}
-use Rattle.moments_spans.specs.MomentReading.{moment_of}
-use Rattle.moments_spans.specs.SpanReading.{span_of}
+use Rattle.names_realms.specs.NameParts.declared.faults.NameFault.{NameFault}
+use Rattle.names_realms.specs.MomentsSpans.MomentReading.{moment_of}
+use Rattle.names_realms.specs.MomentsSpans.SpanReading.{span_of}
 use Rattle.json_fields.specs.Faults.{here}
 use Rattle.json_fields.specs.Whys.{why_of}
 use Rattle.json_fields.specs.declared.faults.FieldFault.{FieldFault}

@@ -1,7 +1,7 @@
 -- Why a value is refused, and the text of it.
 use Rattle.std.specs.Prelude.{ℕ, List, [], ◌++◌, codes, decimal, Option, Some, None}
-use Rattle.name_parts.specs.declared.faults.NameFault.{NameFault}
-use Rattle.name_parts.specs.declared.faults.NameFault.TheVariants as name
+use Rattle.names_realms.specs.NameParts.declared.faults.NameFault.{NameFault}
+use Rattle.names_realms.specs.NameParts.declared.faults.NameFault.TheVariants as name
 use Rattle.json_fields.specs.declared.whys.Why.{Why}
 use Rattle.json_fields.specs.declared.whys.Why.TheVariants.{Empty, TooLong, BadByte, NotCanonical, OutOfRange, Negative, Unknown, NotWhole, TooDeep, TooMany, Differs, NotBase64, BadForm, OtherQuery, OutOfProfile, NotBuilt, NotUpdatable, Twice}
 

@@ -2,7 +2,7 @@
 use Rattle.std.specs.Prelude.{◌≡◌, ◌≢◌, ◌==◌, ℕ, Bool, List, [], ◌∷◌, length, map, Option, Some, None, ⊤}
 use Rattle.serde_json.specs.Data.{Data, array, Members, put}
 use Rattle.serde_json.specs.View.{items_of}
-use Rattle.name_parts.specs.declared.faults.NameFault.{NameFault}
+use Rattle.names_realms.specs.NameParts.declared.faults.NameFault.{NameFault}
 use Rattle.json_fields.specs.Names.{NameForm}
 use Rattle.json_fields.specs.Fields.{set}
 use Rattle.json_fields.specs.declared.faults.FieldFault.{FieldFault}

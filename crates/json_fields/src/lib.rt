@@ -1,7 +1,6 @@
 //! The frame by which JSON bodies are read and written: kinds of values, fields, lists of fields.
 //!
-//! A body's fault is the first fault in the list of its fields, and where there is none its value
-//! is what the fields say.
+//! A body's fault is the first one in the list of its fields; else its value is what they say.
 #![tactic(auto)]
 
 mod body;
@@ -23,6 +22,7 @@ pub use fields::{Form, filled_at, optional, optional_list, or_empty_text, requir
 pub use kinds::{UnbuiltList, object};
 pub use moves::{ids_from, pairs_from};
 pub use names::{Name, Step};
+pub use names_realms::{self, lists, name_parts};
 pub use tags::{Tag, TagKey, TagValue, tag_value};
 pub use texts::{InvocationName, Spelled, SpelledOut, is_empty_text, read_text, write_text};
 pub use whys::Why;

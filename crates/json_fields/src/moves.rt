@@ -4,7 +4,7 @@ ghost use Rattle.std.specs.Prelude.{◌≡◌, IfOk};
 
 use crate::tags::Tag;
 use crate::texts::InvocationName;
-use lists::Listed;
+use names_realms::lists::Listed;
 use names_realms::{InvocationId, Pair};
 use std::alloc::{AllocError, Global};
 

@@ -4,7 +4,7 @@
 ghost use Rattle.std.specs.Prelude.{◌≡◌, ◌≢◌, false, ℕ, List, Option, None, Some, IfOk, IfErr, string_bytes};
 ghost use Rattle.serde_json.specs.Data.{string};
 ghost use Rattle.serde_json.specs.View.{view};
-ghost use Rattle.name_parts.specs.declared.faults.NameFault.{NameFault};
+ghost use Rattle.names_realms.specs.NameParts.declared.faults.NameFault.{NameFault};
 ghost use Rattle.json_fields.specs.Faults.{Says};
 ghost use Rattle.json_fields.specs.Kinds.{empty_text};
 ghost use Rattle.json_fields.specs.Texts.{a_text, IsText, refused};
@@ -14,7 +14,7 @@ use crate::faults::{FaultKind, ReadFault};
 use crate::fields::Form;
 use crate::whys::Why;
 use crate::writing::Written;
-use name_parts::owned_text;
+use names_realms::name_parts::owned_text;
 use names_realms::{
     ArtifactId, ArtifactName, InvocationId, Moment, NameFault, Parent, Realm, ResultId, ResultName,
     Span, TestId,
@@ -298,7 +298,7 @@ impl SpelledOut for Parent {
 
 impl Spelled for Moment {
     ghost use Rattle.json_fields.specs.Texts.{moment_fault};
-    ghost use Rattle.moments_spans.specs.MomentGrammar.{IsMomentText};
+    ghost use Rattle.names_realms.specs.MomentsSpans.MomentGrammar.{IsMomentText};
 
     ghost text_fault = { moment_fault };
 
@@ -317,7 +317,7 @@ impl Spelled for Moment {
 
 impl Spelled for Span {
     ghost use Rattle.json_fields.specs.Texts.{span_fault};
-    ghost use Rattle.moments_spans.specs.SpanGrammar.{IsSpanText};
+    ghost use Rattle.names_realms.specs.MomentsSpans.SpanGrammar.{IsSpanText};
 
     ghost text_fault = { span_fault };
 
@@ -335,7 +335,7 @@ impl Spelled for Span {
 }
 
 impl SpelledOut for Span {
-    ghost use Rattle.moments_spans.specs.Spans.{span_text};
+    ghost use Rattle.names_realms.specs.MomentsSpans.Spans.{span_text};
 
     ghost spelling = { span_text };
 
@@ -345,7 +345,7 @@ impl SpelledOut for Span {
 }
 
 impl SpelledOut for Moment {
-    ghost use Rattle.moments_spans.specs.Moments.{moment_text};
+    ghost use Rattle.names_realms.specs.MomentsSpans.Moments.{moment_text};
 
     ghost spelling = { moment_text };
 

@@ -1,5 +1,5 @@
 //! What is kept of a numbered request.
-use lists::{Bytes, Listed};
+use names_realms::lists::{Bytes, Listed};
 use names_realms::{Moment, Pair};
 
 /// What the answer to a repeat is made of again: the places of rows, of which what is shown never

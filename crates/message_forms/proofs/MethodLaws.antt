@@ -5,13 +5,13 @@ use Rattle.message_forms.specs.Methods.{included_form, row_of, by_method, by_req
 use Rattle.message_forms.specs.declared.requests.Method.{Method}
 use Rattle.message_forms.specs.declared.requests.Request.{Request}
 use Rattle.json_fields.proofs.PlainLaws.{IsPlain}
-use Rattle.field_kinds.proofs.RequestLaws.{IsLawful}
-use Rattle.invocation_forms.proofs.NamedLaws.{named_lawful}
-use Rattle.invocation_forms.proofs.CreateLaws.{create_lawful}
-use Rattle.invocation_forms.proofs.UpdateLaws.{update_lawful}
-use Rattle.invocation_forms.proofs.IncludedLaws.{include_lawful}
-use Rattle.result_forms.proofs.MethodLaws.{results_lawful, exonerations_lawful}
-use Rattle.artifact_forms.proofs.MethodLaws.{artifacts_lawful, artifact_lawful, list_lawful}
+use Rattle.query_forms.proofs.FieldKinds.RequestLaws.{IsLawful}
+use Rattle.query_forms.proofs.InvocationForms.NamedLaws.{named_lawful}
+use Rattle.query_forms.proofs.InvocationForms.CreateLaws.{create_lawful}
+use Rattle.query_forms.proofs.InvocationForms.UpdateLaws.{update_lawful}
+use Rattle.query_forms.proofs.InvocationForms.IncludedLaws.{include_lawful}
+use Rattle.query_forms.proofs.ResultForms.MethodLaws.{results_lawful, exonerations_lawful}
+use Rattle.artifact_replies.proofs.ArtifactForms.MethodLaws.{artifacts_lawful, artifact_lawful, list_lawful}
 use Rattle.query_forms.proofs.SingleLaws.{single_lawful}
 use Rattle.query_forms.proofs.ResultLaws.{results_lawful as rows_lawful}
 use Rattle.query_forms.proofs.VariantLaws.{variants_lawful}

@@ -5,12 +5,12 @@ use Rattle.json_fields.specs.Fields.{IsJson}
 use Rattle.message_forms.specs.Methods.{row_of, by_request, method_asked, said_in, request_fault, AsksFor, Means}
 use Rattle.message_forms.specs.Laws.{OneRequestAsked, AskedCanBeWritten, UpdateChangesSomething}
 use Rattle.message_forms.specs.Reading.{Asks}
-use Rattle.invocation_forms.specs.Updates.{ChangesSomething}
-use Rattle.names_realms.specs.declared.pairs.Pair.{Pair}
+use Rattle.query_forms.specs.InvocationForms.Updates.{ChangesSomething}
+use Rattle.json_fields.specs.NamesRealms.declared.pairs.Pair.{Pair}
 use Rattle.message_forms.specs.declared.requests.Method.{Method}
 use Rattle.message_forms.specs.declared.requests.Request.{Request}
 use Rattle.message_forms.specs.declared.requests.Request.TheVariants as asks
-use Rattle.field_kinds.proofs.ReadLaws.{value_of_text}
+use Rattle.query_forms.proofs.FieldKinds.ReadLaws.{value_of_text}
 use Rattle.message_forms.proofs.MethodLaws.{lawful, asked_of, said_means, said_asked}
 
 -- a request is what it says, by its method's row

@@ -2,12 +2,12 @@
 use Rattle.std.proofs.Common.{arith}
 use Rattle.serde_json.specs.Data.{no_members}
 use Rattle.json_fields.proofs.PlainLaws.{IsPlain, no_members_plain, plain_object, plain-put_list}
-use Rattle.field_kinds.proofs.RequestLaws.{plain_within}
-use Rattle.invocation_forms.specs.Replies.{invocation_data}
-use Rattle.invocation_forms.specs.Shown.{InvocationShown}
-use Rattle.invocation_forms.proofs.TextLaws.{invocation_plain}
-use Rattle.result_forms.specs.Replies.{result_data, exoneration_data}
-use Rattle.result_forms.proofs.PlainLaws.{shown_results_plain, shown_exonerations_plain}
+use Rattle.query_forms.proofs.FieldKinds.RequestLaws.{plain_within}
+use Rattle.query_forms.specs.InvocationForms.Replies.{invocation_data}
+use Rattle.query_forms.specs.InvocationForms.Shown.{InvocationShown}
+use Rattle.query_forms.proofs.InvocationForms.TextLaws.{invocation_plain}
+use Rattle.query_forms.specs.ResultForms.Replies.{result_data, exoneration_data}
+use Rattle.query_forms.proofs.ResultForms.PlainLaws.{shown_results_plain, shown_exonerations_plain}
 use Rattle.message_forms.specs.Names as name
 use Rattle.message_forms.specs.Batches.{ResultsShown, ExonerationsShown, results_data, exonerations_data}
 

@@ -4,7 +4,7 @@ use Rattle.serde_json.specs.Data.{Data, object, no_members}
 use Rattle.json_fields.specs.Writing.{put_list}
 use Rattle.test_results.specs.declared.result.TestResult.{TestResult}
 use Rattle.test_results.specs.declared.exoneration.TestExoneration.{TestExoneration}
-use Rattle.result_forms.specs.Replies.{result_data, exoneration_data}
+use Rattle.query_forms.specs.ResultForms.Replies.{result_data, exoneration_data}
 use Rattle.message_forms.specs.Names as name
 
 -- The id of the invocation that holds the rows, and the rows.

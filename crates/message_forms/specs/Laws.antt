@@ -8,7 +8,7 @@ use Rattle.message_forms.specs.Refusals.{refusal_of}
 use Rattle.message_forms.specs.declared.reading.FormFault.{FormFault}
 use Rattle.message_forms.specs.declared.requests.Request.{Request}
 use Rattle.message_forms.specs.declared.requests.Request.TheVariants as asks
-use Rattle.invocation_forms.specs.declared.updates.UpdateInvocation.{UpdateInvocation}
+use Rattle.query_forms.specs.InvocationForms.declared.updates.UpdateInvocation.{UpdateInvocation}
 use Rattle.call_forms.specs.declared.forms.Refusal.{Refusal}
 
 -- One body asks for at most one request.

@@ -5,33 +5,33 @@ use Rattle.std.specs.List.{find}
 use Rattle.std.specs.Str.{bytes_eq}
 use Rattle.serde_json.specs.Data.{Data}
 use Rattle.json_fields.specs.declared.faults.FieldFault.{FieldFault}
-use Rattle.field_kinds.specs.Requests.{RequestForm}
+use Rattle.query_forms.specs.FieldKinds.Requests.{RequestForm}
 use Rattle.message_forms.specs.Rows.{Row}
-use Rattle.invocation_forms.specs.Create.{create_form}
-use Rattle.invocation_forms.specs.Updates.{update_form}
-use Rattle.invocation_forms.specs.Included.{include_form}
-use Rattle.invocation_forms.specs.Named.{named_form}
+use Rattle.query_forms.specs.InvocationForms.Create.{create_form}
+use Rattle.query_forms.specs.InvocationForms.Updates.{update_form}
+use Rattle.query_forms.specs.InvocationForms.Included.{include_form}
+use Rattle.query_forms.specs.InvocationForms.Named.{named_form}
 use Rattle.message_forms.specs.declared.requests.Method.{Method}
 use Rattle.message_forms.specs.declared.requests.Method.TheVariants.{CreateInvocation, UpdateInvocation, FinalizeInvocation, UpdateIncludedInvocations, BatchCreateTestResults, BatchCreateTestExonerations, BatchCreateArtifacts, GetInvocation, GetTestResult, QueryTestResults, QueryTestVariants, GetArtifact, ListArtifacts}
 use Rattle.message_forms.specs.declared.requests.Request.{Request}
 use Rattle.message_forms.specs.declared.requests.Request.TheVariants as asks
-use Rattle.invocation_forms.specs.declared.create.CreateInvocation.{CreateInvocation as Create}
-use Rattle.invocation_forms.specs.declared.updates.UpdateInvocation.{UpdateInvocation as Update}
-use Rattle.invocation_forms.specs.declared.named.NamedInvocation.{NamedInvocation as Named}
-use Rattle.invocation_forms.specs.declared.included.IncludingInvocation.{IncludingInvocation as Include}
-use Rattle.result_forms.specs.Methods.{results_form, exonerations_form}
+use Rattle.query_forms.specs.InvocationForms.declared.create.CreateInvocation.{CreateInvocation as Create}
+use Rattle.query_forms.specs.InvocationForms.declared.updates.UpdateInvocation.{UpdateInvocation as Update}
+use Rattle.query_forms.specs.InvocationForms.declared.named.NamedInvocation.{NamedInvocation as Named}
+use Rattle.query_forms.specs.InvocationForms.declared.included.IncludingInvocation.{IncludingInvocation as Include}
+use Rattle.query_forms.specs.ResultForms.Methods.{results_form, exonerations_form}
 use Rattle.query_forms.specs.Single.{single_form}
 use Rattle.query_forms.specs.Results.{results_form as rows_form}
 use Rattle.query_forms.specs.Variants.{variants_form}
-use Rattle.artifact_forms.specs.Methods.{artifacts_form, artifact_form, list_form}
+use Rattle.artifact_replies.specs.ArtifactForms.Methods.{artifacts_form, artifact_form, list_form}
 use Rattle.query_forms.specs.declared.single.GetTestResult.{GetTestResult as Single}
 use Rattle.query_forms.specs.declared.results.QueryTestResults.{QueryTestResults as Rows}
 use Rattle.query_forms.specs.declared.variants.QueryTestVariants.{QueryTestVariants as Variants}
-use Rattle.artifact_forms.specs.declared.batches.BatchCreateArtifacts.{BatchCreateArtifacts as Files}
-use Rattle.artifact_forms.specs.declared.named.GetArtifact.{GetArtifact as File}
-use Rattle.artifact_forms.specs.declared.listed.ListArtifacts.{ListArtifacts as Page}
-use Rattle.result_forms.specs.declared.batches.BatchCreateTestResults.{BatchCreateTestResults as Results}
-use Rattle.result_forms.specs.declared.batches.BatchCreateTestExonerations.{BatchCreateTestExonerations as Exonerations}
+use Rattle.artifact_replies.specs.ArtifactForms.declared.batches.BatchCreateArtifacts.{BatchCreateArtifacts as Files}
+use Rattle.artifact_replies.specs.ArtifactForms.declared.named.GetArtifact.{GetArtifact as File}
+use Rattle.artifact_replies.specs.ArtifactForms.declared.listed.ListArtifacts.{ListArtifacts as Page}
+use Rattle.query_forms.specs.ResultForms.declared.batches.BatchCreateTestResults.{BatchCreateTestResults as Results}
+use Rattle.query_forms.specs.ResultForms.declared.batches.BatchCreateTestExonerations.{BatchCreateTestExonerations as Exonerations}
 
 abbrev pub recorder : {Q : Type 0} → List ℕ → RequestForm Q → (Q → Request) → Row
 recorder {Q} name form asks = record {

@@ -4,7 +4,7 @@ use Rattle.std.specs.Prelude.{ℕ, List, ◌++◌, codes}
 use Rattle.serde_json.specs.Data.{Data, object, no_members}
 use Rattle.serde_json.specs.Written.{compact_text}
 use Rattle.artifact_replies.specs.Replies.{artifact_data, artifacts_data}
-use Rattle.invocation_forms.specs.Replies.{invocation_data}
+use Rattle.query_forms.specs.InvocationForms.Replies.{invocation_data}
 use Rattle.message_forms.specs.Batches.{results_data, exonerations_data}
 use Rattle.message_forms.specs.declared.replies.Reply.{Reply}
 use Rattle.message_forms.specs.declared.replies.Reply.TheVariants.{Empty, Invocation, Results, Exonerations, Artifacts, Artifact}

@@ -1,6 +1,6 @@
 -- What a row of the table of methods says.
 use Rattle.std.specs.Prelude.{ℕ, List}
-use Rattle.field_kinds.specs.Requests.{RequestForm}
+use Rattle.query_forms.specs.FieldKinds.Requests.{RequestForm}
 use Rattle.message_forms.specs.declared.requests.Request.{Request}
 
 -- A method: the service that has it, as pRPC names it, its name there, and its requests.

@@ -2,14 +2,14 @@
 ghost use Rattle.std.specs.Prelude.{◌≡◌, ◌++◌, ◌∷◌, [], IfOk, OnOk, map};
 ghost use Rattle.serde_json.specs.View.{view, members_view};
 ghost use Rattle.json_fields.specs.Writing.{list_data, put_list};
-ghost use Rattle.result_forms.specs.Replies.{result_data, exoneration_data};
+ghost use Rattle.query_forms.specs.ResultForms.Replies.{result_data, exoneration_data};
 ghost use Rattle.message_forms.specs.Names.{test_results, test_exonerations};
 ghost use Rattle.message_forms.specs.Batches.{results_data, exonerations_data};
 
 use crate::names::{test_exonerations, test_results};
+use json_fields::names_realms::InvocationId;
 use json_fields::put;
-use names_realms::InvocationId;
-use result_forms::{exoneration_value, result_value};
+use query_forms::result_forms::{exoneration_value, result_value};
 use serde_json::{Map, Value};
 use std::alloc::{AllocError, Global};
 use std::marker::Model;

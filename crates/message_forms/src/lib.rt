@@ -10,18 +10,19 @@ mod refusals;
 mod replies;
 mod requests;
 
-pub use artifact_forms::{BatchCreateArtifacts, GetArtifact, ListArtifacts};
 pub use artifact_replies::ShownArtifacts;
+pub use artifact_replies::artifact_forms::{BatchCreateArtifacts, GetArtifact, ListArtifacts};
+pub use artifact_replies::text_kinds::{LimitedText, RequestId};
 pub use batches::{ShownExonerations, ShownResults};
 pub use call_forms::{Answer, Asked, Refusal, Standin, Told, write_refusal};
-pub use invocation_forms::{
+pub use json_fields::{FaultKind, FieldFault, Step, Tag, Why, pairs_from};
+pub use query_forms;
+pub use query_forms::invocation_forms::{
     CreateInvocation, IncludingInvocation, NamedInvocation, NewInvocation, ShownInvocation,
     UpdateInvocation, state_name,
 };
-pub use json_fields::{FaultKind, FieldFault, Step, Tag, Why, pairs_from};
+pub use query_forms::result_forms::{BatchCreateTestExonerations, BatchCreateTestResults};
 pub use reading::{FormFault, read_request};
 pub use refusals::refusal_of;
 pub use replies::{Reply, ShownArtifact, write_reply};
 pub use requests::{Method, Request, write_request};
-pub use result_forms::{BatchCreateTestExonerations, BatchCreateTestResults};
-pub use text_kinds::{LimitedText, RequestId};

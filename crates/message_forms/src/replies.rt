@@ -5,10 +5,10 @@ ghost use Rattle.serde_json.specs.Written.{compact_text, has_float};
 ghost use Rattle.message_forms.specs.Replies.{reply_prefix, reply_text};
 
 use crate::batches::{ShownExonerations, ShownResults, exonerations_value, results_value};
+use artifact_replies::artifacts::Artifact;
 use artifact_replies::{ShownArtifacts, append_artifact, append_artifacts};
-use artifacts::Artifact;
-use invocation_forms::{ShownInvocation, invocation_value};
 use lists::Bytes;
+use query_forms::invocation_forms::{ShownInvocation, invocation_value};
 use serde_json::{Map, Value};
 use std::alloc::{AllocError, Global};
 use std::marker::Model;
@@ -20,7 +20,7 @@ pub struct ShownArtifact<'r> {
 }
 
 impl<'r> Model for ShownArtifact<'r> {
-    ghost use Rattle.artifacts.specs.declared.artifact.Artifact.{Artifact};
+    ghost use Rattle.artifact_replies.specs.Artifacts.declared.artifact.Artifact.{Artifact};
 
     ghost Value = { Artifact };
 

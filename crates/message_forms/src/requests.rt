@@ -9,12 +9,14 @@ ghost use Rattle.message_forms.specs.Reading.{Asks};
 ghost use Rattle.message_forms.specs.Methods.{is_called, method_of, service_of, name_of, request_fault, method_asked};
 ghost use Rattle.message_forms.specs.Methods.{request_data, Means, CanBeAsked, IsReadAgain};
 
-use artifact_forms::{BatchCreateArtifacts, GetArtifact, ListArtifacts};
-use invocation_forms::{CreateInvocation, IncludingInvocation, NamedInvocation, UpdateInvocation};
+use artifact_replies::artifact_forms::{BatchCreateArtifacts, GetArtifact, ListArtifacts};
 use json_fields::{Form, ReadFault};
 use lists::Bytes;
+use query_forms::invocation_forms::{
+    CreateInvocation, IncludingInvocation, NamedInvocation, UpdateInvocation,
+};
+use query_forms::result_forms::{BatchCreateTestExonerations, BatchCreateTestResults};
 use query_forms::{GetTestResult, QueryTestResults, QueryTestVariants};
-use result_forms::{BatchCreateTestExonerations, BatchCreateTestResults};
 use serde_json::Value;
 use std::alloc::{AllocError, Global};
 

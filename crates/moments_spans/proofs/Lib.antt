@@ -1,3 +1,4 @@
+pub use Rattle.name_parts.proofs as NameParts
 pub mod CivilLemmas
 pub mod FractionLemmas
 pub mod DigitLaws

@@ -1,3 +1,4 @@
+pub use Rattle.name_parts.specs as NameParts
 pub mod Civil
 pub mod Moments
 pub mod MomentReading

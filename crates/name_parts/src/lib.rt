@@ -15,7 +15,7 @@ mod texts;
 pub use alphabets::Alphabet;
 pub use escapes::{append_escaped, escaped_len, read_escaped};
 pub use faults::NameFault;
-pub use lists::{Bytes, Numbers};
+pub use lists::{self, Bytes, Numbers};
 pub use parts::{
     PartForm, fault_of_part, fault_unless_empty, first_bad, limited, moved, read_part,
     shifted_fault,

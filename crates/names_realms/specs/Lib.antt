@@ -1,3 +1,5 @@
+pub use Rattle.moments_spans.specs as MomentsSpans
+pub use Rattle.moments_spans.specs.NameParts
 pub mod Names
 pub mod ResultNames
 pub mod Parents

@@ -5,7 +5,7 @@ use Rattle.std.specs.List.{position_or_len}
 use Rattle.std.proofs.lemmas.Bool.Decides.{nat_tests}
 use Rattle.std.proofs.lemmas.List.{take_at}
 use borrow.Rule.Slice.PartMut.{put_mid, post_of}
-use Rattle.names_realms.specs.Realms.{IsRealm, project_len}
+use Rattle.policy_checks.specs.NamesRealms.Realms.{IsRealm, project_len}
 
 colon_before : (xs ys : List ℕ) → position_or_len (λ b. b == 58) (xs ++ 58 ∷ ys) ≤ length xs
 colon_before [] ys = omega arith

@@ -2,7 +2,7 @@
 use Rattle.std.specs.Prelude.{◌≡◌, ◌⊎◌, ℕ, Bool, true, false, ◌&&◌, ◌||◌, ◌==◌, List, ◌++◌, take, Option, Some, None, codes}
 use Rattle.std.specs.List.{list_any}
 use Rattle.std.specs.Str.{bytes_eq}
-use Rattle.names_realms.specs.Realms.{project_len}
+use Rattle.policy_checks.specs.NamesRealms.Realms.{project_len}
 use Rattle.policy_checks.specs.declared.permission.Permission.{Permission}
 use Rattle.policy_tables.specs.declared.tables.Binding.{Binding}
 use Rattle.policy_tables.specs.declared.tables.PolicyTables.{PolicyTables}

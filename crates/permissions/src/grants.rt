@@ -10,8 +10,8 @@ ghost use Rattle.permissions.specs.Masks.{has_bit};
 ghost use Rattle.permissions.specs.Grants.{granted, AreMasks, AreGrants, bindings_at};
 
 use crate::roles::mask_of_role;
-use name_parts::Bytes;
 use policy_checks::{Book, rest_behind};
+use policy_tables::name_parts::Bytes;
 use policy_tables::{Binding, RealmTable};
 use std::alloc::{AllocError, Global};
 use std::collections::BTreeMap;

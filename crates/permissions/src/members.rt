@@ -7,9 +7,9 @@ ghost use Rattle.policy_checks.specs.Places.{members_at_place};
 ghost use Rattle.permissions.specs.Allows.{is_user};
 ghost use Rattle.permissions.specs.Grants.{AreMembers, is_member};
 
-use name_parts::Bytes;
 use policy_checks::Book;
 use policy_tables::Group;
+use policy_tables::name_parts::Bytes;
 use std::alloc::{AllocError, Global};
 use std::collections::BTreeSet;
 

@@ -5,8 +5,8 @@ ghost use Rattle.policy_checks.specs.Checks.{realm_names};
 ghost use Rattle.policy_tables.specs.Entries.{with_entry};
 ghost use Rattle.permissions.specs.Graph.{places_in, graph_from, graph_of};
 
-use name_parts::Bytes;
 use policy_checks::Book;
+use policy_tables::name_parts::Bytes;
 use policy_tables::{Listed, RealmTable};
 use std::alloc::{AllocError, Global};
 

@@ -8,9 +8,9 @@ ghost use Rattle.permissions.specs.Masks.{has_bit};
 ghost use Rattle.permissions.specs.Grants.{AreMasks, AreMasksBefore};
 
 use crate::masks::bit_of;
-use name_parts::Bytes;
 use policy_checks::{Book, Permission};
 use policy_tables::Role;
+use policy_tables::name_parts::Bytes;
 use std::alloc::{AllocError, Global};
 
 /// The bits with that of the permission of a text.

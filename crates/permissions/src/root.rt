@@ -1,7 +1,7 @@
 //! The `@root` of a realm's project.
 ghost use Rattle.std.specs.Prelude.{◌≡◌, ◌<◌, ◌≤◌, ◌==◌, ◌++◌, take, drop, length, IfSome};
 ghost use Rattle.std.specs.List.{position};
-ghost use Rattle.names_realms.specs.Realms.{IsRealm, project_len};
+ghost use Rattle.policy_checks.specs.NamesRealms.Realms.{IsRealm, project_len};
 ghost use Rattle.permissions.specs.Allows.{root_of};
 
 /// Writes bytes over the front of a slice.

@@ -2,8 +2,8 @@
 use Rattle.std.proofs.Common.{◌≡◌, ℕ, Bool, true, false, List, Some, sym, ◌∙◌}
 use Rattle.std.specs.Prelude.{◌≢◌, IfOk, Result, Ok, Err}
 use Rattle.std.specs.declared.alloc.AllocError.{AllocError}
-use Rattle.name_parts.specs.declared.faults.NameFault.{NameFault}
-use Rattle.name_parts.specs.declared.faults.NameFault.TheVariants.{Memory}
+use Rattle.names_realms.specs.NameParts.declared.faults.NameFault.{NameFault}
+use Rattle.names_realms.specs.NameParts.declared.faults.NameFault.TheVariants.{Memory}
 use Rattle.names_realms.specs.Realms.{IsRealm, realm_fault}
 use Rattle.names_realms.proofs.RealmLemmas.{IsRealm-realm_fault}
 use Rattle.policy_checks.specs.Checks.{is_realm_name}

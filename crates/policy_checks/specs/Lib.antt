@@ -1,3 +1,4 @@
+pub use Rattle.names_realms.specs as NamesRealms
 pub mod Checks
 pub mod Index
 pub mod Owners

@@ -9,8 +9,8 @@ use crate::book::Book;
 use crate::permission::Permission;
 use crate::texts::{Check, TextKind};
 use hex::FromHexError;
-use name_parts::NameFault;
 use names_realms::Realm;
+use names_realms::name_parts::NameFault;
 use std::alloc::{AllocError, Global};
 
 /// Whether a byte may stand in a name, behind its first one.

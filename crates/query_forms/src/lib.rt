@@ -13,6 +13,8 @@ mod sizes;
 mod tokens;
 mod variants;
 
+pub use invocation_forms;
+pub use result_forms;
 pub use results::QueryTestResults;
 pub use single::GetTestResult;
 pub use variants::QueryTestVariants;

@@ -7,11 +7,11 @@ use Rattle.names_realms.specs.declared.pairs.Pair.{Pair}
 use Rattle.names_realms.specs.declared.states.Status.TheVariants.{Pass}
 use Rattle.json_fields.proofs.PlainLaws.{IsPlain, plain_text}
 use Rattle.json_fields.specs.Names.{NameForm}
-use Rattle.field_kinds.proofs.RequestLaws.{plain_within}
+use Rattle.result_forms.proofs.FieldKinds.RequestLaws.{plain_within}
 use Rattle.result_forms.specs.Shown.{flag_shown, properties_shown, tags_shown, text_shown, variant_shown}
 use Rattle.result_forms.proofs.PlainLaws.{EachPlain, MayBePlain, list_plain, members_plain, result_plain}
 use Rattle.test_results.specs.declared.result.TestResult.{TestResult}
-use Rattle.verdict_masks.specs.Masks.{Hidden, Seen}
+use Rattle.query_pages.specs.VerdictMasks.Masks.{Hidden, Seen}
 use Rattle.query_pages.specs.Seen.{SeenHeld, SeenVerdict, seen_held, seen_verdict}
 use Rattle.query_pages.specs.declared.pages.HeldResult.{HeldResult}
 use Rattle.query_pages.specs.declared.pages.ShownVerdict.{ShownVerdict}

@@ -4,7 +4,7 @@ use Rattle.names_realms.specs.Variants.{label_of}
 use Rattle.result_forms.specs.Laws.{IsPlain}
 use Rattle.result_forms.specs.Replies.{result_data}
 use Rattle.test_results.specs.declared.result.TestResult.{TestResult}
-use Rattle.verdict_masks.specs.Masks.{Seen, hidden_of}
+use Rattle.query_pages.specs.VerdictMasks.Masks.{Seen, hidden_of}
 use Rattle.query_pages.specs.Seen.{SeenHeld, SeenRows, SeenVerdicts}
 use Rattle.query_replies.specs.Pages.{results_page, verdicts_page}
 use Rattle.query_replies.specs.Results.{seen_data}

@@ -3,11 +3,11 @@ use Rattle.std.specs.Prelude.{ℕ, List, [], ◌∷◌, ◌++◌, Option, Some, 
 use Rattle.serde_json.specs.Data.{Data, string}
 use Rattle.names_realms.specs.ResultNames.{result_name}
 use Rattle.json_fields.specs.Names.{NameForm}
-use Rattle.text_kinds.specs.Statuses.{status_name}
+use Rattle.result_forms.specs.TextKinds.Statuses.{status_name}
 use Rattle.result_forms.specs.Members.{object_of}
 use Rattle.result_forms.specs.Names as field
 use Rattle.result_forms.specs.Shown.{flag_shown, moment_data, properties_shown, reason_shown, span_data, tags_shown, text_shown, variant_shown}
-use Rattle.verdict_masks.specs.Masks.{Hidden, Seen}
+use Rattle.query_pages.specs.VerdictMasks.Masks.{Hidden, Seen}
 use Rattle.query_pages.specs.Seen.{SeenHeld}
 use Rattle.query_replies.specs.Names as name
 

@@ -6,8 +6,8 @@ use Rattle.json_fields.specs.Writing.{list_data}
 use Rattle.result_forms.specs.Members.{object_of}
 use Rattle.result_forms.specs.Names as field
 use Rattle.result_forms.specs.Shown.{flag_shown, text_shown, variant_shown}
-use Rattle.verdict_lists.specs.declared.verdict.VerdictStatus.{VerdictStatus}
-use Rattle.verdict_lists.specs.declared.verdict.VerdictStatus.TheVariants.{Unexpected, UnexpectedlySkipped, Flaky, Exonerated, Expected}
+use Rattle.query_pages.specs.VerdictLists.declared.verdict.VerdictStatus.{VerdictStatus}
+use Rattle.query_pages.specs.VerdictLists.declared.verdict.VerdictStatus.TheVariants.{Unexpected, UnexpectedlySkipped, Flaky, Exonerated, Expected}
 use Rattle.query_pages.specs.Seen.{SeenHeld, SeenVerdict}
 use Rattle.query_replies.specs.Names as name
 use Rattle.query_replies.specs.Results.{seen_data}

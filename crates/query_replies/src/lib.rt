@@ -10,4 +10,5 @@ mod results;
 mod verdicts;
 mod writing;
 
+pub use query_pages::{self, verdict_lists};
 pub use replies::{write_result, write_results_page, write_verdicts_page};

@@ -3,12 +3,13 @@ ghost use Rattle.std.specs.Prelude.{◌≡◌, IfOk, OnOk, option_map, string_by
 ghost use Rattle.serde_json.specs.View.{view, members_view};
 ghost use Rattle.result_forms.specs.Members.{put_all};
 ghost use Rattle.result_forms.specs.Shown.{properties_shown, tags_shown, text_shown, variant_shown};
-ghost use Rattle.verdict_masks.specs.Masks.{seen};
+ghost use Rattle.query_pages.specs.VerdictMasks.Masks.{seen};
 ghost use Rattle.query_pages.specs.Seen.{seen_held};
 ghost use Rattle.query_replies.specs.Results.{more_seen, name_of_seen, seen_data, unless_hidden, what_seen};
 
 use crate::names::is_masked;
 use query_pages::HeldResult;
+use query_pages::verdict_masks::ShownResult;
 use result_forms::names::{
     duration, expected, failure_reason, name, properties, result_id, start_time, status,
     summary_html, tags, test_id, variant, variant_hash,
@@ -19,7 +20,6 @@ use result_forms::{
 };
 use serde_json::{Map, Value};
 use std::alloc::{AllocError, Global};
-use verdict_masks::ShownResult;
 
 /// The pairs of a result's variant, none where they are hidden.
 fn pairs_of(alloc: Global, shown: &ShownResult) -> Result<Option<Value>, AllocError>

@@ -10,11 +10,11 @@ use crate::listed::{exonerations_value, outcomes_value};
 use crate::names::{exonerations, is_masked, results};
 use names_realms::Variant;
 use query_pages::ShownVerdict;
+use query_pages::verdict_lists::VerdictStatus;
 use result_forms::names::{status, test_id, variant, variant_hash};
 use result_forms::{bytes_value, flag_value, put_some, text_value, variant_value};
 use serde_json::{Map, Value};
 use std::alloc::{AllocError, Global};
-use verdict_lists::VerdictStatus;
 
 /// The name of a verdict's status.
 fn status_name(status: VerdictStatus) -> &'static str

@@ -20,14 +20,14 @@ use Rattle.call_forms.specs.declared.forms.Told.{Told}
 use Rattle.call_forms.specs.declared.forms.Told.TheVariants.{Made, Standin as Instead}
 use Rattle.invocation_world.specs.Advancing.{IsDueAt, IsQuiet}
 use Rattle.invocation_world.specs.World.{IsCallMoment}
-use Rattle.request_demands.specs.Settings.{Settings}
-use Rattle.service_effects.specs.Service.{ServiceWorld, empty_service}
-use Rattle.service_core.specs.CoreState.{CoreState, PlanState, world_in}
-use Rattle.service_core.specs.History.{Entry, Leads, TakesRecord, Tells, entry_at}
-use Rattle.service_core.specs.Plans.{Carries, IsPlanOf}
+use Rattle.service_machine.specs.RequestDemands.Settings.{Settings}
+use Rattle.service_machine.specs.ServiceEffects.Service.{ServiceWorld, empty_service}
+use Rattle.service_machine.specs.ServiceCore.CoreState.{CoreState, PlanState, world_in}
+use Rattle.service_machine.specs.ServiceCore.History.{Entry, Leads, TakesRecord, Tells, entry_at}
+use Rattle.service_machine.specs.ServiceCore.Plans.{Carries, IsPlanOf}
 use Rattle.service_machine.specs.Machines.{Plays}
-use Rattle.service_core.specs.Service.{CatchesUp}
-use Rattle.service_core.specs.Step.{IsTold, moment_of, performed}
+use Rattle.service_machine.specs.ServiceCore.Service.{CatchesUp}
+use Rattle.service_machine.specs.ServiceCore.Step.{IsTold, moment_of, performed}
 use Rattle.service_machine.specs.Machines.{IsFit, RecordedState}
 use Rattle.service_machine.proofs.MachineLaws.{replayed_is_carried}
 use Rattle.record_desk.specs.Standing.{IsTried, RoseIf}

@@ -15,11 +15,11 @@ use Rattle.call_forms.specs.declared.asked.Asked.{Asked}
 use Rattle.call_forms.specs.declared.forms.Standin.TheVariants.{Unavailable}
 use Rattle.call_forms.specs.declared.forms.Told.{Told}
 use Rattle.call_forms.specs.declared.forms.Told.TheVariants.{Standin as Instead}
-use Rattle.request_demands.specs.Settings.{Settings}
-use Rattle.service_effects.specs.Service.{ServiceWorld, empty_service}
-use Rattle.service_core.specs.History.{Entry, IsLegal, Leads, Serves, entry_at}
-use Rattle.service_core.specs.Service.{Service}
-use Rattle.service_core.proofs.HistoryLaws.{timed_goes_on, timed_is_legal}
+use Rattle.service_machine.specs.RequestDemands.Settings.{Settings}
+use Rattle.service_machine.specs.ServiceEffects.Service.{ServiceWorld, empty_service}
+use Rattle.service_machine.specs.ServiceCore.History.{Entry, IsLegal, Leads, Serves, entry_at}
+use Rattle.service_machine.specs.ServiceCore.Service.{Service}
+use Rattle.service_machine.proofs.ServiceCore.HistoryLaws.{timed_goes_on, timed_is_legal}
 use Rattle.tellers.specs.Exchange.{Exchange}
 use Rattle.record_desk.specs.Standing.{AtCall, AtEachCall, GoesThrough, HasBook, HasLast, HasRecorded, HasServed, HasTried, IsTried, MayStand, Point}
 use Rattle.record_desk.specs.Standing.{Rises, RoseIf, exchange_of, point_at}

@@ -14,9 +14,9 @@ use Rattle.call_forms.specs.declared.forms.Standin.{Standin}
 use Rattle.call_forms.specs.declared.forms.Standin.TheVariants.{Memory, Spent, Unavailable}
 use Rattle.call_forms.specs.declared.forms.Told.{Told}
 use Rattle.call_forms.specs.declared.forms.Told.TheVariants.{Made, Standin as Instead}
-use Rattle.request_demands.specs.Settings.{Settings}
-use Rattle.service_effects.specs.Service.{ServiceWorld, empty_service}
-use Rattle.service_core.specs.Step.{IsTold}
+use Rattle.service_machine.specs.RequestDemands.Settings.{Settings}
+use Rattle.service_machine.specs.ServiceEffects.Service.{ServiceWorld, empty_service}
+use Rattle.service_machine.specs.ServiceCore.Step.{IsTold}
 
 -- What is told where a change couldn't be recorded. That a journal is full can't be told apart from
 -- want of memory yet.

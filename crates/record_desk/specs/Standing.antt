@@ -12,11 +12,11 @@ use Rattle.call_forms.specs.declared.forms.Answer.{Answer}
 use Rattle.call_forms.specs.declared.forms.Standin.TheVariants.{Unavailable}
 use Rattle.call_forms.specs.declared.forms.Told.TheVariants.{Standin as Instead}
 use Rattle.invocation_world.specs.Advancing.{IsDueAt}
-use Rattle.request_demands.specs.Settings.{Settings}
-use Rattle.service_effects.specs.Service.{ServiceWorld, empty_service}
-use Rattle.service_core.specs.History.{Entry, IsLegal, IsTimed, Leads}
-use Rattle.service_core.specs.Service.{CatchesUp, Service}
-use Rattle.service_core.specs.Step.{Step}
+use Rattle.service_machine.specs.RequestDemands.Settings.{Settings}
+use Rattle.service_machine.specs.ServiceEffects.Service.{ServiceWorld, empty_service}
+use Rattle.service_machine.specs.ServiceCore.History.{Entry, IsLegal, IsTimed, Leads}
+use Rattle.service_machine.specs.ServiceCore.Service.{CatchesUp, Service}
+use Rattle.service_machine.specs.ServiceCore.Step.{Step}
 use Rattle.record_desk.specs.Clocked.{IsClocked}
 use Rattle.tellers.specs.Exchange.{Exchange}
 

@@ -1,9 +1,9 @@
 //! A book of the service and its clock as a teller: what changes is recorded first, and made then.
 ghost use Rattle.std.specs.Prelude.{◌≡◌, List, [], ◌∷◌, ◌++◌};
 ghost use Rattle.tellers.specs.Exchange.{Exchange, StandsForSome};
-ghost use Rattle.service_core.specs.CoreState.{world_in};
+ghost use Rattle.service_machine.specs.ServiceCore.CoreState.{world_in};
 ghost use Rattle.service_machine.specs.Machines.{Plays};
-ghost use Rattle.service_core.specs.Service.{service_of};
+ghost use Rattle.service_machine.specs.ServiceCore.Service.{service_of};
 ghost use Rattle.record_desk.specs.Standing.{HasServed};
 
 use crate::{Inquiry, serve};
@@ -49,9 +49,9 @@ impl<'a, D: Disk, C: Clock> BookTeller<'a, D, C> {
 
 impl<'a, D: Disk, C: Clock> Teller for BookTeller<'a, D, C> {
     ghost use Rattle.std.specs.Prelude.{[], ◌∷◌};
-    ghost use Rattle.service_core.specs.CoreState.{world_in};
+    ghost use Rattle.service_machine.specs.ServiceCore.CoreState.{world_in};
     ghost use Rattle.service_machine.specs.Machines.{Plays};
-    ghost use Rattle.service_core.specs.Service.{service_of};
+    ghost use Rattle.service_machine.specs.ServiceCore.Service.{service_of};
     ghost use Rattle.record_desk.specs.Standing.{HasServed};
 
     ghost stands = { λ first now exchanges.

@@ -1,10 +1,10 @@
 //! What is understood of a request before a book is asked.
 ghost use Rattle.std.specs.Prelude.{◌≡◌, IfOk};
-ghost use Rattle.request_demands.specs.Understood.{IsUnderstood};
+ghost use Rattle.service_machine.specs.RequestDemands.Understood.{IsUnderstood};
 
 use call_forms::Asked;
 use permissions::Policy;
-use request_demands::{Understood, understand};
+use service_machine::request_demands::{Understood, understand};
 use std::alloc::{AllocError, Global};
 
 /// What is asked under a policy, and what these two alone say of it, where there was memory.

@@ -8,3 +8,4 @@ mod recording;
 pub use book_teller::BookTeller;
 pub use inquiry::Inquiry;
 pub use recording::serve;
+pub use service_machine::{self, service_core};

@@ -8,7 +8,7 @@ use Rattle.std.proofs.lemmas.Option.{none-some, same_Some}
 use Rattle.kept_replies.specs.declared.reply.KeptReply.{KeptReply}
 use Rattle.kept_replies.specs.Kept.{IsFree, IsWord, place_for}
 use Rattle.kept_replies.proofs.FirstLemmas.{none_is_free, place_holds_for}
-use Rattle.text_kinds.specs.Texts.{IsRequestId}
+use Rattle.message_forms.specs.TextKinds.Texts.{IsRequestId}
 use Rattle.artifacts.specs.declared.new_artifact.NewArtifact.{NewArtifact}
 use Rattle.call_forms.specs.declared.asked.Asked.{Asked}
 use Rattle.message_forms.specs.declared.requests.Request.{Request}

@@ -10,5 +10,6 @@ mod refusals;
 
 pub use demand::{Demand, demand_of, invocation_of};
 pub use grants::Grant;
+pub use message_forms::{self, query_forms};
 pub use numbers::{NumberCheck, check_digest, check_number, digest_again};
 pub use reading::{Call, TokenCheck, Understood, caller_of, understand};

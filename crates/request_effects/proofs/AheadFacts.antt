@@ -15,10 +15,10 @@ use Rattle.invocations.specs.declared.invocation.Invocation.{Invocation}
 use Rattle.invocations.specs.Rows.{IsInState, begun, ended, ids_of, with_changed}
 use Rattle.invocations.proofs.RowLemmas.{at_end, ids_stay}
 use Rattle.update_tokens.specs.Hash.{token_text}
-use Rattle.request_demands.specs.Settings.{Settings, secret_of}
-use Rattle.request_demands.specs.Understood.{token_for}
-use Rattle.message_forms.specs.declared.replies.Reply.TheVariants as reply
-use Rattle.invocation_forms.specs.Shown.{InvocationShown}
+use Rattle.request_rules.specs.RequestDemands.Settings.{Settings, secret_of}
+use Rattle.request_rules.specs.RequestDemands.Understood.{token_for}
+use Rattle.request_rules.specs.MessageForms.declared.replies.Reply.TheVariants as reply
+use Rattle.request_rules.specs.InvocationForms.Shown.{InvocationShown}
 use Rattle.invocation_world.specs.World.{World, IsInclusion, ReachesActive, with_row}
 use Rattle.invocation_world.specs.Settling.{Settles}
 use Rattle.invocation_world.specs.Changes.{updated, with_begun, with_update}

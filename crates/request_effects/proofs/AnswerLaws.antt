@@ -3,13 +3,13 @@ use Rattle.std.proofs.Common.{◌≡◌, ℕ, ℤ, Option, Some, None, Result, r
 use Rattle.std.specs.Prelude.{IfOk, slice_get}
 use Rattle.std.specs.declared.alloc.AllocError.{AllocError}
 use Rattle.artifact_pages.proofs.PageLaws.{a_page_is_there, one_page}
-use Rattle.artifact_replies.specs.Replies.{ArtifactsShown}
-use Rattle.message_forms.specs.declared.replies.Reply.TheVariants as reply
+use Rattle.artifact_pages.specs.ArtifactReplies.Replies.{ArtifactsShown}
+use Rattle.request_rules.specs.MessageForms.declared.replies.Reply.TheVariants as reply
 use Rattle.test_results.specs.declared.result.TestResult.{TestResult}
 use Rattle.call_forms.specs.declared.forms.Answer.{Answer}
-use Rattle.query_pages.specs.Seen.{SeenHeld, SeenRows, SeenVerdicts}
-use Rattle.query_pages.proofs.SameLemmas.{one_result_page_is, one_shown_result_is, one_verdict_page_is}
-use Rattle.query_pages.proofs.ThereLemmas.{has_result_page_is, has_shown_result_is, has_verdict_page_is}
+use Rattle.query_replies.specs.QueryPages.Seen.{SeenHeld, SeenRows, SeenVerdicts}
+use Rattle.query_replies.proofs.QueryPages.SameLemmas.{one_result_page_is, one_shown_result_is, one_verdict_page_is}
+use Rattle.query_replies.proofs.QueryPages.ThereLemmas.{has_result_page_is, has_shown_result_is, has_verdict_page_is}
 use Rattle.query_replies.specs.Pages.{reply_of, results_page, verdicts_page}
 use Rattle.query_replies.specs.Results.{seen_data}
 use Rattle.service_effects.specs.declared.effect.Effect.{Effect}
@@ -18,7 +18,7 @@ use Rattle.service_effects.specs.Effects.{Makes}
 use Rattle.service_effects.specs.Fitting.{IsTimely}
 use Rattle.service_effects.specs.Service.{Recorded}
 use Rattle.service_effects.proofs.EffectLaws.{all_stays_same}
-use Rattle.request_demands.specs.Settings.{Settings}
+use Rattle.request_rules.specs.RequestDemands.Settings.{Settings}
 use Rattle.request_effects.specs.declared.shows.Showing.{Showing}
 use Rattle.request_effects.specs.declared.shows.Showing.TheVariants.{Alike, Result as OneResult, Results, Verdicts, Artifact as OneArtifact, Artifacts}
 use Rattle.request_effects.specs.declared.shows.Shows.TheVariants as shows

@@ -14,7 +14,7 @@ use Rattle.invocation_world.specs.World.{World}
 use Rattle.invocation_world.specs.Changes.{with_moment}
 use Rattle.invocation_world.proofs.RowFacts.{stands}
 use Rattle.service_effects.proofs.IdFacts.{id_at}
-use Rattle.request_demands.specs.Settings.{Settings}
+use Rattle.request_rules.specs.RequestDemands.Settings.{Settings}
 use Rattle.service_effects.specs.declared.effect.Effect.{Effect}
 use Rattle.service_effects.specs.declared.effect.Effect.TheVariants as does
 use Rattle.request_effects.specs.declared.shows.Shows.TheVariants as shows

@@ -11,11 +11,11 @@ use Rattle.invocations.specs.declared.faults.AddFault.TheVariants as add_fault
 use Rattle.invocations.specs.Faults.{CanAdd, IsAddFault}
 use Rattle.invocations.specs.Rows.{HasId}
 use Rattle.request_rules.proofs.PlaceLaws.{place_of-has}
-use Rattle.invocation_forms.specs.declared.create.CreateInvocation.{CreateInvocation}
-use Rattle.invocation_forms.specs.declared.named.NamedInvocation.{NamedInvocation}
-use Rattle.message_forms.specs.declared.requests.Request.{Request}
-use Rattle.message_forms.specs.declared.requests.Request.TheVariants as asks
-use Rattle.invocation_forms.specs.declared.updates.UpdateInvocation.{UpdateInvocation}
+use Rattle.request_rules.specs.InvocationForms.declared.create.CreateInvocation.{CreateInvocation}
+use Rattle.request_rules.specs.InvocationForms.declared.named.NamedInvocation.{NamedInvocation}
+use Rattle.request_rules.specs.MessageForms.declared.requests.Request.{Request}
+use Rattle.request_rules.specs.MessageForms.declared.requests.Request.TheVariants as asks
+use Rattle.request_rules.specs.InvocationForms.declared.updates.UpdateInvocation.{UpdateInvocation}
 use Rattle.invocation_world.specs.World.{World, IsValid, ReachesActive, new_row}
 use Rattle.invocation_world.specs.States.{WorldState, graph_of}
 use Rattle.invocation_world.specs.Changes.{with_begun}

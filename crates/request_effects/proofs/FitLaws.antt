@@ -8,7 +8,7 @@ use Rattle.artifacts.specs.declared.new_artifact.NewArtifact.{NewArtifact}
 use Rattle.artifacts.specs.Batches as files
 use Rattle.artifacts.specs.Orders.{invocation_of}
 use Rattle.artifacts.specs.Requests.{artifact_of, digested}
-use Rattle.artifact_forms.specs.declared.listed.ListArtifacts.{ListArtifacts}
+use Rattle.artifact_pages.specs.ArtifactForms.declared.listed.ListArtifacts.{ListArtifacts}
 use Rattle.names_realms.specs.declared.artifact_names.ArtifactName.{ArtifactName}
 use Rattle.names_realms.specs.declared.pairs.Pair.{Pair}
 use Rattle.names_realms.specs.declared.states.State.{State}
@@ -19,8 +19,8 @@ use Rattle.test_results.specs.declared.exoneration.TestExoneration.{TestExonerat
 use Rattle.test_results.specs.declared.result.TestResult.{TestResult}
 use Rattle.test_results.specs.Batches as results
 use Rattle.test_results.specs.Exonerations as exonerations
-use Rattle.message_forms.specs.declared.requests.Request.{Request}
-use Rattle.message_forms.specs.declared.requests.Request.TheVariants as asks
+use Rattle.request_rules.specs.MessageForms.declared.requests.Request.{Request}
+use Rattle.request_rules.specs.MessageForms.declared.requests.Request.TheVariants as asks
 use Rattle.invocation_world.specs.World.{World}
 use Rattle.invocation_world.specs.Changes.{is_update}
 use Rattle.request_rules.specs.Named.{place_named, place_of_artifact, place_of_result}
@@ -31,7 +31,7 @@ use Rattle.request_effects.specs.declared.shows.Showing.{Showing}
 use Rattle.request_effects.specs.declared.shows.Showing.TheVariants.{Alike}
 use Rattle.request_effects.specs.Answers.{Fits as ShowsFit}
 use Rattle.names_realms.specs.declared.result_names.ResultName.{ResultName}
-use Rattle.query_forms.specs.Sizes.{counted}
+use Rattle.request_rules.specs.QueryForms.Sizes.{counted}
 use Rattle.request_effects.proofs.PlaceFacts.{places_within}
 use Rattle.request_rules.proofs.ArtifactPlaces.{artifact_stands}
 use Rattle.request_rules.proofs.ResultPlaces.{result_stands}

@@ -10,11 +10,11 @@ use Rattle.kept_replies.specs.declared.reply.KeptAnswer.{KeptAnswer}
 use Rattle.kept_replies.specs.declared.reply.KeptAnswer.TheVariants.{Created, Results, Exonerations, Artifacts}
 use Rattle.kept_replies.specs.declared.reply.KeptReply.{KeptReply}
 use Rattle.call_forms.specs.declared.asked.Asked.{Asked}
-use Rattle.message_forms.specs.declared.replies.Reply.TheVariants as reply
+use Rattle.request_rules.specs.MessageForms.declared.replies.Reply.TheVariants as reply
 use Rattle.invocation_world.specs.World.{World, IsRow, IsStage}
-use Rattle.request_demands.specs.Demands.{Demand}
-use Rattle.request_demands.specs.Numbered.{digest_of}
-use Rattle.request_demands.specs.Settings.{Settings}
+use Rattle.request_rules.specs.RequestDemands.Demands.{Demand}
+use Rattle.request_rules.specs.RequestDemands.Numbered.{digest_of}
+use Rattle.request_rules.specs.RequestDemands.Settings.{Settings}
 use Rattle.service_effects.specs.declared.effect.Effect.{Effect}
 use Rattle.service_effects.specs.declared.effect.Effect.TheVariants as does
 use Rattle.request_effects.specs.declared.keeping.Numbered.{Numbered}

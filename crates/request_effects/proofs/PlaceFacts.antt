@@ -9,9 +9,9 @@ use Rattle.invocations.specs.declared.invocation.Invocation.{Invocation}
 use Rattle.invocations.specs.Rows.{HasId, ids_of}
 use Rattle.invocation_world.proofs.RowFacts.{stands}
 use Rattle.service_effects.proofs.IdFacts.{id_none}
-use Rattle.message_forms.specs.declared.requests.Request.{Request}
+use Rattle.request_rules.specs.MessageForms.declared.requests.Request.{Request}
 use Rattle.artifacts.specs.declared.new_artifact.NewArtifact.{NewArtifact}
-use Rattle.request_demands.specs.Demands.{demand_of, of_artifacts}
+use Rattle.request_rules.specs.RequestDemands.Demands.{demand_of, of_artifacts}
 use Rattle.request_effects.specs.Effects.{place_of_batch}
 use Rattle.request_rules.specs.Held.{Held}
 use Rattle.request_rules.specs.Locating.{Located, located}

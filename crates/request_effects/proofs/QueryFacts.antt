@@ -2,8 +2,8 @@
 use Rattle.std.proofs.Common.{◌≡◌, ℕ, List, Option, ap, ◌∙◌}
 use Rattle.page_tokens.specs.declared.kinds.ResultCursor.{ResultCursor}
 use Rattle.page_tokens.specs.declared.kinds.VerdictCursor.{VerdictCursor}
-use Rattle.query_pages.specs.declared.queries.ResultQuery.{ResultQuery}
-use Rattle.query_pages.specs.declared.queries.VerdictQuery.{VerdictQuery}
+use Rattle.query_replies.specs.QueryPages.declared.queries.ResultQuery.{ResultQuery}
+use Rattle.query_replies.specs.QueryPages.declared.queries.VerdictQuery.{VerdictQuery}
 
 abbrev results_from : List ℕ → List ℕ → Option ResultCursor → ℕ → ResultQuery
 results_from roots query after size = record { roots = roots; query = query; after = after; size = size }

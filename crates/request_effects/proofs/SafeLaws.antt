@@ -12,7 +12,7 @@ use Rattle.artifacts.specs.declared.new_artifact.NewArtifact.{NewArtifact}
 use Rattle.artifacts.specs.Artifacts.{HasItsHash}
 use Rattle.artifacts.specs.Orders.{invocation_of}
 use Rattle.artifacts.specs.Requests.{artifact_of, digested}
-use Rattle.artifact_forms.specs.declared.batches.BatchCreateArtifacts.{BatchCreateArtifacts}
+use Rattle.artifact_pages.specs.ArtifactForms.declared.batches.BatchCreateArtifacts.{BatchCreateArtifacts}
 use Rattle.names_realms.specs.Names.{invocation_name}
 use Rattle.names_realms.specs.declared.pairs.Pair.{Pair}
 use Rattle.names_realms.specs.declared.states.State.{State}
@@ -25,18 +25,18 @@ use Rattle.invocations.specs.Rows.{HasId, IsInState, states_of}
 use Rattle.test_results.specs.declared.exoneration.TestExoneration.{TestExoneration}
 use Rattle.test_results.specs.declared.result.TestResult.{TestResult}
 use Rattle.test_results.specs.Exonerations as exonerations
-use Rattle.message_forms.specs.declared.requests.Request.{Request}
-use Rattle.message_forms.specs.declared.requests.Request.TheVariants as asks
-use Rattle.invocation_forms.specs.declared.create.CreateInvocation.{CreateInvocation}
-use Rattle.invocation_forms.specs.Replies.{state_text}
+use Rattle.request_rules.specs.MessageForms.declared.requests.Request.{Request}
+use Rattle.request_rules.specs.MessageForms.declared.requests.Request.TheVariants as asks
+use Rattle.request_rules.specs.InvocationForms.declared.create.CreateInvocation.{CreateInvocation}
+use Rattle.request_rules.specs.InvocationForms.Replies.{state_text}
 use Rattle.invocation_world.specs.World.{World, IsCallMoment, IsPair, IsRow, default_lifetime, latest_deadline, new_row}
 use Rattle.invocation_world.specs.Changes.{is_update}
 use Rattle.invocation_world.proofs.CodeFacts.{fresh_twice}
 use Rattle.invocation_world.proofs.RowFacts.{state_is}
 use Rattle.request_rules.specs.Named.{place_named, places_named}
-use Rattle.request_demands.specs.Demands.{demand_of, of_artifacts}
+use Rattle.request_rules.specs.RequestDemands.Demands.{demand_of, of_artifacts}
 use Rattle.request_rules.specs.Broken.{IsInReach, of_invocation, out_of_reach}
-use Rattle.request_demands.specs.Alone.{refusal}
+use Rattle.request_rules.specs.RequestDemands.Alone.{refusal}
 use Rattle.request_rules.proofs.Decided.{reach_or_not}
 use Rattle.request_rules.proofs.PlaceLaws.{place-named}
 use Rattle.service_effects.specs.declared.effect.Effect.TheVariants as does

@@ -2,13 +2,13 @@
 use Rattle.std.specs.Prelude.{⊤, ◌≡◌, ◌<◌, ℕ, List, Option, Some, None, length, slice_get}
 use Rattle.artifacts.specs.declared.artifact.Artifact.{Artifact}
 use Rattle.artifact_pages.specs.Pages.{IsShownPage}
-use Rattle.artifact_replies.specs.Replies.{ArtifactsShown}
-use Rattle.message_forms.specs.declared.replies.Reply.TheVariants as reply
+use Rattle.artifact_pages.specs.ArtifactReplies.Replies.{ArtifactsShown}
+use Rattle.request_rules.specs.MessageForms.declared.replies.Reply.TheVariants as reply
 use Rattle.test_results.specs.declared.result.TestResult.{TestResult}
-use Rattle.verdict_lists.specs.World.{AreRoots, World}
-use Rattle.query_pages.specs.Pages.{IsResultPage, IsVerdictPage}
-use Rattle.query_pages.specs.Seen.{SeenHeld, SeenRows, SeenVerdicts}
-use Rattle.query_pages.specs.Shown.{IsShownResult}
+use Rattle.query_replies.specs.VerdictLists.World.{AreRoots, World}
+use Rattle.query_replies.specs.QueryPages.Pages.{IsResultPage, IsVerdictPage}
+use Rattle.query_replies.specs.QueryPages.Seen.{SeenHeld, SeenRows, SeenVerdicts}
+use Rattle.query_replies.specs.QueryPages.Shown.{IsShownResult}
 use Rattle.query_replies.specs.Pages.{reply_of, results_page, verdicts_page}
 use Rattle.query_replies.specs.Results.{seen_data}
 use Rattle.call_forms.specs.declared.forms.Answer.{Answer}

@@ -14,8 +14,8 @@ use Rattle.test_results.specs.declared.exoneration.TestExoneration.{TestExonerat
 use Rattle.test_results.specs.declared.result.TestResult.{TestResult}
 use Rattle.test_results.specs.Batches as results
 use Rattle.test_results.specs.Exonerations as exonerations
-use Rattle.message_forms.specs.declared.requests.Request.{Request}
-use Rattle.message_forms.specs.declared.requests.Request.TheVariants as asks
+use Rattle.request_rules.specs.MessageForms.declared.requests.Request.{Request}
+use Rattle.request_rules.specs.MessageForms.declared.requests.Request.TheVariants as asks
 use Rattle.invocation_world.specs.World.{World, new_row}
 use Rattle.invocation_world.specs.Changes.{is_update}
 use Rattle.request_rules.specs.Named.{place_named, places_named}

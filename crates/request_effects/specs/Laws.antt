@@ -1,7 +1,7 @@
 -- Laws of what is kept.
 use Rattle.std.specs.Prelude.{◌≡◌, ℤ, Some, length}
 use Rattle.kept_replies.specs.declared.reply.KeptAnswer.{KeptAnswer}
-use Rattle.request_demands.specs.Settings.{Settings}
+use Rattle.request_rules.specs.RequestDemands.Settings.{Settings}
 use Rattle.service_effects.specs.declared.effect.Effect.{Effect}
 use Rattle.service_effects.specs.declared.effect.Effect.TheVariants as does
 use Rattle.request_effects.specs.declared.shows.Shows.{Shows}

@@ -1,5 +1,5 @@
 -- Where the invocations and the rows stand that are demanded.
-use Rattle.request_demands.specs.Demands.{Demand}
+use Rattle.request_rules.specs.RequestDemands.Demands.{Demand}
 use Rattle.request_rules.specs.Held.{Held}
 use Rattle.request_rules.specs.Locating.{Located, located}
 use Rattle.service_effects.specs.Service.{Recorded}

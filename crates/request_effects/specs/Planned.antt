@@ -1,12 +1,12 @@
 -- What a request is planned to, and what planning asks of it.
 use Rattle.std.specs.Prelude.{◌≡◌, ℕ, ℤ, true, List}
-use Rattle.message_forms.specs.declared.requests.Request.{Request}
-use Rattle.message_forms.specs.Forms.{IsOfForm}
-use Rattle.policy_checks.specs.Checks.{is_name}
+use Rattle.request_rules.specs.MessageForms.declared.requests.Request.{Request}
+use Rattle.request_rules.specs.MessageForms.Forms.{IsOfForm}
+use Rattle.request_rules.specs.PolicyChecks.Checks.{is_name}
 use Rattle.inclusion_graph.specs.Edges.{targets_of}
 use Rattle.invocation_world.specs.World.{World}
-use Rattle.request_demands.specs.Demands.{demand_of}
-use Rattle.request_demands.specs.Order.{IsUnbroken}
+use Rattle.request_rules.specs.RequestDemands.Demands.{demand_of}
+use Rattle.request_rules.specs.RequestDemands.Order.{IsUnbroken}
 use Rattle.request_rules.specs.Broken as rules
 use Rattle.service_effects.specs.declared.effect.Effect.{Effect}
 use Rattle.service_effects.specs.declared.effect.Planned.{Planned}

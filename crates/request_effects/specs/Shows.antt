@@ -3,7 +3,7 @@ use Rattle.std.specs.Prelude.{ℕ, List, [], ◌∷◌, Option, Some, None, drop
 use Rattle.std.specs.List.{filter_map}
 use Rattle.artifacts.specs.declared.artifact.Artifact.{Artifact}
 use Rattle.artifacts.specs.Orders.{invocation_of}
-use Rattle.artifact_forms.specs.declared.listed.ListArtifacts.{ListArtifacts}
+use Rattle.artifact_pages.specs.ArtifactForms.declared.listed.ListArtifacts.{ListArtifacts}
 use Rattle.artifact_pages.specs.Pages.{query_from}
 use Rattle.inclusion_graph.specs.Edges.{targets_of}
 use Rattle.invocations.specs.declared.invocation.Invocation.{Invocation}
@@ -11,28 +11,28 @@ use Rattle.invocations.specs.Rows.{ids_of}
 use Rattle.test_results.specs.declared.exoneration.TestExoneration.{TestExoneration}
 use Rattle.test_results.specs.declared.result.TestResult.{TestResult}
 use Rattle.call_forms.specs.declared.forms.Answer.{Answer}
-use Rattle.message_forms.specs.declared.replies.Reply.{Reply}
-use Rattle.message_forms.specs.declared.replies.Reply.TheVariants as reply
-use Rattle.message_forms.specs.declared.requests.Request.{Request}
-use Rattle.message_forms.specs.declared.requests.Request.TheVariants as asks
-use Rattle.message_forms.specs.Replies.{reply_text}
-use Rattle.invocation_forms.specs.Shown.{InvocationShown}
+use Rattle.request_rules.specs.MessageForms.declared.replies.Reply.{Reply}
+use Rattle.request_rules.specs.MessageForms.declared.replies.Reply.TheVariants as reply
+use Rattle.request_rules.specs.MessageForms.declared.requests.Request.{Request}
+use Rattle.request_rules.specs.MessageForms.declared.requests.Request.TheVariants as asks
+use Rattle.request_rules.specs.MessageForms.Replies.{reply_text}
+use Rattle.request_rules.specs.InvocationForms.Shown.{InvocationShown}
 use Rattle.invocation_world.specs.World.{World}
-use Rattle.request_demands.specs.Settings.{Settings}
+use Rattle.request_rules.specs.RequestDemands.Settings.{Settings}
 use Rattle.request_rules.specs.Named.{place_named, place_of_artifact, place_of_result, places_named}
-use Rattle.request_demands.specs.Understood.{token_for}
+use Rattle.request_rules.specs.RequestDemands.Understood.{token_for}
 use Rattle.request_effects.specs.Effects.{place_of_batch}
 use Rattle.request_effects.specs.declared.shows.Showing.{Showing}
 use Rattle.request_effects.specs.declared.shows.Showing.TheVariants as showing
 use Rattle.request_effects.specs.declared.shows.Shows.{Shows}
 use Rattle.request_effects.specs.declared.shows.Shows.TheVariants as shows
-use Rattle.query_forms.specs.Results.{results_query}
-use Rattle.query_forms.specs.Sizes.{counted}
-use Rattle.query_forms.specs.Variants.{variants_query}
-use Rattle.query_forms.specs.declared.results.QueryTestResults.{QueryTestResults}
-use Rattle.query_forms.specs.declared.variants.QueryTestVariants.{QueryTestVariants}
-use Rattle.query_pages.specs.declared.queries.ResultQuery.{ResultQuery}
-use Rattle.query_pages.specs.declared.queries.VerdictQuery.{VerdictQuery}
+use Rattle.request_rules.specs.QueryForms.Results.{results_query}
+use Rattle.request_rules.specs.QueryForms.Sizes.{counted}
+use Rattle.request_rules.specs.QueryForms.Variants.{variants_query}
+use Rattle.request_rules.specs.QueryForms.declared.results.QueryTestResults.{QueryTestResults}
+use Rattle.request_rules.specs.QueryForms.declared.variants.QueryTestVariants.{QueryTestVariants}
+use Rattle.query_replies.specs.QueryPages.declared.queries.ResultQuery.{ResultQuery}
+use Rattle.query_replies.specs.QueryPages.declared.queries.VerdictQuery.{VerdictQuery}
 use Rattle.service_effects.specs.Service.{Recorded}
 
 abbrev pub shows_row : Option ℕ → Shows

@@ -1,8 +1,8 @@
 //! What is kept of a numbered request.
 ghost use Rattle.std.specs.Prelude.{◌≡◌, IfOk};
 ghost use Rattle.call_forms.specs.declared.asked.Asked.{Asked};
-ghost use Rattle.request_demands.specs.Demands.{demand_of};
-ghost use Rattle.request_demands.specs.Understood.{IsDigested};
+ghost use Rattle.request_rules.specs.RequestDemands.Demands.{demand_of};
+ghost use Rattle.request_rules.specs.RequestDemands.Understood.{IsDigested};
 ghost use Rattle.service_effects.specs.Fitting.{HasRoom};
 ghost use Rattle.service_effects.specs.States.{recorded_in};
 ghost use Rattle.request_effects.specs.Keeps.{answer_kept, kept_of, numbered_of};
@@ -10,7 +10,7 @@ ghost use Rattle.request_effects.specs.Keeps.{answer_kept, kept_of, numbered_of}
 use kept_replies::{KeptAnswer, KeptReply};
 use lists::{Bytes, Listed};
 use names_realms::Pair;
-use request_demands::{Call, Demand, demand_of};
+use request_rules::request_demands::{Call, Demand, demand_of};
 use service_effects::{Effect, Tables};
 use std::alloc::{AllocError, Global};
 

@@ -13,8 +13,10 @@ mod shows;
 
 pub use keeping::{Numbered, keep_of, numbered_in, numbered_of};
 pub use laws::kept_is_first;
-pub use permissions::Policy;
 pub use planning::{Context, plan_change};
-pub use query_pages::Asker;
+pub use query_replies::query_pages::Asker;
+pub use request_rules;
+pub use request_rules::permissions::Policy;
+pub use request_rules::{message_forms, permissions, request_demands};
 pub use showing::{show, show_kept};
 pub use shows::{Showing, Shows, shows_of};

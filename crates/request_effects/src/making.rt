@@ -5,8 +5,8 @@ ghost use Rattle.invocation_world.specs.World.{IsCallMoment, default_lifetime, n
 use invocations::Invocation;
 use json_fields::pairs_from;
 use lists::{Bytes, Listed};
-use message_forms::{CreateInvocation, Tag};
 use names_realms::{Moment, Pair, State};
+use request_rules::message_forms::{CreateInvocation, Tag};
 use std::alloc::{AllocError, Global};
 
 /// Two days, in microseconds.

@@ -2,7 +2,7 @@
 ghost use Rattle.std.specs.Prelude.{◌≡◌, ◌≢◌, ◌<◌, Some, [], All, IfOk, IfSome, length};
 ghost use Rattle.invocations.specs.Rows.{IsInState};
 ghost use Rattle.invocation_world.specs.World.{IsValid};
-ghost use Rattle.request_demands.specs.Demands.{demand_of};
+ghost use Rattle.request_rules.specs.RequestDemands.Demands.{demand_of};
 ghost use Rattle.request_effects.specs.Places.{located_in};
 ghost use Rattle.request_effects.specs.Effects.{artifacts_at, effect_of, end_at, include_of, update_at};
 ghost use Rattle.service_effects.specs.Fitting.{IsTimely};
@@ -16,9 +16,9 @@ use inclusion_graph::{EdgeFault, EdgePlan};
 use invocation_world::InvocationWorld;
 use invocations::AddFault;
 use lists::Listed;
-use message_forms::{CreateInvocation, Request, UpdateInvocation};
 use names_realms::{Moment, Pair, State};
 use request_rules::Located;
+use request_rules::message_forms::{CreateInvocation, Request, UpdateInvocation};
 use service_effects::{
     Effect, EffectFault, FullTable, Planned, Tables, plan_artifacts, plan_exonerations,
     plan_results,

@@ -1,6 +1,6 @@
 //! What is shown to who asks: of results and verdicts what the caller may see, and artifacts.
 ghost use Rattle.std.specs.Prelude.{◌≡◌, ◌<◌, IfOk, length};
-ghost use Rattle.verdict_lists.specs.World.{AreRoots, IsWhole, world_of};
+ghost use Rattle.query_replies.specs.VerdictLists.World.{AreRoots, IsWhole, world_of};
 ghost use Rattle.service_effects.specs.States.{recorded_in};
 ghost use Rattle.request_effects.specs.declared.shows.Showing.TheVariants as showing;
 ghost use Rattle.request_effects.specs.Answers.{Answers, HasResult, done_with, listed_in};
@@ -9,12 +9,14 @@ use crate::showing::done;
 use artifact_pages::{ArtifactQuery, show_artifacts};
 use call_forms::Answer;
 use lists::Bytes;
-use message_forms::{Reply, ShownArtifact};
-use query_pages::{Asker, ResultQuery, VerdictQuery, show_result, show_results, show_verdicts};
+use query_replies::query_pages::{
+    Asker, ResultQuery, VerdictQuery, show_result, show_results, show_verdicts,
+};
+use query_replies::verdict_lists::View;
 use query_replies::{write_result, write_results_page, write_verdicts_page};
+use request_rules::message_forms::{Reply, ShownArtifact};
 use service_effects::Tables;
 use std::alloc::{AllocError, Global};
-use verdict_lists::View;
 
 /// What is recorded, as results and verdicts are listed of it.
 fn view_of(tables: &Tables) -> View<'_>

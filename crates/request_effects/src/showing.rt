@@ -22,12 +22,12 @@ use call_forms::Answer;
 use invocation_world::InvocationWorld;
 use invocations::Invocation;
 use kept_replies::KeptAnswer;
-use message_forms::{
+use names_realms::{InvocationId, Moment, Pair};
+use query_replies::query_pages::Asker;
+use request_rules::message_forms::{
     Reply, ShownArtifacts, ShownExonerations, ShownInvocation, ShownResults, write_reply,
 };
-use names_realms::{InvocationId, Moment, Pair};
-use permissions::Policy;
-use query_pages::Asker;
+use request_rules::permissions::Policy;
 use service_effects::{Change, Effect, Tables};
 use std::alloc::{AllocError, Global};
 use test_results::{TestExoneration, TestResult};

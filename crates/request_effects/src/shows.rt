@@ -4,17 +4,17 @@ ghost use Rattle.service_effects.specs.States.{recorded_in};
 ghost use Rattle.request_effects.specs.Shows.{artifacts_page, result_query, shows_artifact, shows_artifacts};
 ghost use Rattle.request_effects.specs.Shows.{shows_exonerations, shows_of, shows_result, shows_results, shows_row};
 ghost use Rattle.request_effects.specs.Shows.{verdict_query};
-ghost use Rattle.request_demands.specs.Demands.{demand_of};
+ghost use Rattle.request_rules.specs.RequestDemands.Demands.{demand_of};
 ghost use Rattle.request_effects.specs.Places.{located_in};
 ghost use Rattle.request_rules.specs.Named.{first_place, places_in};
 
 use crate::cursors::{copied_result, copied_verdict};
 use artifact_pages::ArtifactQuery;
 use lists::Numbers;
-use message_forms::{ListArtifacts, Request};
-use query_forms::{QueryTestResults, QueryTestVariants};
-use query_pages::{ResultQuery, VerdictQuery};
+use query_replies::query_pages::{ResultQuery, VerdictQuery};
 use request_rules::Located;
+use request_rules::message_forms::{ListArtifacts, Request};
+use request_rules::query_forms::{QueryTestResults, QueryTestVariants};
 use service_effects::Tables;
 use std::alloc::{AllocError, Global};
 

@@ -3,8 +3,8 @@ use Rattle.std.proofs.Common.{◌≡◌, ◌∙◌, ℕ, List, [], ◌∷◌, Op
 use Rattle.std.proofs.lemmas.Option.{none-some, same_Some}
 use Rattle.artifacts.specs.Orders.{invocation_of}
 use Rattle.artifacts.specs.declared.new_artifact.NewArtifact.{NewArtifact}
-use Rattle.message_forms.specs.declared.requests.Request.{Request}
-use Rattle.message_forms.specs.declared.requests.Request.TheVariants as asks
+use Rattle.request_demands.specs.MessageForms.declared.requests.Request.{Request}
+use Rattle.request_demands.specs.MessageForms.declared.requests.Request.TheVariants as asks
 use Rattle.invocations.specs.declared.invocation.Invocation.{Invocation}
 use Rattle.request_demands.specs.Demands.{Demand, demand_of, of_artifacts}
 use Rattle.request_rules.specs.Held.{Held}

@@ -18,7 +18,7 @@ use Rattle.inclusion_graph.proofs.ListLemmas.{in_one}
 use Rattle.invocations.specs.declared.invocation.Invocation.{Invocation}
 use Rattle.call_forms.specs.declared.asked.Asked.{Asked}
 use Rattle.call_forms.specs.declared.forms.Refusal.{Refusal}
-use Rattle.invocation_forms.specs.Replies.{state_text}
+use Rattle.request_demands.specs.InvocationForms.Replies.{state_text}
 use Rattle.request_rules.specs.declared.rules.Rule.{Rule}
 use Rattle.request_rules.specs.declared.rules.Rule.TheVariants as rule
 use Rattle.request_demands.specs.Settings.{Settings, caller_name, secret_of}

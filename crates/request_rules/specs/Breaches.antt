@@ -6,7 +6,7 @@ use Rattle.names_realms.specs.ArtifactNames.{artifact_name}
 use Rattle.kept_replies.specs.declared.reply.KeptReply.{KeptReply}
 use Rattle.call_forms.specs.declared.asked.Asked.{Asked}
 use Rattle.call_forms.specs.declared.forms.Refusal.{Refusal}
-use Rattle.invocation_forms.specs.Replies.{state_text}
+use Rattle.request_demands.specs.InvocationForms.Replies.{state_text}
 use Rattle.request_rules.specs.declared.breaches.Breach.{Breach}
 use Rattle.request_rules.specs.declared.breaches.Breach.TheVariants.{RequestIdReused, NotFound, NoResult, NoArtifact, NoUpdateToken, BadUpdateToken, Denied, NotActive, DeadlineRange, Itself, TooMany, Taken}
 use Rattle.request_rules.specs.declared.judging.Situation.{Situation}

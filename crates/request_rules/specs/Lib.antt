@@ -1,3 +1,8 @@
+pub use Rattle.request_demands.specs.InvocationForms
+pub use Rattle.request_demands.specs.MessageForms
+pub use Rattle.policy_checks.specs as PolicyChecks
+pub use Rattle.request_demands.specs.QueryForms
+pub use Rattle.request_demands.specs as RequestDemands
 pub mod Held
 pub mod Named
 pub mod Rights

@@ -8,8 +8,8 @@ ghost use Rattle.request_rules.specs.Locating.{located};
 use crate::judging::{deadline_range, itself, not_active, not_found, taken, too_many};
 use crate::locating::Located;
 use invocations::Table;
-use message_forms::Request;
 use names_realms::Moment;
+use request_demands::message_forms::Request;
 use request_demands::{Demand, demand_of};
 
 /// Whether a demand breaks none of the rules that are asked again.

@@ -5,16 +5,16 @@ ghost use Rattle.names_realms.specs.ResultNames.{result_name};
 ghost use Rattle.names_realms.specs.ArtifactNames.{artifact_name};
 ghost use Rattle.policy_checks.specs.Permissions.{permission_text};
 ghost use Rattle.call_forms.specs.Rules.{refusal_answer};
-ghost use Rattle.invocation_forms.specs.Replies.{state_text};
+ghost use Rattle.request_demands.specs.InvocationForms.Replies.{state_text};
 ghost use Rattle.request_rules.specs.Broken.{number_of};
 ghost use Rattle.request_rules.specs.Breaches.{refusal_of};
 
 use crate::rules::Rule;
 use call_forms::{Answer, Refusal, write_refusal};
 use lists::Bytes;
-use message_forms::{LimitedText, RequestId, state_name};
 use names_realms::{ArtifactName, InvocationId, Moment, Realm, ResultName, State};
 use permissions::Permission;
+use request_demands::message_forms::{LimitedText, RequestId, state_name};
 use std::alloc::{AllocError, Global};
 
 /// A rule that a request breaks, with what breaks it. It is found without memory.

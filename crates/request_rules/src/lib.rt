@@ -14,4 +14,6 @@ pub use breaches::Breach;
 pub use holdings::{Holding, holdings_for};
 pub use judging::Situation;
 pub use locating::Located;
+pub use permissions;
+pub use request_demands::{self, message_forms, query_forms};
 pub use rules::Rule;

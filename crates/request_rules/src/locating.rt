@@ -14,8 +14,8 @@ ghost use Rattle.request_rules.specs.Broken.{IsAbsent, IsMissing, artifact_named
 
 use artifacts::ArtifactRows;
 use invocations::{Invocation, Table};
-use message_forms::Request;
 use names_realms::{ArtifactName, InvocationId, ResultName};
+use request_demands::message_forms::Request;
 use request_demands::{Demand, demand_of, invocation_of};
 use std::alloc::{AllocError, Global};
 use std::marker::Model;

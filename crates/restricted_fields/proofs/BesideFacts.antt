@@ -9,7 +9,7 @@ use Rattle.test_results.specs.declared.result.TestResult.{TestResult}
 use Rattle.invocation_world.specs.World.{World}
 use Rattle.query_pages.specs.Unseen.{AreLike, AreToldLike, DifferUnseen}
 use Rattle.service_effects.specs.Service.{ServiceWorld, recorded}
-use Rattle.request_effects.specs.Answers.{listed_in}
+use Rattle.service_laws.specs.RequestEffects.Answers.{listed_in}
 use Rattle.restricted_fields.specs.Alike.{AreFilesLike, LookAlike}
 use Rattle.restricted_fields.proofs.ListFacts.{zip_as}
 use Rattle.restricted_fields.proofs.RealmFacts.{AllStood, granted_before}

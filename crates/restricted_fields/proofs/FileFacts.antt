@@ -7,8 +7,8 @@ use Rattle.std.specs.Ordering.{nat_cmp, ordering_then}
 use Rattle.std.specs.Str.{bytes_eq}
 use Rattle.artifact_forms.specs.Tokens.{token_text}
 use Rattle.artifact_forms.specs.declared.named.GetArtifact.{GetArtifact}
-use Rattle.artifact_pages.specs.Pages.{IsShownPage, IsWholeListing, next_token}
-use Rattle.artifact_pages.specs.declared.queries.ArtifactQuery.{ArtifactQuery}
+use Rattle.service_laws.specs.ArtifactPages.Pages.{IsShownPage, IsWholeListing, next_token}
+use Rattle.service_laws.specs.ArtifactPages.declared.queries.ArtifactQuery.{ArtifactQuery}
 use Rattle.artifact_replies.proofs.AlikeLaws.{lists_hide_contents}
 use Rattle.artifact_replies.specs.Laws.{AreAlike}
 use Rattle.artifact_replies.specs.Replies.{ArtifactsShown, artifacts_data}
@@ -18,7 +18,7 @@ use Rattle.artifacts.specs.Orders.{IsRising, id_at, invocation_of}
 use Rattle.artifacts.specs.Pages.{IsAfter}
 use Rattle.invocations.specs.declared.invocation.Invocation.{Invocation}
 use Rattle.json_fields.specs.Fields.{Pairs}
-use Rattle.message_forms.specs.declared.requests.Request.TheVariants as asks
+use Rattle.request_demands.specs.MessageForms.declared.requests.Request.TheVariants as asks
 use Rattle.names_realms.specs.declared.artifact_names.ArtifactName.{ArtifactName}
 use Rattle.permissions.specs.Allows.{Allows}
 use Rattle.policy_checks.specs.declared.permission.Permission.TheVariants as permission
@@ -28,12 +28,12 @@ use Rattle.query_pages.specs.Unseen.{IsGranted}
 use Rattle.request_demands.specs.declared.grants.Grant.TheVariants.{One}
 use Rattle.request_demands.specs.Demands.{demand_of}
 use Rattle.request_demands.specs.Order.{FirstOf, IsUnbroken}
-use Rattle.request_effects.proofs.PlaceFacts.{row_placed}
-use Rattle.request_rules.proofs.ArtifactPlaces.{keys_decided}
-use Rattle.request_rules.proofs.KeyPlaces.{placed_row}
-use Rattle.request_rules.specs.Broken.{Denied, Lacks, denied}
-use Rattle.request_rules.specs.Named.{artifact_held, is_keyed, is_same_parent, place_named, place_of_artifact, row_at}
-use Rattle.request_rules.specs.Rights.{Right, right, rights_of}
+use Rattle.service_laws.proofs.RequestEffects.PlaceFacts.{row_placed}
+use Rattle.service_laws.proofs.RequestRules.ArtifactPlaces.{keys_decided}
+use Rattle.service_laws.proofs.RequestRules.KeyPlaces.{placed_row}
+use Rattle.service_laws.specs.RequestRules.Broken.{Denied, Lacks, denied}
+use Rattle.service_laws.specs.RequestRules.Named.{artifact_held, is_keyed, is_same_parent, place_named, place_of_artifact, row_at}
+use Rattle.service_laws.specs.RequestRules.Rights.{Right, right, rights_of}
 use Rattle.restricted_fields.specs.Alike.{AreFilesLike}
 use Rattle.restricted_fields.proofs.ListFacts.{zip_position}
 

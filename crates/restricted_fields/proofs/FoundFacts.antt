@@ -13,16 +13,16 @@ use Rattle.call_forms.specs.declared.asked.Asked.{Asked}
 use Rattle.call_forms.specs.declared.forms.Refusal.{Refusal}
 use Rattle.invocation_world.specs.World.{World}
 use Rattle.query_pages.specs.Unseen.{AreLike}
-use Rattle.request_rules.specs.declared.rules.Rule.{Rule}
-use Rattle.request_rules.specs.declared.rules.Rule.TheVariants as rule
+use Rattle.service_laws.specs.RequestRules.declared.rules.Rule.{Rule}
+use Rattle.service_laws.specs.RequestRules.declared.rules.Rule.TheVariants as rule
 use Rattle.request_demands.specs.Settings.{Settings}
-use Rattle.request_rules.specs.Named.{has_key, place_held, place_named, place_of_artifact, place_of_result}
+use Rattle.service_laws.specs.RequestRules.Named.{has_key, place_held, place_named, place_of_artifact, place_of_result}
 use Rattle.request_demands.specs.Demands.{Demand}
 use Rattle.request_demands.specs.Order.{FirstOf, Judges}
-use Rattle.request_rules.specs.Broken.{IsAbsent, IsBroken, Sought, artifact_named, invocation_with, order, result_named, sought}
+use Rattle.service_laws.specs.RequestRules.Broken.{IsAbsent, IsBroken, Sought, artifact_named, invocation_with, order, result_named, sought}
 use Rattle.service_effects.specs.Service.{ServiceWorld, recorded}
-use Rattle.request_effects.specs.Places.{held_in}
-use Rattle.service_core.specs.Step.{case_in}
+use Rattle.service_laws.specs.RequestEffects.Places.{held_in}
+use Rattle.service_laws.specs.ServiceCore.Step.{case_in}
 use Rattle.restricted_fields.proofs.ListFacts.{zip_position}
 use Rattle.restricted_fields.proofs.FileFacts.{found_files}
 use Rattle.restricted_fields.proofs.BesideFacts.{AlikeOver, with_rows}

@@ -6,8 +6,8 @@ use Rattle.call_forms.specs.declared.forms.Told.{Told}
 use Rattle.call_forms.specs.declared.forms.Told.TheVariants.{Made}
 use Rattle.request_demands.specs.Settings.{Settings}
 use Rattle.service_effects.specs.Service.{ServiceWorld}
-use Rattle.service_core.specs.History.{Entry, Leads, Tells}
-use Rattle.service_core.specs.Step.{Step}
+use Rattle.service_laws.specs.ServiceCore.History.{Entry, Leads, Tells}
+use Rattle.service_laws.specs.ServiceCore.Step.{Step}
 use Rattle.restricted_fields.specs.Alike.{LookAlike}
 use Rattle.restricted_fields.specs.Laws.{IsMade, UnseenChangesNoHistory}
 use Rattle.restricted_fields.proofs.StepLaws.{unseen_changes_no_answer}

@@ -6,18 +6,18 @@ use Rattle.call_forms.specs.declared.asked.Asked.{Asked}
 use Rattle.artifact_forms.specs.declared.listed.ListArtifacts.{ListArtifacts}
 use Rattle.artifact_forms.specs.declared.named.GetArtifact.{GetArtifact}
 use Rattle.invocation_forms.specs.declared.named.NamedInvocation.{NamedInvocation}
-use Rattle.query_forms.specs.declared.results.QueryTestResults.{QueryTestResults}
-use Rattle.query_forms.specs.declared.single.GetTestResult.{GetTestResult}
-use Rattle.query_forms.specs.declared.variants.QueryTestVariants.{QueryTestVariants}
-use Rattle.message_forms.specs.declared.requests.Request.{Request}
-use Rattle.message_forms.specs.declared.requests.Request.TheVariants as asks
-use Rattle.message_forms.specs.Methods.{every_method, is_called, method_asked, method_of, name_of, service_of}
-use Rattle.message_forms.specs.Reading.{Asks}
+use Rattle.request_demands.specs.QueryForms.declared.results.QueryTestResults.{QueryTestResults}
+use Rattle.request_demands.specs.QueryForms.declared.single.GetTestResult.{GetTestResult}
+use Rattle.request_demands.specs.QueryForms.declared.variants.QueryTestVariants.{QueryTestVariants}
+use Rattle.request_demands.specs.MessageForms.declared.requests.Request.{Request}
+use Rattle.request_demands.specs.MessageForms.declared.requests.Request.TheVariants as asks
+use Rattle.request_demands.specs.MessageForms.Methods.{every_method, is_called, method_asked, method_of, name_of, service_of}
+use Rattle.request_demands.specs.MessageForms.Reading.{Asks}
 use Rattle.request_demands.specs.Demands.{demand_of}
 use Rattle.service_effects.specs.declared.effect.Effect.TheVariants as does
 use Rattle.service_effects.specs.Service.{Recorded}
-use Rattle.request_effects.specs.Effects.{effect_of}
-use Rattle.request_effects.specs.Keeps.{numbered_of}
+use Rattle.service_laws.specs.RequestEffects.Effects.{effect_of}
+use Rattle.service_laws.specs.RequestEffects.Keeps.{numbered_of}
 use Rattle.restricted_fields.proofs.ListFacts.{found_passes}
 
 -- the method of a request is one of the service that reads

@@ -8,14 +8,14 @@ use Rattle.artifacts.specs.declared.artifact.Artifact.{Artifact}
 use Rattle.artifacts.specs.Orders.{invocation_of}
 use Rattle.serde_json.specs.Data.{Data}
 use Rattle.serde_json.specs.Written.{compact_text}
-use Rattle.message_forms.specs.Replies.{reply_prefix}
-use Rattle.message_forms.specs.declared.requests.Request.TheVariants as asks
+use Rattle.request_demands.specs.MessageForms.Replies.{reply_prefix}
+use Rattle.request_demands.specs.MessageForms.declared.requests.Request.TheVariants as asks
 use Rattle.request_demands.specs.Demands.{demand_of}
 use Rattle.request_demands.specs.Order.{IsUnbroken}
-use Rattle.request_rules.specs.Broken.{Denied}
+use Rattle.service_laws.specs.RequestRules.Broken.{Denied}
 use Rattle.test_results.specs.declared.result.TestResult.{TestResult}
 use Rattle.call_forms.specs.declared.forms.Answer.{Answer}
-use Rattle.message_forms.specs.declared.requests.Request.{Request}
+use Rattle.request_demands.specs.MessageForms.declared.requests.Request.{Request}
 use Rattle.verdict_lists.specs.World.{World as Listed}
 use Rattle.query_pages.specs.declared.queries.ResultQuery.{ResultQuery}
 use Rattle.query_pages.specs.declared.queries.VerdictQuery.{VerdictQuery}
@@ -24,17 +24,17 @@ use Rattle.query_pages.specs.Unseen.{AreLike}
 use Rattle.query_pages.proofs.SameLemmas.{result_pages_unseen_is, results_unseen_is, verdict_pages_unseen_is}
 use Rattle.query_pages.proofs.ThereLemmas.{has_result_page_is, has_shown_result_is, has_verdict_page_is}
 use Rattle.query_pages.proofs.ZipLemmas.{zip_back, zip_on}
-use Rattle.query_replies.specs.Pages.{reply_of, results_page, verdicts_page}
-use Rattle.query_replies.specs.Results.{seen_data}
+use Rattle.service_laws.specs.QueryReplies.Pages.{reply_of, results_page, verdicts_page}
+use Rattle.service_laws.specs.QueryReplies.Results.{seen_data}
 use Rattle.invocation_world.specs.World.{World}
 use Rattle.request_demands.specs.Settings.{Settings}
-use Rattle.request_rules.specs.Named.{place_named, place_of_artifact, place_of_result}
+use Rattle.service_laws.specs.RequestRules.Named.{place_named, place_of_artifact, place_of_result}
 use Rattle.service_effects.specs.Service.{ServiceWorld, recorded}
-use Rattle.request_effects.specs.declared.shows.Showing.{Showing}
-use Rattle.request_effects.specs.declared.shows.Showing.TheVariants.{Results, Verdicts}
-use Rattle.request_effects.specs.Answers.{Answers, ShowsResult, artifact_answer, done_with, listed_in}
-use Rattle.request_effects.specs.Shows.{answer_of, artifacts_page as shown_page, result_query, shows_artifact, shows_of, shows_result, shows_row, verdict_query}
-use Rattle.service_core.specs.Step.{scene_of}
+use Rattle.service_laws.specs.RequestEffects.declared.shows.Showing.{Showing}
+use Rattle.service_laws.specs.RequestEffects.declared.shows.Showing.TheVariants.{Results, Verdicts}
+use Rattle.service_laws.specs.RequestEffects.Answers.{Answers, ShowsResult, artifact_answer, done_with, listed_in}
+use Rattle.service_laws.specs.RequestEffects.Shows.{answer_of, artifacts_page as shown_page, result_query, shows_artifact, shows_of, shows_result, shows_row, verdict_query}
+use Rattle.service_laws.specs.ServiceCore.Step.{scene_of}
 use Rattle.restricted_fields.proofs.BesideFacts.{AlikeOver, listed_alike, with_rows}
 use Rattle.restricted_fields.proofs.FileFacts.{page_alike, same_file}
 use Rattle.restricted_fields.proofs.FoundFacts.{FindAlike}

@@ -5,7 +5,7 @@ use Rattle.kept_replies.specs.declared.reply.KeptReply.{KeptReply}
 use Rattle.call_forms.specs.declared.asked.Asked.{Asked}
 use Rattle.call_forms.specs.declared.forms.Answer.{Answer}
 use Rattle.call_forms.specs.declared.forms.Refusal.{Refusal}
-use Rattle.message_forms.specs.declared.requests.Request.{Request}
+use Rattle.request_demands.specs.MessageForms.declared.requests.Request.{Request}
 use Rattle.invocation_world.specs.World.{World}
 use Rattle.invocation_world.specs.Advancing.{Advances, CarriesOut, after_deadlines}
 use Rattle.policy_tables.specs.declared.tables.PolicyTables.{PolicyTables}
@@ -21,14 +21,14 @@ use Rattle.service_effects.specs.Refused.{EffectRefused}
 use Rattle.service_effects.specs.Service.{ServiceWorld, recorded}
 use Rattle.service_effects.specs.Storing.{DoingRefused, IsStorable, bytes_of, stored_due}
 use Rattle.service_effects.proofs.StoringLaws.{nothing_storable}
-use Rattle.request_effects.specs.declared.keeping.Numbered.{Numbered}
-use Rattle.request_effects.specs.Answers.{Answers}
-use Rattle.request_effects.specs.Keeps.{kept_of, with_kept}
-use Rattle.request_effects.specs.Shows.{shows_of}
-use Rattle.service_core.specs.Service.{CatchesUp}
-use Rattle.service_core.specs.Step.{Acts, IsAccepted, IsJudgedAs, IsNew, IsRefusal, IsRefusedOf, IsRepeated, IsTold, Performs, Refuses, Step, bytes_for, effect_for, keep_for, performed, refused, repeated, scene_of}
-use Rattle.service_core.proofs.ClearedLaws.{accepted_granted}
-use Rattle.service_core.proofs.PlanLaws.{stored_same}
+use Rattle.service_laws.specs.RequestEffects.declared.keeping.Numbered.{Numbered}
+use Rattle.service_laws.specs.RequestEffects.Answers.{Answers}
+use Rattle.service_laws.specs.RequestEffects.Keeps.{kept_of, with_kept}
+use Rattle.service_laws.specs.RequestEffects.Shows.{shows_of}
+use Rattle.service_laws.specs.ServiceCore.Service.{CatchesUp}
+use Rattle.service_laws.specs.ServiceCore.Step.{Acts, IsAccepted, IsJudgedAs, IsNew, IsRefusal, IsRefusedOf, IsRepeated, IsTold, Performs, Refuses, Step, bytes_for, effect_for, keep_for, performed, refused, repeated, scene_of}
+use Rattle.service_laws.proofs.ServiceCore.ClearedLaws.{accepted_granted}
+use Rattle.service_laws.proofs.ServiceCore.PlanLaws.{stored_same}
 use Rattle.service_effects.proofs.RoomLaws.{same_parts}
 use Rattle.service_laws.proofs.StepLaws.{one_step}
 use Rattle.restricted_fields.specs.Alike.{LookAlike}

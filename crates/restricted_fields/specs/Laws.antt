@@ -7,8 +7,8 @@ use Rattle.call_forms.specs.declared.forms.Told.{Told}
 use Rattle.call_forms.specs.declared.forms.Told.TheVariants.{Made}
 use Rattle.request_demands.specs.Settings.{Settings, caller_of}
 use Rattle.service_effects.specs.Service.{ServiceWorld}
-use Rattle.service_core.specs.History.{Entry, IsLegal}
-use Rattle.service_core.specs.Step.{Step}
+use Rattle.service_laws.specs.ServiceCore.History.{Entry, IsLegal}
+use Rattle.service_laws.specs.ServiceCore.Step.{Step}
 use Rattle.restricted_fields.specs.Alike.{LookAlike}
 
 -- A caller asks the service that reads, by the caller's bearer token. What is asked may be of no

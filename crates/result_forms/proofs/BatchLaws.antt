@@ -23,8 +23,8 @@ use Rattle.json_fields.proofs.WriteLaws.{differ, listed_written, member_put, mem
 use Rattle.field_kinds.specs.Beside.{a_same_text}
 use Rattle.field_kinds.specs.Filled.{optional_filled}
 use Rattle.result_forms.specs.Names as name
-use Rattle.text_kinds.specs.Texts.{a_request_id, request_id_why, IsRequestId}
-use Rattle.text_kinds.proofs.TextLaws.{only_request_ids_are_read, request_id_form}
+use Rattle.field_kinds.specs.TextKinds.Texts.{a_request_id, request_id_why, IsRequestId}
+use Rattle.field_kinds.proofs.TextKinds.TextLaws.{only_request_ids_are_read, request_id_form}
 use Rattle.result_forms.specs.Fields.{an_invocation_name, IsNameOf, text_in}
 use Rattle.result_forms.specs.Batches.{Batch, RowForm, an_element, elements, a_batch, IsElement, IsBatch, element_data, batch_members, batch_data, IsBatchOfForm}
 use Rattle.result_forms.proofs.MemberLaws.{member_of, two_names, one_name}

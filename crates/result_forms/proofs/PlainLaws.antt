@@ -9,7 +9,7 @@ use Rattle.serde_json.specs.Written.{has_float, items_have_float, compact_text}
 use Rattle.moments_spans.specs.Moments.{moment_text}
 use Rattle.moments_spans.specs.Spans.{span_text}
 use Rattle.names_realms.specs.Names.{invocation_name}
-use Rattle.text_kinds.specs.Statuses.{status_name}
+use Rattle.field_kinds.specs.TextKinds.Statuses.{status_name}
 use Rattle.names_realms.specs.declared.pairs.Pair.{Pair}
 use Rattle.json_fields.specs.Names.{NameForm}
 use Rattle.json_fields.specs.Faults.{here}

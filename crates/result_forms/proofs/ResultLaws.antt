@@ -17,7 +17,7 @@ use Rattle.json_fields.specs.Tags.{a_tag, IsTag, IsPairOfGrammar}
 use Rattle.json_fields.proofs.FormLaws.{GivesForm, moment_form, optional_form, optional_list_form, part_form, required_form, tag_form}
 use Rattle.json_fields.proofs.MeaningLaws.{first_left, first_right, holds_one, maybe_one, list_one, same_one, moment_one, tag_one}
 use Rattle.json_fields.proofs.SpellLaws.{test_id_spelled, result_id_spelled, moment_spelled, span_spelled}
-use Rattle.text_kinds.specs.Statuses.{a_status, no_status, IsStatus, status_name}
+use Rattle.field_kinds.specs.TextKinds.Statuses.{a_status, no_status, IsStatus, status_name}
 use Rattle.field_kinds.specs.Flags.{a_flag, IsFlag}
 use Rattle.field_kinds.specs.Properties.{empty_object}
 use Rattle.field_kinds.specs.Variants.{a_variant, IsVariant, AreOfGrammar}

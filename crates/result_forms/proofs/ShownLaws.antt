@@ -24,8 +24,8 @@ use Rattle.json_fields.specs.Writing.{IsWritten, AllWritten, list_data}
 use Rattle.json_fields.specs.declared.whys.Why.{Why}
 use Rattle.json_fields.proofs.TextLaws.{value_right}
 use Rattle.json_fields.proofs.WriteLaws.{tag_written, list_no_fault, list_meant, set_found, set_lost, optional_found, optional_lost}
-use Rattle.text_kinds.specs.Texts.{a_string}
-use Rattle.text_kinds.specs.Statuses.{a_status, no_status, IsStatus, status_name}
+use Rattle.field_kinds.specs.TextKinds.Texts.{a_string}
+use Rattle.field_kinds.specs.TextKinds.Statuses.{a_status, no_status, IsStatus, status_name}
 use Rattle.field_kinds.specs.Defaults.{HoldsOr}
 use Rattle.field_kinds.specs.Filled.{optional_filled}
 use Rattle.field_kinds.specs.Flags.{a_flag, IsFlag}

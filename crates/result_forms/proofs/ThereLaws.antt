@@ -13,9 +13,9 @@ use Rattle.json_fields.specs.Texts.{a_text, moment_fault, span_fault, IsText, Is
 use Rattle.json_fields.proofs.MeaningLaws.{first_left, first_right, list_there, moment_there, optional_there, required_there, same_there, tag_there, text_there}
 use Rattle.json_fields.proofs.NameLaws.{name_there}
 use Rattle.json_fields.proofs.TextLaws.{span_of_text}
-use Rattle.text_kinds.specs.Statuses.{status_of, unless_known, a_status, no_status, IsStatus}
-use Rattle.text_kinds.specs.Texts.{a_string, a_request_id, request_id_why}
-use Rattle.text_kinds.proofs.TextLaws.{string_there}
+use Rattle.field_kinds.specs.TextKinds.Statuses.{status_of, unless_known, a_status, no_status, IsStatus}
+use Rattle.field_kinds.specs.TextKinds.Texts.{a_string, a_request_id, request_id_why}
+use Rattle.field_kinds.proofs.TextKinds.TextLaws.{string_there}
 use Rattle.field_kinds.specs.Beside.{a_same_text}
 use Rattle.field_kinds.specs.Filled.{optional_filled}
 use Rattle.field_kinds.specs.Flags.{a_flag, IsFlag}

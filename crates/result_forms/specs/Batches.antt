@@ -12,7 +12,7 @@ use Rattle.json_fields.specs.declared.faults.FieldFault.{FieldFault}
 use Rattle.field_kinds.specs.Beside.{a_same_text}
 use Rattle.field_kinds.specs.Filled.{optional_filled}
 use Rattle.result_forms.specs.Names as name
-use Rattle.text_kinds.specs.Texts.{a_request_id, IsRequestId}
+use Rattle.field_kinds.specs.TextKinds.Texts.{a_request_id, IsRequestId}
 use Rattle.result_forms.specs.Fields.{an_invocation_name, IsNameOf, text_in}
 use Rattle.result_forms.specs.Members.{object_of}
 

@@ -9,7 +9,7 @@ use Rattle.json_fields.specs.Kinds.{an_object}
 use Rattle.json_fields.specs.Texts.{a_text, IsText, IsSame}
 use Rattle.json_fields.specs.declared.faults.FieldFault.{FieldFault}
 use Rattle.json_fields.specs.declared.whys.Why.{Why}
-use Rattle.text_kinds.specs.Texts.{a_string, limited_why, any_byte, most_of_html, most_of_message}
+use Rattle.field_kinds.specs.TextKinds.Texts.{a_string, limited_why, any_byte, most_of_html, most_of_message}
 use Rattle.field_kinds.specs.Defaults.{HoldsOr}
 use Rattle.field_kinds.specs.Properties.{IsCompact, IsKept}
 use Rattle.result_forms.specs.Names as name

@@ -7,6 +7,7 @@ ghost use Rattle.result_forms.specs.Methods.{results_form, exonerations_form};
 use crate::elements::{Outer, outer_of};
 use crate::names::{invocation, request_id, requests};
 use crate::written::batch_value;
+use field_kinds::text_kinds::{LimitedText, RequestId};
 use field_kinds::{optional_filled, required_list_beside};
 use json_fields::{Form, InvocationName, ReadFault, object, required};
 use lists::Listed;
@@ -14,7 +15,6 @@ use names_realms::InvocationId;
 use serde_json::Value;
 use std::alloc::{AllocError, Global};
 use test_results::{TestExoneration, TestResult};
-use text_kinds::{LimitedText, RequestId};
 
 /// A request that these results be added to an invocation.
 #[derive(Drop)]

@@ -6,12 +6,12 @@ ghost use Rattle.json_fields.specs.Fields.{optional, set_at};
 
 use crate::names::primary_error_message;
 use field_kinds::or_default;
+use field_kinds::text_kinds::{LimitedText, Message};
 use json_fields::{Form, ReadFault, object};
 use lists::Bytes;
 use serde_json::Value;
 use std::alloc::Global;
 use std::marker::Model;
-use text_kinds::{LimitedText, Message};
 
 /// The reason of a failure. Contracts see it as the bytes of its message.
 #[derive(Drop)]

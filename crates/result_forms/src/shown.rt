@@ -2,19 +2,19 @@
 ghost use Rattle.std.specs.Prelude.{◌≡◌, Some, IfOk, OnOk, fold, option_map};
 ghost use Rattle.serde_json.specs.Data.{string, object, no_members};
 ghost use Rattle.serde_json.specs.View.{view, members_view};
-ghost use Rattle.text_kinds.specs.Statuses.{status_name};
+ghost use Rattle.field_kinds.specs.TextKinds.Statuses.{status_name};
 ghost use Rattle.result_forms.specs.Shown.{as_text, text_shown, flag_shown, tags_shown, put_pair, variant_shown};
 ghost use Rattle.result_forms.specs.Shown.{reason_shown, properties_shown, right_object};
 
 use crate::members::{Shown, list_value, put_some};
 use crate::names::primary_error_message;
 use field_kinds::Properties;
+use field_kinds::text_kinds::StatusName;
 use json_fields::{Form, ReadFault, SpelledOut, Written, tag_value, write_text};
 use names_realms::{Pair, Status};
 use serde_json::{Map, Value};
 use std::alloc::{AllocError, Global};
 use std::str::from_utf8;
-use text_kinds::StatusName;
 
 /// The text of bytes: none where they aren't UTF-8.
 fn text_of(bytes: &[u8]) -> &str

@@ -13,13 +13,13 @@ ghost use Rattle.field_kinds.specs.Variants.{a_variant, IsVariant};
 ghost use Rattle.result_forms.specs.Fields.{html, a_reason, IsUtf8Text, IsReason, IsPropertiesOf};
 
 use crate::reasons::Reason;
+use field_kinds::text_kinds::{Html, LimitedText};
 use field_kinds::{Flag, Properties, VariantMap, optional_filled, or_default};
 use json_fields::{Name, ReadFault, Tag, optional, optional_list, pairs_from};
 use lists::{Bytes, Listed};
 use names_realms::{Pair, Variant};
 use serde_json::Value;
 use std::alloc::Global;
-use text_kinds::{Html, LimitedText};
 
 /// A variant, the empty one where it is unset.
 pub(crate) fn read_variant(alloc: Global, value: &Value, name: Name) -> Result<Variant, ReadFault>

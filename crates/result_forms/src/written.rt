@@ -19,12 +19,12 @@ use crate::shown::{
     bytes_value, flag_value, properties_value, reason_value, spelled_value, status_value,
     tags_value, text_value, variant_value,
 };
+use field_kinds::text_kinds::{LimitedText, RequestId};
 use json_fields::Written;
 use names_realms::InvocationId;
 use serde_json::{Map, Value};
 use std::alloc::{AllocError, Global};
 use test_results::{TestExoneration, TestResult};
-use text_kinds::{LimitedText, RequestId};
 
 /// Puts what a result is.
 pub(crate) fn put_what(

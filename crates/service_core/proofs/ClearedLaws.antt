@@ -1,19 +1,19 @@
 -- What a caller wants that breaks no rule for what is demanded is safe.
 use Rattle.std.proofs.Common.{◌≡◌, ℕ, ℤ, List, Some, None, sym, subst, rules}
 use Rattle.call_forms.specs.declared.asked.Asked.{Asked}
-use Rattle.message_forms.specs.declared.requests.Request.{Request}
+use Rattle.request_effects.specs.MessageForms.declared.requests.Request.{Request}
 use Rattle.kept_replies.specs.declared.reply.KeptReply.{KeptReply}
 use Rattle.kept_replies.specs.Kept.{IsFree, IsWord}
-use Rattle.request_rules.specs.declared.rules.Rule.{Rule}
-use Rattle.request_rules.specs.declared.rules.Rule.TheVariants as rule
-use Rattle.request_demands.specs.Settings.{Settings, HasNames, caller_name}
-use Rattle.request_demands.specs.Demands.{demand_of}
-use Rattle.request_demands.specs.Order.{IsUnbroken}
-use Rattle.request_rules.specs.Broken.{Denied, IsBroken, NotFound, RequestIdReused, order}
-use Rattle.request_demands.proofs.Judged.{IsAmong, unbroken_each}
-use Rattle.request_demands.proofs.NumberLaws.{number_is_word}
-use Rattle.request_rules.proofs.ReuseLaws.{free_number}
-use Rattle.request_demands.proofs.PolicyLaws.{caller_is_there, name_is}
+use Rattle.request_effects.specs.RequestRules.declared.rules.Rule.{Rule}
+use Rattle.request_effects.specs.RequestRules.declared.rules.Rule.TheVariants as rule
+use Rattle.request_effects.specs.RequestDemands.Settings.{Settings, HasNames, caller_name}
+use Rattle.request_effects.specs.RequestDemands.Demands.{demand_of}
+use Rattle.request_effects.specs.RequestDemands.Order.{IsUnbroken}
+use Rattle.request_effects.specs.RequestRules.Broken.{Denied, IsBroken, NotFound, RequestIdReused, order}
+use Rattle.request_effects.proofs.RequestDemands.Judged.{IsAmong, unbroken_each}
+use Rattle.request_effects.proofs.RequestDemands.NumberLaws.{number_is_word}
+use Rattle.request_effects.proofs.RequestRules.ReuseLaws.{free_number}
+use Rattle.request_effects.proofs.RequestDemands.PolicyLaws.{caller_is_there, name_is}
 use Rattle.service_effects.specs.Fitting.{ArePlaced, IsTimely, Suits}
 use Rattle.request_effects.specs.Places.{held_in}
 use Rattle.request_effects.specs.Planned.{IsSafe}
@@ -21,7 +21,7 @@ use Rattle.request_effects.proofs.KeepLaws.{kept_is, numbered_is}
 use Rattle.request_effects.proofs.SafeLaws.{placed, suits}
 use Rattle.service_effects.specs.Service.{ServiceWorld, recorded}
 use Rattle.service_core.specs.Step.{IsAccepted, IsJudgedAs, IsNew, case_in, effect_for, keep_for}
-use Rattle.message_forms.proofs.FormLaws.{asked_is_of_form}
+use Rattle.request_effects.proofs.MessageForms.FormLaws.{asked_is_of_form}
 
 -- A caller wants this, it is no repeat, and it breaks no rule for what is demanded.
 pub record IsCleared (s : Settings) (w : ServiceWorld) (moment : ℤ) (asked : Asked) (caller : ℕ) (request : Request) : Type 0 where

@@ -8,10 +8,10 @@ use Rattle.call_forms.specs.declared.forms.Answer.{Answer}
 use Rattle.call_forms.specs.declared.forms.Refusal.{Refusal}
 use Rattle.invocation_world.specs.World.{World}
 use Rattle.kept_replies.specs.declared.reply.KeptReply.{KeptReply}
-use Rattle.message_forms.specs.declared.requests.Request.{Request}
-use Rattle.request_demands.specs.Demands.{demand_of}
-use Rattle.request_demands.specs.Settings.{Settings, caller_name}
-use Rattle.request_demands.specs.Understood.{length_for}
+use Rattle.request_effects.specs.MessageForms.declared.requests.Request.{Request}
+use Rattle.request_effects.specs.RequestDemands.Demands.{demand_of}
+use Rattle.request_effects.specs.RequestDemands.Settings.{Settings, caller_name}
+use Rattle.request_effects.specs.RequestDemands.Understood.{length_for}
 use Rattle.request_effects.specs.declared.shows.Showing.{Showing}
 use Rattle.request_effects.specs.Effects.{effect_of}
 use Rattle.request_effects.specs.Keeps.{kept_answer, kept_of, numbered_of}

@@ -7,7 +7,7 @@ use Rattle.invocation_world.specs.Advancing.{AreQuiet, CarriesOut, IsDueAt, IsQu
 use Rattle.invocation_world.proofs.RowFacts.{all_at}
 use Rattle.service_effects.specs.Storing.{stored_due}
 use Rattle.invocations.specs.declared.invocation.Invocation.{Invocation}
-use Rattle.request_rules.specs.Held.{Held}
+use Rattle.request_effects.specs.RequestRules.Held.{Held}
 use Rattle.request_effects.specs.Places.{held_in}
 use Rattle.call_forms.specs.declared.asked.Asked.{Asked}
 use Rattle.call_forms.specs.declared.forms.Answer.{Answer}
@@ -18,19 +18,19 @@ use Rattle.call_forms.specs.declared.forms.Told.TheVariants.{Made, Standin as In
 use Rattle.call_forms.specs.Rules.{refusal_answer}
 use Rattle.kept_replies.specs.declared.reply.KeptReply.{KeptReply}
 use Rattle.invocation_world.specs.World.{World, IsCallMoment, IsValid}
-use Rattle.request_demands.specs.declared.reading.Call.{Call}
-use Rattle.request_demands.specs.declared.numbers.NumberCheck.{NumberCheck}
-use Rattle.request_demands.specs.declared.numbers.NumberCheck.TheVariants.{Repeat}
-use Rattle.request_rules.specs.declared.rules.Rule.{Rule}
-use Rattle.request_demands.specs.declared.reading.Understood.{Understood}
-use Rattle.request_demands.specs.declared.reading.Understood.TheVariants.{Refused}
-use Rattle.request_demands.specs.Settings.{Settings, caller_name}
-use Rattle.request_demands.specs.Demands.{demand_of}
-use Rattle.request_demands.specs.Numbered.{IsNumbered, IsRepeatOf}
-use Rattle.request_demands.proofs.NumberLaws.{fresh_as}
-use Rattle.request_demands.specs.Order.{Judges}
-use Rattle.request_rules.specs.Broken.{IsBroken, order}
-use Rattle.request_demands.specs.Understood.{IsCallOf, IsUnderstood}
+use Rattle.request_effects.specs.RequestDemands.declared.reading.Call.{Call}
+use Rattle.request_effects.specs.RequestDemands.declared.numbers.NumberCheck.{NumberCheck}
+use Rattle.request_effects.specs.RequestDemands.declared.numbers.NumberCheck.TheVariants.{Repeat}
+use Rattle.request_effects.specs.RequestRules.declared.rules.Rule.{Rule}
+use Rattle.request_effects.specs.RequestDemands.declared.reading.Understood.{Understood}
+use Rattle.request_effects.specs.RequestDemands.declared.reading.Understood.TheVariants.{Refused}
+use Rattle.request_effects.specs.RequestDemands.Settings.{Settings, caller_name}
+use Rattle.request_effects.specs.RequestDemands.Demands.{demand_of}
+use Rattle.request_effects.specs.RequestDemands.Numbered.{IsNumbered, IsRepeatOf}
+use Rattle.request_effects.proofs.RequestDemands.NumberLaws.{fresh_as}
+use Rattle.request_effects.specs.RequestDemands.Order.{Judges}
+use Rattle.request_effects.specs.RequestRules.Broken.{IsBroken, order}
+use Rattle.request_effects.specs.RequestDemands.Understood.{IsCallOf, IsUnderstood}
 use Rattle.service_effects.specs.Fitting.{IsTimely}
 use Rattle.request_effects.specs.Keeps.{kept_answer, with_kept}
 use Rattle.service_core.specs.declared.plan.Work.{Work}

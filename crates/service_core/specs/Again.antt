@@ -3,7 +3,7 @@
 use Rattle.std.specs.Prelude.{⊤, ◌≡◌, ◌≢◌, ℕ, ℤ, List, Option, Some, None}
 use Rattle.kept_replies.specs.declared.reply.KeptReply.{KeptReply}
 use Rattle.kept_replies.specs.Kept.{IsFree, IsWord}
-use Rattle.message_forms.specs.declared.requests.Request.{Request}
+use Rattle.request_effects.specs.MessageForms.declared.requests.Request.{Request}
 use Rattle.service_effects.specs.declared.effect.Effect.{Effect}
 use Rattle.service_effects.specs.declared.effect.Effect.TheVariants as does
 use Rattle.service_effects.specs.Refused.{IsUnrefused}

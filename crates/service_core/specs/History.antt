@@ -1,6 +1,6 @@
 -- Histories: what was asked and told, one call after the other.
 use Rattle.std.specs.Prelude.{◌≡◌, ◌≢◌, ◌⊎◌, ℕ, ℤ, ◌≤ℤ◌, Bool, true, List, [], ◌∷◌}
-use Rattle.request_demands.specs.Settings.{Settings}
+use Rattle.request_effects.specs.RequestDemands.Settings.{Settings}
 use Rattle.call_forms.specs.declared.asked.Asked.{Asked}
 use Rattle.call_forms.specs.declared.forms.Answer.{Answer}
 use Rattle.call_forms.specs.declared.forms.Standin.TheVariants.{Unavailable, Memory, Spent}

@@ -8,11 +8,11 @@ use Rattle.call_forms.specs.Rules.{refusal_answer}
 use Rattle.call_forms.specs.declared.forms.Standin.TheVariants.{Unavailable, Memory, Spent}
 use Rattle.call_forms.specs.declared.forms.Told.{Told}
 use Rattle.call_forms.specs.declared.forms.Told.TheVariants.{Made, Standin as Instead}
-use Rattle.request_demands.specs.declared.reading.Call.{Call}
-use Rattle.request_demands.specs.Settings.{Settings}
-use Rattle.request_demands.specs.Demands.{demand_of}
+use Rattle.request_effects.specs.RequestDemands.declared.reading.Call.{Call}
+use Rattle.request_effects.specs.RequestDemands.Settings.{Settings}
+use Rattle.request_effects.specs.RequestDemands.Demands.{demand_of}
 use Rattle.request_effects.specs.Places.{located_in}
-use Rattle.request_rules.specs.declared.locating.Located.{Located}
+use Rattle.request_effects.specs.RequestRules.declared.locating.Located.{Located}
 use Rattle.service_effects.specs.Service.{ServiceWorld}
 use Rattle.service_effects.specs.States.{recorded_in}
 use Rattle.service_core.specs.CoreState.{CoreState, world_in}

@@ -1,6 +1,6 @@
 -- Laws of histories whose moments a clock made.
 use Rattle.std.specs.Prelude.{◌≡◌, ℤ, List, [], ◌∷◌, ◌++◌}
-use Rattle.request_demands.specs.Settings.{Settings}
+use Rattle.request_effects.specs.RequestDemands.Settings.{Settings}
 use Rattle.service_effects.specs.Service.{ServiceWorld}
 use Rattle.service_core.specs.History.{Entry, IsLegal, IsTimed, Leads}
 use Rattle.service_core.specs.Step.{moment_of}

@@ -5,8 +5,8 @@ use Rattle.call_forms.specs.declared.asked.Asked.{Asked}
 use Rattle.call_forms.specs.declared.forms.Answer.{Answer}
 use Rattle.call_forms.specs.declared.forms.Refusal.{Refusal}
 use Rattle.call_forms.specs.Rules.{refusal_answer}
-use Rattle.message_forms.specs.declared.requests.Request.{Request}
-use Rattle.request_demands.specs.Settings.{Settings}
+use Rattle.request_effects.specs.MessageForms.declared.requests.Request.{Request}
+use Rattle.request_effects.specs.RequestDemands.Settings.{Settings}
 use Rattle.service_effects.specs.declared.effect.Change.{Change}
 use Rattle.service_effects.specs.declared.effect.Effect.{Effect}
 use Rattle.service_effects.specs.declared.effect.Effect.TheVariants as does

@@ -4,9 +4,9 @@ use Rattle.kept_replies.specs.declared.reply.KeptReply.{KeptReply}
 use Rattle.kept_replies.specs.Kept.{IsFree, IsWord, KeptState}
 use Rattle.call_forms.specs.declared.forms.Answer.{Answer}
 use Rattle.call_forms.specs.declared.asked.Asked.{Asked}
-use Rattle.message_forms.specs.declared.requests.Request.{Request}
+use Rattle.request_effects.specs.MessageForms.declared.requests.Request.{Request}
 use Rattle.invocation_world.specs.World.{IsCallMoment}
-use Rattle.request_demands.specs.Settings.{Settings}
+use Rattle.request_effects.specs.RequestDemands.Settings.{Settings}
 use Rattle.service_effects.specs.declared.tables.Tables.{Tables}
 use Rattle.service_effects.specs.Effects.{Makes}
 use Rattle.service_effects.specs.Fitting as effects

@@ -1,7 +1,7 @@
 -- The world of the service between two steps, and what due deadlines make of it.
 use Rattle.std.specs.Prelude.{◌≡◌, ℤ}
 use Rattle.invocation_world.specs.Advancing.{Advances}
-use Rattle.request_demands.specs.Settings.{Settings}
+use Rattle.request_effects.specs.RequestDemands.Settings.{Settings}
 use Rattle.service_effects.specs.Service.{Recorded, ServiceWorld, recorded}
 use Rattle.service_effects.specs.Storing.{stored_due}
 

@@ -6,14 +6,14 @@ use Rattle.call_forms.specs.declared.asked.Asked.{Asked}
 use Rattle.call_forms.specs.declared.forms.Answer.{Answer}
 use Rattle.call_forms.specs.declared.forms.Refusal.{Refusal}
 use Rattle.call_forms.specs.Rules.{refusal_answer}
-use Rattle.message_forms.specs.declared.requests.Request.{Request}
+use Rattle.request_effects.specs.MessageForms.declared.requests.Request.{Request}
 use Rattle.invocation_world.specs.World.{latest_call}
-use Rattle.request_demands.specs.Settings.{Settings, caller_name}
-use Rattle.request_demands.specs.Demands.{demand_of}
-use Rattle.request_demands.specs.Order.{IsUnbroken, Judges}
-use Rattle.request_rules.specs.Broken.{Case, IsBroken, IsRepeat, order}
-use Rattle.request_demands.specs.Alone.{IsRefusedAlone, Wants}
-use Rattle.request_demands.specs.Understood.{length_for}
+use Rattle.request_effects.specs.RequestDemands.Settings.{Settings, caller_name}
+use Rattle.request_effects.specs.RequestDemands.Demands.{demand_of}
+use Rattle.request_effects.specs.RequestDemands.Order.{IsUnbroken, Judges}
+use Rattle.request_effects.specs.RequestRules.Broken.{Case, IsBroken, IsRepeat, order}
+use Rattle.request_effects.specs.RequestDemands.Alone.{IsRefusedAlone, Wants}
+use Rattle.request_effects.specs.RequestDemands.Understood.{length_for}
 use Rattle.service_effects.specs.declared.effect.Effect.{Effect}
 use Rattle.service_effects.specs.Effects.{Makes}
 use Rattle.request_effects.specs.Effects.{effect_of}

@@ -10,4 +10,5 @@ mod serving;
 pub use counting::Counts;
 pub use laws::{timed_goes_on, timed_is_legal};
 pub use plan::{CallRecord, Plan, Prepared, Work};
+pub use request_effects::{self, message_forms, permissions, request_demands, request_rules};
 pub use serving::Core;

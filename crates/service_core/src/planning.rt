@@ -1,9 +1,9 @@
 //! The plan of a request that breaks no rule for what is demanded.
 ghost use Rattle.std.specs.Prelude.{◌≡◌, ◌<◌, IfOk, IfSome, length};
 ghost use Rattle.call_forms.specs.declared.asked.Asked.{Asked};
-ghost use Rattle.request_demands.specs.Demands.{demand_of};
-ghost use Rattle.request_demands.specs.Settings.{caller_name};
-ghost use Rattle.request_demands.specs.Understood.{IsDigested, length_for};
+ghost use Rattle.request_effects.specs.RequestDemands.Demands.{demand_of};
+ghost use Rattle.request_effects.specs.RequestDemands.Settings.{caller_name};
+ghost use Rattle.request_effects.specs.RequestDemands.Understood.{IsDigested, length_for};
 ghost use Rattle.service_effects.specs.Fitting.{Fits, HasRoom, IsTimely};
 ghost use Rattle.request_effects.specs.Answers.{Fits as ShowsFit};
 ghost use Rattle.request_effects.specs.Keeps.{kept_of};
@@ -19,13 +19,13 @@ use crate::plan::{CallRecord, Plan, Prepared, Work};
 use crate::serving::Core;
 use call_forms::Answer;
 use kept_replies::Ready;
-use message_forms::Request;
 use names_realms::Moment;
-use request_demands::Call;
+use request_effects::message_forms::Request;
+use request_effects::request_demands::Call;
+use request_effects::request_rules::Located;
 use request_effects::{
     Asker, Context, Numbered, Policy, Showing, keep_of, numbered_of, plan_change, show, shows_of,
 };
-use request_rules::Located;
 use service_effects::{Change, Effect, Planned, StoreFull};
 use std::alloc::{AllocError, Global};
 

@@ -3,12 +3,12 @@ use Rattle.std.proofs.Common.{◌⊎◌, ℕ, ℤ, Option}
 use Rattle.kept_replies.specs.declared.reply.KeptReply.{KeptReply}
 use Rattle.call_forms.specs.declared.asked.Asked.{Asked}
 use Rattle.call_forms.specs.declared.forms.Refusal.{Refusal}
-use Rattle.message_forms.specs.declared.requests.Request.{Request}
-use Rattle.request_demands.specs.Settings.{Settings}
-use Rattle.request_demands.specs.Demands.{demand_of}
-use Rattle.request_rules.specs.Broken.{Case, IsBroken, order}
-use Rattle.request_rules.proofs.Decided.{broken_told, repeat_or_not}
-use Rattle.request_demands.proofs.Judged.{judged_there}
+use Rattle.service_core.specs.MessageForms.declared.requests.Request.{Request}
+use Rattle.service_core.specs.RequestDemands.Settings.{Settings}
+use Rattle.service_core.specs.RequestDemands.Demands.{demand_of}
+use Rattle.service_core.specs.RequestRules.Broken.{Case, IsBroken, order}
+use Rattle.service_core.proofs.RequestRules.Decided.{broken_told, repeat_or_not}
+use Rattle.service_core.proofs.RequestDemands.Judged.{judged_there}
 use Rattle.service_effects.specs.Service.{ServiceWorld}
 use Rattle.service_core.specs.Step.{IsFresh, IsJudgedAs, IsRepeated, case_in}
 

@@ -21,7 +21,7 @@ use Rattle.invocation_world.specs.Changes.{with_edges}
 use Rattle.invocation_world.specs.Laws.{KeepsFinal}
 use Rattle.invocation_world.proofs.FinalFacts.{advance_final, begin_final, both_final, inclusions_final, itself_final, moment_final, row_final, settling_final, update_final}
 use Rattle.invocation_world.proofs.RowFacts.{active≢finalized, apart, row_in, state_is}
-use Rattle.request_demands.specs.Settings.{Settings, HasNames}
+use Rattle.service_core.specs.RequestDemands.Settings.{Settings, HasNames}
 use Rattle.service_effects.specs.declared.effect.Effect.{Effect}
 use Rattle.service_effects.specs.declared.effect.Effect.TheVariants as does
 use Rattle.service_effects.specs.Effects.{artifacts_after, exonerations_after, results_after, with_effect}

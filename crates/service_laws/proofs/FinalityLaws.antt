@@ -23,7 +23,7 @@ use Rattle.invocation_world.proofs.BegunFacts.{all_begun_at, due_begun}
 use Rattle.invocation_world.proofs.RowFacts.{active≢finalizing, active≢finalized, finalizing≢finalized, all_at, apart, changed_other, state_is}
 use Rattle.invocation_world.proofs.SettleFacts.{ended_or_same, row_stays}
 use Rattle.invocation_world.proofs.ValidFacts.{all_begin, valid_settled}
-use Rattle.request_demands.specs.Settings.{Settings, HasNames}
+use Rattle.service_core.specs.RequestDemands.Settings.{Settings, HasNames}
 use Rattle.service_laws.specs.Finality.{CarriesInTime, EndsInTime, IsInTime, ToldInTime}
 use Rattle.service_effects.specs.declared.effect.Effect.{Effect}
 use Rattle.service_effects.specs.Effects.{with_effect}

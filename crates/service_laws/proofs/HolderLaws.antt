@@ -10,16 +10,16 @@ use Rattle.invocations.specs.declared.invocation.Invocation.{Invocation}
 use Rattle.invocations.specs.Rows.{ids_of}
 use Rattle.test_results.specs.declared.exoneration.TestExoneration.{TestExoneration}
 use Rattle.test_results.specs.declared.result.TestResult.{TestResult}
-use Rattle.message_forms.specs.Forms.{IsOfForm}
-use Rattle.message_forms.specs.declared.requests.Request.{Request}
-use Rattle.message_forms.specs.declared.requests.Request.TheVariants as asks
-use Rattle.request_rules.specs.Named.{place_named, places_named}
-use Rattle.request_rules.proofs.PlaceLaws.{place_holds}
+use Rattle.service_core.specs.MessageForms.Forms.{IsOfForm}
+use Rattle.service_core.specs.MessageForms.declared.requests.Request.{Request}
+use Rattle.service_core.specs.MessageForms.declared.requests.Request.TheVariants as asks
+use Rattle.service_core.specs.RequestRules.Named.{place_named, places_named}
+use Rattle.service_core.proofs.RequestRules.PlaceLaws.{place_holds}
 use Rattle.service_effects.specs.declared.effect.Effect.{Effect}
 use Rattle.service_effects.specs.declared.effect.Effect.TheVariants as does
 use Rattle.service_effects.specs.Service.{Recorded}
-use Rattle.request_effects.specs.Effects.{artifacts_at, effect_of, exonerations_at, place_of_batch, results_at}
-use Rattle.request_effects.proofs.SafeLaws.{of_end_at, of_include_at, of_update_at}
+use Rattle.service_core.specs.RequestEffects.Effects.{artifacts_at, effect_of, exonerations_at, place_of_batch, results_at}
+use Rattle.service_core.proofs.RequestEffects.SafeLaws.{of_end_at, of_include_at, of_update_at}
 use Rattle.service_laws.specs.Validity.{NamesItsHolder}
 
 -- so do those that an effect adds

@@ -19,15 +19,15 @@ use Rattle.test_results.specs.declared.exoneration.TestExoneration.{TestExonerat
 use Rattle.test_results.specs.declared.result.TestResult.{TestResult}
 use Rattle.test_results.specs.Exonerations as exonerations
 use Rattle.test_results.specs.Results as results
-use Rattle.request_demands.specs.Settings.{HasNames, Settings, caller_name}
+use Rattle.service_core.specs.RequestDemands.Settings.{HasNames, Settings, caller_name}
 use Rattle.service_effects.specs.declared.effect.Effect.{Effect}
 use Rattle.service_effects.specs.declared.effect.Effect.TheVariants as does
 use Rattle.service_effects.specs.Effects.{Makes}
 use Rattle.service_effects.specs.Fitting.{IsTimely, Suits, holder_in}
-use Rattle.request_effects.specs.Keeps.{answer_kept, with_kept}
-use Rattle.request_effects.proofs.KeepLaws.{kept_is}
+use Rattle.service_core.specs.RequestEffects.Keeps.{answer_kept, with_kept}
+use Rattle.service_core.proofs.RequestEffects.KeepLaws.{kept_is}
 use Rattle.service_effects.specs.Service.{Recorded, ServiceWorld, recorded}
-use Rattle.request_effects.specs.Shows.{part_of}
+use Rattle.service_core.specs.RequestEffects.Shows.{part_of}
 use Rattle.service_laws.specs.Validity.{AreOneBatch, StandsIn}
 use Rattle.service_core.specs.Step.{IsTold, Performs, effect_for, keep_for, performed, refused, repeated}
 use Rattle.service_core.proofs.ClearedLaws.{accepted_suits, kept_free}

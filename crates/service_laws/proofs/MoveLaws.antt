@@ -5,8 +5,8 @@ use Rattle.call_forms.specs.declared.forms.Answer.{Answer}
 use Rattle.call_forms.specs.declared.forms.Standin.TheVariants.{Unavailable, Memory, Spent}
 use Rattle.call_forms.specs.declared.forms.Told.{Told}
 use Rattle.call_forms.specs.declared.forms.Told.TheVariants.{Made, Standin as Instead}
-use Rattle.request_demands.specs.Settings.{Settings, HasNames, caller_name}
-use Rattle.request_demands.specs.Order.{IsUnbroken}
+use Rattle.service_core.specs.RequestDemands.Settings.{Settings, HasNames, caller_name}
+use Rattle.service_core.specs.RequestDemands.Order.{IsUnbroken}
 use Rattle.service_effects.specs.declared.effect.Effect.{Effect}
 use Rattle.service_effects.specs.Effects.{Makes}
 use Rattle.service_effects.specs.Fitting.{ArePlaced, IsTimely, Suits}
@@ -16,7 +16,7 @@ use Rattle.service_core.specs.Service.{CarriesDue}
 use Rattle.service_core.specs.Step.{IsTold, effect_for, performed, refused, repeated}
 use Rattle.service_core.specs.History.{DoesNoMore, Entry, Tells}
 use Rattle.service_core.proofs.ClearedLaws.{accepted_suits, effect_placed}
-use Rattle.message_forms.proofs.FormLaws.{asked_is_of_form}
+use Rattle.service_core.proofs.MessageForms.FormLaws.{asked_is_of_form}
 use Rattle.service_laws.proofs.HolderLaws.{NameTheirHolders, effect_named}
 
 -- One effect is done, which suits a world at whose moment nothing is due.

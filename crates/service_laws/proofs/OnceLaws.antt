@@ -27,37 +27,37 @@ use Rattle.call_forms.specs.declared.forms.Refusal.{Refusal}
 use Rattle.call_forms.specs.declared.forms.Standin.TheVariants.{Unavailable, Memory, Spent}
 use Rattle.call_forms.specs.declared.forms.Told.{Told}
 use Rattle.call_forms.specs.declared.forms.Told.TheVariants.{Made, Standin as Instead}
-use Rattle.message_forms.specs.declared.requests.Request.{Request}
-use Rattle.message_forms.specs.declared.requests.Request.TheVariants as asks
-use Rattle.request_demands.specs.Settings.{Settings, caller_name}
-use Rattle.request_demands.specs.Demands.{Demand, demand_of, of_artifacts}
-use Rattle.request_demands.specs.Numbered.{digest_of, kept_for}
-use Rattle.request_rules.specs.Broken.{IsAbsent, NotFound, Sought, invocation_with, of_invocation, sought}
-use Rattle.request_demands.specs.Alone.{Wants}
-use Rattle.request_rules.specs.Held.{Held}
-use Rattle.request_rules.specs.Named.{place_named}
-use Rattle.message_forms.specs.Forms.{IsOfForm}
-use Rattle.message_forms.proofs.FormLaws.{asked_is_of_form}
-use Rattle.request_demands.specs.Order.{FirstOf, IsUnbroken}
-use Rattle.request_demands.proofs.NumberLaws.{kept_there}
-use Rattle.request_rules.proofs.ReuseLaws.{found_digest}
-use Rattle.request_demands.proofs.ReadLaws.{wanted_alone}
-use Rattle.request_demands.proofs.AloneFacts.{one_caller, one_request}
+use Rattle.service_core.specs.MessageForms.declared.requests.Request.{Request}
+use Rattle.service_core.specs.MessageForms.declared.requests.Request.TheVariants as asks
+use Rattle.service_core.specs.RequestDemands.Settings.{Settings, caller_name}
+use Rattle.service_core.specs.RequestDemands.Demands.{Demand, demand_of, of_artifacts}
+use Rattle.service_core.specs.RequestDemands.Numbered.{digest_of, kept_for}
+use Rattle.service_core.specs.RequestRules.Broken.{IsAbsent, NotFound, Sought, invocation_with, of_invocation, sought}
+use Rattle.service_core.specs.RequestDemands.Alone.{Wants}
+use Rattle.service_core.specs.RequestRules.Held.{Held}
+use Rattle.service_core.specs.RequestRules.Named.{place_named}
+use Rattle.service_core.specs.MessageForms.Forms.{IsOfForm}
+use Rattle.service_core.proofs.MessageForms.FormLaws.{asked_is_of_form}
+use Rattle.service_core.specs.RequestDemands.Order.{FirstOf, IsUnbroken}
+use Rattle.service_core.proofs.RequestDemands.NumberLaws.{kept_there}
+use Rattle.service_core.proofs.RequestRules.ReuseLaws.{found_digest}
+use Rattle.service_core.proofs.RequestDemands.ReadLaws.{wanted_alone}
+use Rattle.service_core.proofs.RequestDemands.AloneFacts.{one_caller, one_request}
 use Rattle.service_effects.specs.declared.effect.Effect.{Effect}
-use Rattle.request_effects.specs.declared.shows.Showing.{Showing}
-use Rattle.request_effects.specs.declared.shows.Showing.TheVariants.{Alike}
-use Rattle.request_effects.specs.Answers.{Answers}
-use Rattle.request_effects.specs.Effects.{artifacts_at, effect_of, exonerations_at, place_of_batch, results_at}
-use Rattle.request_effects.specs.Places.{held_in}
-use Rattle.request_effects.specs.Laws.{shows_added}
+use Rattle.service_core.specs.RequestEffects.declared.shows.Showing.{Showing}
+use Rattle.service_core.specs.RequestEffects.declared.shows.Showing.TheVariants.{Alike}
+use Rattle.service_core.specs.RequestEffects.Answers.{Answers}
+use Rattle.service_core.specs.RequestEffects.Effects.{artifacts_at, effect_of, exonerations_at, place_of_batch, results_at}
+use Rattle.service_core.specs.RequestEffects.Places.{held_in}
+use Rattle.service_core.specs.RequestEffects.Laws.{shows_added}
 use Rattle.service_effects.specs.Service.{IsSound, Recorded, ServiceWorld, recorded}
-use Rattle.request_effects.specs.Keeps.{answer_kept, as_made, kept_answer, kept_of, made_answer, numbered_of, with_kept}
-use Rattle.request_effects.specs.Shows.{artifacts_reply, done, exonerations_reply, exonerations_shown, part_of, results_reply, results_shown, shown_with, shows_artifacts, shows_exonerations, shows_of, shows_results}
-use Rattle.message_forms.specs.declared.replies.Reply.TheVariants as reply
-use Rattle.request_demands.specs.Understood.{token_for}
-use Rattle.request_effects.specs.declared.keeping.Numbered.{Numbered}
-use Rattle.request_effects.specs.declared.shows.Shows.TheVariants as shows
-use Rattle.request_effects.proofs.KeepLaws.{kept_is_first}
+use Rattle.service_core.specs.RequestEffects.Keeps.{answer_kept, as_made, kept_answer, kept_of, made_answer, numbered_of, with_kept}
+use Rattle.service_core.specs.RequestEffects.Shows.{artifacts_reply, done, exonerations_reply, exonerations_shown, part_of, results_reply, results_shown, shown_with, shows_artifacts, shows_exonerations, shows_of, shows_results}
+use Rattle.service_core.specs.MessageForms.declared.replies.Reply.TheVariants as reply
+use Rattle.service_core.specs.RequestDemands.Understood.{token_for}
+use Rattle.service_core.specs.RequestEffects.declared.keeping.Numbered.{Numbered}
+use Rattle.service_core.specs.RequestEffects.declared.shows.Shows.TheVariants as shows
+use Rattle.service_core.proofs.RequestEffects.KeepLaws.{kept_is_first}
 use Rattle.service_core.specs.Service.{CatchesUp}
 use Rattle.service_laws.specs.Validity.{StandsIn}
 use Rattle.service_core.specs.Step.{IsRefusal, IsRepeated, IsTold, Performs, effect_for, keep_for, performed, refused, repeated, scene_of}
@@ -65,7 +65,7 @@ use Rattle.service_core.specs.History.{DoesNoMore, Entry, Tells}
 use Rattle.service_laws.specs.Laws.{FirstIsKept, IsSameInvocation, KeptStays, NumbersActOnce}
 use Rattle.service_core.proofs.ClearedLaws.{accepted_found, accepted_suits, unused}
 use Rattle.service_laws.proofs.ValidLaws.{legal_keeps_valid}
-use Rattle.request_effects.proofs.FitLaws.{length_given}
+use Rattle.service_core.proofs.RequestEffects.FitLaws.{length_given}
 use Rattle.service_laws.proofs.StayLaws.{AllStay, same_id, there_at}
 use Rattle.service_laws.proofs.TableLaws.{Lasts, due_lasts, lasts_both, legal_lasts, part_stays}
 use Rattle.service_laws.proofs.StepLaws.{never_repeated}

@@ -13,26 +13,26 @@ use Rattle.artifacts.specs.Requests.{artifact_of}
 use Rattle.call_forms.specs.declared.asked.Asked.{Asked}
 use Rattle.call_forms.specs.declared.forms.Answer.{Answer}
 use Rattle.call_forms.specs.declared.forms.Told.{Told}
-use Rattle.message_forms.specs.declared.requests.Request.{Request}
-use Rattle.message_forms.specs.declared.requests.Request.TheVariants as asks
-use Rattle.message_forms.proofs.FormLaws.{asked_is_of_form}
-use Rattle.message_forms.specs.Forms.{IsOfForm}
-use Rattle.request_demands.specs.Demands.{demand_of}
-use Rattle.request_demands.specs.Numbered.{kept_for}
-use Rattle.request_demands.specs.Order.{IsUnbroken}
-use Rattle.request_demands.specs.Settings.{Settings, caller_name}
-use Rattle.request_demands.proofs.AloneFacts.{one_request}
-use Rattle.request_rules.specs.Broken.{NotFound}
-use Rattle.request_rules.specs.Named.{artifact_held, is_keyed, place_named, place_of_artifact}
-use Rattle.request_rules.proofs.ArtifactPlaces.{keys_decided}
-use Rattle.request_rules.proofs.KeyPlaces.{place_found}
-use Rattle.request_rules.proofs.PlaceLaws.{placed}
+use Rattle.service_core.specs.MessageForms.declared.requests.Request.{Request}
+use Rattle.service_core.specs.MessageForms.declared.requests.Request.TheVariants as asks
+use Rattle.service_core.proofs.MessageForms.FormLaws.{asked_is_of_form}
+use Rattle.service_core.specs.MessageForms.Forms.{IsOfForm}
+use Rattle.service_core.specs.RequestDemands.Demands.{demand_of}
+use Rattle.service_core.specs.RequestDemands.Numbered.{kept_for}
+use Rattle.service_core.specs.RequestDemands.Order.{IsUnbroken}
+use Rattle.service_core.specs.RequestDemands.Settings.{Settings, caller_name}
+use Rattle.service_core.proofs.RequestDemands.AloneFacts.{one_request}
+use Rattle.service_core.specs.RequestRules.Broken.{NotFound}
+use Rattle.service_core.specs.RequestRules.Named.{artifact_held, is_keyed, place_named, place_of_artifact}
+use Rattle.service_core.proofs.RequestRules.ArtifactPlaces.{keys_decided}
+use Rattle.service_core.proofs.RequestRules.KeyPlaces.{place_found}
+use Rattle.service_core.proofs.RequestRules.PlaceLaws.{placed}
 use Rattle.service_effects.specs.Effects.{Makes}
 use Rattle.service_effects.specs.Service.{Recorded, ServiceWorld, recorded}
-use Rattle.request_effects.specs.Answers.{Answers, artifact_answer}
-use Rattle.request_effects.specs.Effects.{artifacts_at, place_of_batch}
-use Rattle.request_effects.specs.Places.{held_in}
-use Rattle.request_effects.specs.Shows.{shows_artifact, shows_of}
+use Rattle.service_core.specs.RequestEffects.Answers.{Answers, artifact_answer}
+use Rattle.service_core.specs.RequestEffects.Effects.{artifacts_at, place_of_batch}
+use Rattle.service_core.specs.RequestEffects.Places.{held_in}
+use Rattle.service_core.specs.RequestEffects.Shows.{shows_artifact, shows_of}
 use Rattle.service_core.specs.History.{Tells}
 use Rattle.service_core.specs.Step.{IsTold, Step, effect_for, performed, refused, repeated, scene_of}
 use Rattle.service_core.proofs.ClearedLaws.{accepted_found}

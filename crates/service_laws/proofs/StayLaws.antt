@@ -16,11 +16,11 @@ use Rattle.invocation_world.specs.Changes.{is_update, updated, with_row_updated}
 use Rattle.invocation_world.proofs.RowFacts.{changed_here, changed_other}
 use Rattle.invocation_world.proofs.SettleFacts.{ended_or_same}
 use Rattle.invocation_world.proofs.ValidFacts.{all_begin}
-use Rattle.request_demands.specs.Settings.{Settings}
-use Rattle.request_rules.specs.Named.{place_named}
-use Rattle.request_rules.proofs.PlaceLaws.{place_holds, placed}
+use Rattle.service_core.specs.RequestDemands.Settings.{Settings}
+use Rattle.service_core.specs.RequestRules.Named.{place_named}
+use Rattle.service_core.proofs.RequestRules.PlaceLaws.{place_holds, placed}
 use Rattle.service_effects.proofs.IdFacts.{id_at}
-use Rattle.request_effects.proofs.PlaceFacts.{row_placed}
+use Rattle.service_core.proofs.RequestEffects.PlaceFacts.{row_placed}
 use Rattle.service_effects.specs.declared.effect.Effect.{Effect}
 use Rattle.service_effects.specs.declared.effect.Effect.TheVariants as does
 use Rattle.service_effects.specs.Effects.{Does, with_effect}

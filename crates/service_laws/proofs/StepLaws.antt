@@ -3,22 +3,22 @@ use Rattle.std.proofs.Common.{◌≡◌, ℕ, ℤ, Option, Some, None, inl, inr,
 use Rattle.call_forms.specs.declared.asked.Asked.{Asked}
 use Rattle.call_forms.specs.declared.forms.Answer.{Answer}
 use Rattle.call_forms.specs.Rules.{refusal_answer}
-use Rattle.message_forms.specs.declared.requests.Request.{Request}
-use Rattle.request_demands.specs.Settings.{Settings}
+use Rattle.service_core.specs.MessageForms.declared.requests.Request.{Request}
+use Rattle.service_core.specs.RequestDemands.Settings.{Settings}
 use Rattle.call_forms.specs.declared.forms.Refusal.{Refusal}
-use Rattle.request_demands.specs.Demands.{demand_of}
+use Rattle.service_core.specs.RequestDemands.Demands.{demand_of}
 use Rattle.kept_replies.specs.declared.reply.KeptReply.{KeptReply}
-use Rattle.request_rules.specs.Broken.{IsBroken, order}
-use Rattle.request_demands.specs.Alone.{Wants}
-use Rattle.request_demands.proofs.Judged.{one_judged as one_told}
-use Rattle.request_demands.proofs.ReadLaws.{wanted_alone}
-use Rattle.request_demands.proofs.AloneFacts.{one_caller, one_refused_alone, one_request}
-use Rattle.request_rules.proofs.RuleFacts.{one_broken}
+use Rattle.service_core.specs.RequestRules.Broken.{IsBroken, order}
+use Rattle.service_core.specs.RequestDemands.Alone.{Wants}
+use Rattle.service_core.proofs.RequestDemands.Judged.{one_judged as one_told}
+use Rattle.service_core.proofs.RequestDemands.ReadLaws.{wanted_alone}
+use Rattle.service_core.proofs.RequestDemands.AloneFacts.{one_caller, one_refused_alone, one_request}
+use Rattle.service_core.proofs.RequestRules.RuleFacts.{one_broken}
 use Rattle.service_effects.specs.Effects.{with_effect}
-use Rattle.request_effects.specs.Keeps.{kept_answer}
-use Rattle.request_effects.specs.Answers.{Answers}
-use Rattle.request_effects.specs.Shows.{shows_of}
-use Rattle.request_effects.proofs.AnswerLaws.{one_answer}
+use Rattle.service_core.specs.RequestEffects.Keeps.{kept_answer}
+use Rattle.service_core.specs.RequestEffects.Answers.{Answers}
+use Rattle.service_core.specs.RequestEffects.Shows.{shows_of}
+use Rattle.service_core.proofs.RequestEffects.AnswerLaws.{one_answer}
 use Rattle.service_effects.proofs.EffectLaws.{one_settling}
 use Rattle.service_effects.proofs.StoringLaws.{one_doing}
 use Rattle.service_effects.specs.Service.{ServiceWorld, recorded}

@@ -4,12 +4,12 @@ use Rattle.std.proofs.lemmas.List.{append-nil, drop-append-le, length-drop, take
 use Rattle.artifacts.specs.declared.artifact.Artifact.{Artifact}
 use Rattle.test_results.specs.declared.exoneration.TestExoneration.{TestExoneration}
 use Rattle.test_results.specs.declared.result.TestResult.{TestResult}
-use Rattle.request_demands.specs.Settings.{Settings}
+use Rattle.service_core.specs.RequestDemands.Settings.{Settings}
 use Rattle.service_effects.specs.declared.effect.Effect.{Effect}
 use Rattle.service_effects.specs.declared.effect.Effect.TheVariants as does
 use Rattle.service_effects.specs.Effects.{Makes, artifacts_after, exonerations_after, results_after}
 use Rattle.service_effects.specs.Service.{Recorded, ServiceWorld, recorded}
-use Rattle.request_effects.specs.Shows.{part_of}
+use Rattle.service_core.specs.RequestEffects.Shows.{part_of}
 use Rattle.service_core.specs.Service.{CarriesDue}
 use Rattle.service_core.specs.History.{Entry, IsLegal, Leads}
 use Rattle.service_laws.specs.Laws.{ArtifactsStay, ExonerationsStay, ResultsStay}

@@ -3,20 +3,20 @@ use Rattle.std.proofs.Common.{ℕ, ◌+◌, ℤ, Option, Some, None, inl, inr, r
 use Rattle.call_forms.specs.declared.asked.Asked.{Asked}
 use Rattle.call_forms.specs.declared.forms.Refusal.{Refusal}
 use Rattle.call_forms.specs.Rules.{refusal_answer}
-use Rattle.message_forms.specs.declared.requests.Request.{Request}
+use Rattle.service_core.specs.MessageForms.declared.requests.Request.{Request}
 use Rattle.invocation_world.proofs.ExistFacts.{advance_there, settling_there}
-use Rattle.request_demands.specs.Settings.{Settings}
-use Rattle.request_demands.specs.Order.{IsUnbroken}
+use Rattle.service_core.specs.RequestDemands.Settings.{Settings}
+use Rattle.service_core.specs.RequestDemands.Order.{IsUnbroken}
 use Rattle.kept_replies.specs.declared.reply.KeptReply.{KeptReply}
-use Rattle.request_demands.specs.Alone.{Wants}
-use Rattle.request_demands.proofs.Said.{said}
+use Rattle.service_core.specs.RequestDemands.Alone.{Wants}
+use Rattle.service_core.proofs.RequestDemands.Said.{said}
 use Rattle.service_effects.specs.declared.effect.Effect.{Effect}
 use Rattle.service_effects.specs.Effects.{artifacts_after, exonerations_after, results_after, with_effect}
 use Rattle.service_effects.specs.Refused.{EffectRefused}
 use Rattle.service_effects.specs.Service.{ServiceWorld, recorded}
-use Rattle.request_effects.specs.Keeps.{kept_answer, with_kept}
-use Rattle.request_effects.specs.Shows.{shows_of}
-use Rattle.request_effects.proofs.AnswerLaws.{answer_there}
+use Rattle.service_core.specs.RequestEffects.Keeps.{kept_answer, with_kept}
+use Rattle.service_core.specs.RequestEffects.Shows.{shows_of}
+use Rattle.service_core.proofs.RequestEffects.AnswerLaws.{answer_there}
 use Rattle.service_effects.specs.Storing.{IsStorable, stored_due}
 use Rattle.service_effects.proofs.RefusedLaws.{refused_or_not}
 use Rattle.service_effects.proofs.StoringLaws.{stored_or_not}

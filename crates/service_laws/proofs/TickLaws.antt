@@ -19,8 +19,8 @@ use Rattle.call_forms.specs.declared.forms.Answer.{Answer}
 use Rattle.call_forms.specs.declared.forms.Standin.TheVariants.{Unavailable, Memory, Spent}
 use Rattle.call_forms.specs.declared.forms.Told.{Told}
 use Rattle.call_forms.specs.declared.forms.Told.TheVariants.{Made, Standin as Instead}
-use Rattle.request_demands.specs.Settings.{Settings}
-use Rattle.request_demands.specs.Understood.{length_for}
+use Rattle.service_core.specs.RequestDemands.Settings.{Settings}
+use Rattle.service_core.specs.RequestDemands.Understood.{length_for}
 use Rattle.service_effects.specs.declared.effect.Effect.{Effect}
 use Rattle.service_effects.specs.declared.effect.Effect.TheVariants as does
 use Rattle.service_effects.specs.Effects.{Makes}

@@ -15,7 +15,7 @@ use Rattle.call_forms.specs.declared.forms.Told.{Told}
 use Rattle.call_forms.specs.declared.forms.Told.TheVariants.{Made, Standin as Instead}
 use Rattle.invocation_world.specs.World.{IsCallMoment}
 use Rattle.invocation_world.specs.World as worlds
-use Rattle.request_demands.specs.Settings.{Settings, HasNames}
+use Rattle.service_core.specs.RequestDemands.Settings.{Settings, HasNames}
 use Rattle.service_effects.specs.declared.effect.Effect.{Effect}
 use Rattle.service_effects.specs.declared.effect.Effect.TheVariants as does
 use Rattle.service_effects.specs.Effects.{artifacts_after}

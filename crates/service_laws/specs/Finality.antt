@@ -8,7 +8,7 @@ use Rattle.call_forms.specs.declared.forms.Told.{Told}
 use Rattle.call_forms.specs.declared.forms.Told.TheVariants.{Made, Standin as Instead}
 use Rattle.invocation_world.specs.World.{World, ReachesActive}
 use Rattle.invocation_world.specs.Advancing.{AreQuiet, IsLeast}
-use Rattle.request_demands.specs.Settings.{Settings}
+use Rattle.service_core.specs.RequestDemands.Settings.{Settings}
 use Rattle.service_effects.specs.Service.{ServiceWorld}
 use Rattle.service_core.specs.History.{Entry, Leads}
 

@@ -11,21 +11,21 @@ use Rattle.test_results.specs.declared.exoneration.TestExoneration.{TestExonerat
 use Rattle.test_results.specs.declared.result.TestResult.{TestResult}
 use Rattle.test_results.specs.Exonerations as exonerations
 use Rattle.test_results.specs.Results as results
-use Rattle.request_demands.specs.Settings.{Settings, HasNames, caller_name}
-use Rattle.request_demands.specs.Demands.{demand_of}
-use Rattle.request_demands.specs.Numbered.{digest_of}
-use Rattle.request_demands.specs.Alone.{Wants}
-use Rattle.request_rules.specs.Named.{place_named}
+use Rattle.service_core.specs.RequestDemands.Settings.{Settings, HasNames, caller_name}
+use Rattle.service_core.specs.RequestDemands.Demands.{demand_of}
+use Rattle.service_core.specs.RequestDemands.Numbered.{digest_of}
+use Rattle.service_core.specs.RequestDemands.Alone.{Wants}
+use Rattle.service_core.specs.RequestRules.Named.{place_named}
 use Rattle.service_effects.specs.declared.effect.Effect.{Effect}
 use Rattle.service_effects.specs.declared.effect.Effect.TheVariants as does
 use Rattle.service_effects.specs.Effects.{Does}
 use Rattle.service_effects.specs.Fitting.{IsTimely}
-use Rattle.request_effects.specs.Keeps.{kept_answer}
+use Rattle.service_core.specs.RequestEffects.Keeps.{kept_answer}
 use Rattle.service_effects.specs.Service.{ServiceWorld, empty_service}
 use Rattle.call_forms.specs.declared.forms.Told.TheVariants.{Made}
 use Rattle.kept_replies.specs.declared.reply.KeptReply.{KeptReply}
 use Rattle.kept_replies.specs.Kept.{IsFor}
-use Rattle.message_forms.specs.declared.requests.Request.{Request}
+use Rattle.service_core.specs.MessageForms.declared.requests.Request.{Request}
 use Rattle.invocation_world.specs.World.{World}
 use Rattle.invocation_world.specs.World as worlds
 use Rattle.invocation_world.specs.Laws.{KeepsFinal}

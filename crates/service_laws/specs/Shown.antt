@@ -1,7 +1,7 @@
 -- Artifacts as they are shown once they are recorded.
 use Rattle.std.specs.Prelude.{◌≡◌, ◌⊎◌, ℕ, ℤ, List, Contains, None}
-use Rattle.artifact_forms.specs.declared.batches.BatchCreateArtifacts.{BatchCreateArtifacts}
-use Rattle.artifact_forms.specs.declared.named.GetArtifact.{GetArtifact}
+use Rattle.service_core.specs.ArtifactForms.declared.batches.BatchCreateArtifacts.{BatchCreateArtifacts}
+use Rattle.service_core.specs.ArtifactForms.declared.named.GetArtifact.{GetArtifact}
 use Rattle.artifacts.specs.declared.new_artifact.NewArtifact.{NewArtifact}
 use Rattle.artifacts.specs.Requests.{artifact_of}
 use Rattle.names_realms.specs.declared.artifact_names.ArtifactName.{ArtifactName}
@@ -10,11 +10,11 @@ use Rattle.call_forms.specs.declared.forms.Answer.{Answer}
 use Rattle.call_forms.specs.declared.forms.Refusal.{Refusal}
 use Rattle.call_forms.specs.declared.forms.Told.TheVariants.{Made}
 use Rattle.call_forms.specs.Rules.{refusal_answer}
-use Rattle.message_forms.specs.declared.replies.Reply.TheVariants as reply
-use Rattle.message_forms.specs.declared.requests.Request.TheVariants as asks
-use Rattle.request_demands.specs.Alone.{Wants}
-use Rattle.request_demands.specs.Settings.{HasNames, Settings}
-use Rattle.request_effects.specs.Shows.{done}
+use Rattle.service_core.specs.MessageForms.declared.replies.Reply.TheVariants as reply
+use Rattle.service_core.specs.MessageForms.declared.requests.Request.TheVariants as asks
+use Rattle.service_core.specs.RequestDemands.Alone.{Wants}
+use Rattle.service_core.specs.RequestDemands.Settings.{HasNames, Settings}
+use Rattle.service_core.specs.RequestEffects.Shows.{done}
 use Rattle.service_effects.specs.Service.{ServiceWorld}
 use Rattle.service_core.specs.History.{Entry, IsLegal, Leads}
 use Rattle.service_core.specs.Step.{Performs}

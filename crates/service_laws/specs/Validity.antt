@@ -12,7 +12,7 @@ use Rattle.test_results.specs.Exonerations as exonerations
 use Rattle.test_results.specs.Results as results
 use Rattle.service_effects.specs.Fitting.{holder_in}
 use Rattle.service_effects.specs.Service.{IsSound, Recorded, ServiceWorld, recorded}
-use Rattle.request_effects.specs.Shows.{part_of}
+use Rattle.service_core.specs.RequestEffects.Shows.{part_of}
 
 -- So many rows from a place on, at least one, are there, one behind the other, and all of one
 -- holder.

@@ -1,2 +1,3 @@
+pub use Rattle.service_replay.proofs.ServiceCore
 pub mod MachineLaws
 pub mod PlanFacts

@@ -1,7 +1,7 @@
 -- The command of a plan leads to the world that the plan makes.
 use Rattle.std.proofs.Common.{subst}
-use Rattle.service_core.specs.CoreState.{world_in}
-use Rattle.service_core.specs.Plans.{Carries}
+use Rattle.service_replay.specs.ServiceCore.CoreState.{world_in}
+use Rattle.service_replay.specs.ServiceCore.Plans.{Carries}
 use Rattle.service_replay.proofs.ReplayLaws.{one_replay}
 use Rattle.service_machine.specs.Leading.{carries_there, one_way}
 use Rattle.service_machine.specs.Laws.{ReplayedIsCarried, ReplaysAreAlone}

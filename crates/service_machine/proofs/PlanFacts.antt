@@ -7,21 +7,21 @@ use Rattle.recorded_calls.specs.declared.command.CallKind.{CallKind}
 use Rattle.invocation_world.specs.Advancing.{IsDueAt}
 use Rattle.invocation_world.specs.World.{IsCallMoment}
 use Rattle.recorded_calls.specs.Commands.{command_bytes, ticked}
-use Rattle.request_demands.specs.Settings.{HasNames, Settings, caller_name}
-use Rattle.service_effects.specs.declared.effect.Effect.TheVariants as does
-use Rattle.service_effects.specs.Fitting.{IsTimely}
-use Rattle.service_effects.specs.Service.{ServiceWorld, recorded}
-use Rattle.service_effects.proofs.EffectLaws.{effects_change}
-use Rattle.service_core.specs.declared.plan.Work.TheVariants.{Tick}
-use Rattle.service_core.specs.CoreState.{CoreState, PlanState, world_in}
-use Rattle.service_core.specs.Plans.{Carries, Fits, IsPlanOf}
+use Rattle.service_replay.specs.RequestDemands.Settings.{HasNames, Settings, caller_name}
+use Rattle.service_replay.specs.ServiceEffects.declared.effect.Effect.TheVariants as does
+use Rattle.service_replay.specs.ServiceEffects.Fitting.{IsTimely}
+use Rattle.service_replay.specs.ServiceEffects.Service.{ServiceWorld, recorded}
+use Rattle.service_replay.proofs.ServiceEffects.EffectLaws.{effects_change}
+use Rattle.service_replay.specs.ServiceCore.declared.plan.Work.TheVariants.{Tick}
+use Rattle.service_replay.specs.ServiceCore.CoreState.{CoreState, PlanState, world_in}
+use Rattle.service_replay.specs.ServiceCore.Plans.{Carries, Fits, IsPlanOf}
 use Rattle.service_replay.specs.Replay.{IsKindOf, IsRecorded, Replays, command_of}
-use Rattle.service_core.specs.Step.{effect_for}
-use Rattle.service_core.proofs.ClearedLaws.{accepted_suits}
-use Rattle.service_core.proofs.PlanLaws.{kept_same, stored_same}
+use Rattle.service_replay.specs.ServiceCore.Step.{effect_for}
+use Rattle.service_replay.proofs.ServiceCore.ClearedLaws.{accepted_suits}
+use Rattle.service_replay.proofs.ServiceCore.PlanLaws.{kept_same, stored_same}
 use Rattle.service_replay.proofs.ReplayLaws.{kind_is_there, recorded_is_replayed, tick_is_replayed}
-use Rattle.service_core.proofs.ServeLaws.{ticked as ticked_so}
-use Rattle.service_effects.proofs.RoomLaws.{same_parts}
+use Rattle.service_replay.proofs.ServiceCore.ServeLaws.{ticked as ticked_so}
+use Rattle.service_replay.proofs.ServiceEffects.RoomLaws.{same_parts}
 use Rattle.service_machine.specs.Machines.{IsCommandOf, IsFit}
 use Rattle.service_machine.specs.Leading.{carries_there}
 use Rattle.service_machine.proofs.MachineLaws.{replays_are_alone}

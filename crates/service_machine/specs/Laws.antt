@@ -1,8 +1,8 @@
 -- Laws of plans with their commands.
 use Rattle.std.specs.Prelude.{ℕ, List}
-use Rattle.service_effects.specs.Service.{ServiceWorld}
-use Rattle.service_core.specs.CoreState.{CoreState, world_in}
-use Rattle.service_core.specs.Plans.{Carries}
+use Rattle.service_replay.specs.ServiceEffects.Service.{ServiceWorld}
+use Rattle.service_replay.specs.ServiceCore.CoreState.{CoreState, world_in}
+use Rattle.service_replay.specs.ServiceCore.Plans.{Carries}
 use Rattle.service_replay.specs.Replay.{Replays}
 use Rattle.service_machine.specs.Machines.{IsFit, Plays, RecordedState}
 

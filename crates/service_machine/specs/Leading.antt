@@ -2,14 +2,14 @@
 -- machine asks for.
 use Rattle.std.proofs.Common.{◌≡◌, ℕ, ◌+◌, List, refl}
 use Rattle.invocation_world.proofs.ExistFacts.{advance_there, settling_there}
-use Rattle.service_effects.specs.Effects.{artifacts_after, exonerations_after, results_after}
-use Rattle.service_effects.specs.Effects.{with_effect}
-use Rattle.service_effects.specs.Service.{Recorded, ServiceWorld, recorded}
-use Rattle.request_effects.specs.Keeps.{with_kept}
-use Rattle.service_core.specs.declared.plan.Work.{Work}
-use Rattle.service_core.specs.declared.plan.Work.TheVariants as work
-use Rattle.service_core.specs.CoreState.{CoreState, PlanState, world_in}
-use Rattle.service_core.specs.Plans.{Carries, Works}
+use Rattle.service_replay.specs.ServiceEffects.Effects.{artifacts_after, exonerations_after, results_after}
+use Rattle.service_replay.specs.ServiceEffects.Effects.{with_effect}
+use Rattle.service_replay.specs.ServiceEffects.Service.{Recorded, ServiceWorld, recorded}
+use Rattle.service_replay.specs.RequestEffects.Keeps.{with_kept}
+use Rattle.service_replay.specs.ServiceCore.declared.plan.Work.{Work}
+use Rattle.service_replay.specs.ServiceCore.declared.plan.Work.TheVariants as work
+use Rattle.service_replay.specs.ServiceCore.CoreState.{CoreState, PlanState, world_in}
+use Rattle.service_replay.specs.ServiceCore.Plans.{Carries, Works}
 use Rattle.service_machine.specs.Machines.{IsFit, Plays, RecordedState}
 
 pub works_there : (w : Recorded) (x : Work) → (after : Recorded) × Works w x after

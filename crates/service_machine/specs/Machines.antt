@@ -3,10 +3,10 @@ use Rattle.std.specs.Prelude.{◌≡◌, ℕ, ◌^◌, ◌<◌, ℤ, List, Some,
 use Rattle.result_journal.specs.Grammar.{IsBody}
 use Rattle.call_forms.specs.declared.asked.Asked.{Asked}
 use Rattle.recorded_calls.specs.declared.command.CallKind.{CallKind}
-use Rattle.request_demands.specs.Settings.{Settings, caller_name, caller_of}
-use Rattle.service_effects.specs.Service.{ServiceWorld}
-use Rattle.service_core.specs.CoreState.{CoreState, PlanState, world_in}
-use Rattle.service_core.specs.Plans.{Carries, Fits}
+use Rattle.service_replay.specs.RequestDemands.Settings.{Settings, caller_name, caller_of}
+use Rattle.service_replay.specs.ServiceEffects.Service.{ServiceWorld}
+use Rattle.service_replay.specs.ServiceCore.CoreState.{CoreState, PlanState, world_in}
+use Rattle.service_replay.specs.ServiceCore.Plans.{Carries, Fits}
 use Rattle.service_replay.specs.Replay.{IsKindOf, Replays, command_of}
 
 -- A plan, and its command.

@@ -8,3 +8,4 @@ mod plans;
 
 pub use machine::ServiceMachine;
 pub use plans::{PlanFault, RecordedPlan, Wanted};
+pub use service_replay::{request_demands, service_core};

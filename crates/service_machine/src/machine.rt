@@ -2,7 +2,7 @@
 use crate::plans::RecordedPlan;
 use call_forms::Answer;
 use journal_book::{Machine, ReplayFault};
-use service_core::Core;
+use service_replay::service_core::Core;
 use service_replay::{ReplayFault as Fault, replay};
 use std::alloc::Global;
 
@@ -15,8 +15,8 @@ pub struct ServiceMachine {
 
 impl Machine for ServiceMachine {
     ghost use Rattle.std.specs.Prelude.{◌≡◌};
-    ghost use Rattle.service_effects.specs.Service.{ServiceWorld};
-    ghost use Rattle.service_core.specs.CoreState.{world_in};
+    ghost use Rattle.service_replay.specs.ServiceEffects.Service.{ServiceWorld};
+    ghost use Rattle.service_replay.specs.ServiceCore.CoreState.{world_in};
     ghost use Rattle.service_machine.specs.Machines.{IsFit, Plays};
     ghost use Rattle.service_machine.specs.Leading.{led, one_way};
 

@@ -5,28 +5,28 @@ use Rattle.std.proofs.lemmas.Option.{none-some}
 use Rattle.kept_replies.specs.declared.reply.KeptReply.{KeptReply}
 use Rattle.kept_replies.specs.Kept.{KeptState}
 use Rattle.call_forms.specs.declared.asked.Asked.{Asked}
-use Rattle.message_forms.specs.declared.requests.Method.{Method}
-use Rattle.message_forms.specs.declared.requests.Request.{Request}
-use Rattle.message_forms.specs.Methods.{name_of, service_of}
-use Rattle.message_forms.specs.Reading.{Asks}
-use Rattle.message_forms.proofs.FormLaws.{asked_is_of_form}
+use Rattle.service_core.specs.MessageForms.declared.requests.Method.{Method}
+use Rattle.service_core.specs.MessageForms.declared.requests.Request.{Request}
+use Rattle.service_core.specs.MessageForms.Methods.{name_of, service_of}
+use Rattle.service_core.specs.MessageForms.Reading.{Asks}
+use Rattle.service_core.proofs.MessageForms.FormLaws.{asked_is_of_form}
 use Rattle.recorded_calls.specs.Commands.{CallSaid, IsCallSayable}
-use Rattle.invocation_world.specs.World.{World}
-use Rattle.request_demands.specs.declared.numbers.NumberCheck.{NumberCheck}
-use Rattle.request_demands.specs.declared.numbers.NumberCheck.TheVariants.{New, Repeat, Reused}
-use Rattle.request_rules.specs.Again.{IsRight, IsUnused}
-use Rattle.request_rules.specs.Held.{Held}
-use Rattle.request_demands.specs.Numbered.{asked_again}
-use Rattle.request_demands.specs.Demands.{Demand, demand_of}
-use Rattle.request_demands.specs.Numbered.{IsNumbered}
-use Rattle.request_demands.proofs.NumberLaws.{number_is_word}
+use Rattle.service_core.specs.InvocationWorld.World.{World}
+use Rattle.service_core.specs.RequestDemands.declared.numbers.NumberCheck.{NumberCheck}
+use Rattle.service_core.specs.RequestDemands.declared.numbers.NumberCheck.TheVariants.{New, Repeat, Reused}
+use Rattle.service_core.specs.RequestRules.Again.{IsRight, IsUnused}
+use Rattle.service_core.specs.RequestRules.Held.{Held}
+use Rattle.service_core.specs.RequestDemands.Numbered.{asked_again}
+use Rattle.service_core.specs.RequestDemands.Demands.{Demand, demand_of}
+use Rattle.service_core.specs.RequestDemands.Numbered.{IsNumbered}
+use Rattle.service_core.proofs.RequestDemands.NumberLaws.{number_is_word}
 use Rattle.service_effects.specs.Refused.{IsUnrefused}
 use Rattle.service_effects.specs.Service.{ServiceWorld, recorded}
-use Rattle.request_effects.specs.declared.keeping.Numbered.{Numbered}
-use Rattle.request_effects.specs.Keeps.{kept_of, numbered_of, with_kept}
-use Rattle.request_effects.specs.Places.{held_in}
-use Rattle.request_effects.specs.Planned.{IsSafe}
-use Rattle.request_effects.proofs.KeepLaws.{numbered_is}
+use Rattle.service_core.specs.RequestEffects.declared.keeping.Numbered.{Numbered}
+use Rattle.service_core.specs.RequestEffects.Keeps.{kept_of, numbered_of, with_kept}
+use Rattle.service_core.specs.RequestEffects.Places.{held_in}
+use Rattle.service_core.specs.RequestEffects.Planned.{IsSafe}
+use Rattle.service_core.proofs.RequestEffects.KeepLaws.{numbered_is}
 use Rattle.service_replay.specs.declared.replaying.ReplayFault.{ReplayFault}
 use Rattle.service_replay.specs.declared.replaying.ReplayFault.TheVariants.{OutOfPlace, Memory}
 use Rattle.service_core.specs.Again.{Again, IsFreeFor, IsPreparedAgain, again_of}

@@ -9,29 +9,29 @@ use Rattle.kept_replies.specs.declared.reply.KeptReply.{KeptReply}
 use Rattle.kept_replies.specs.Kept.{IsFree, place_for}
 use Rattle.kept_replies.proofs.FirstLemmas.{none_is_free, place_holds_for}
 use Rattle.call_forms.specs.declared.asked.Asked.{Asked}
-use Rattle.message_forms.specs.declared.requests.Method.{Method}
-use Rattle.message_forms.specs.declared.requests.Request.{Request}
-use Rattle.message_forms.specs.declared.requests.Request.TheVariants as asks
-use Rattle.message_forms.specs.Methods.{every_method, is_called, method_asked, method_of, name_of, service_of}
-use Rattle.message_forms.specs.Reading.{Asks}
-use Rattle.message_forms.proofs.MethodLaws.{method_named}
-use Rattle.message_forms.proofs.RequestLaws.{one_request_asked}
+use Rattle.service_core.specs.MessageForms.declared.requests.Method.{Method}
+use Rattle.service_core.specs.MessageForms.declared.requests.Request.{Request}
+use Rattle.service_core.specs.MessageForms.declared.requests.Request.TheVariants as asks
+use Rattle.service_core.specs.MessageForms.Methods.{every_method, is_called, method_asked, method_of, name_of, service_of}
+use Rattle.service_core.specs.MessageForms.Reading.{Asks}
+use Rattle.service_core.proofs.MessageForms.MethodLaws.{method_named}
+use Rattle.service_core.proofs.MessageForms.RequestLaws.{one_request_asked}
 use Rattle.recorded_calls.specs.declared.command.CallKind.{CallKind}
 use Rattle.recorded_calls.specs.declared.command.CallKind.TheVariants as kind
 use Rattle.recorded_calls.specs.Commands.{CallSaid, Said, called, ticked}
 use Rattle.recorded_calls.proofs.CommandLaws.{one_command}
-use Rattle.request_rules.specs.declared.rules.Rule.TheVariants as rule
-use Rattle.request_rules.specs.Again.{IsRight, IsUnused}
-use Rattle.request_demands.specs.Numbered.{asked_again}
-use Rattle.request_rules.specs.Broken.{IsBroken, RequestIdReused, order}
-use Rattle.request_demands.specs.Demands.{Demand, demand_of}
-use Rattle.request_demands.specs.Numbered.{IsRepeatOf, digest_of, kept_for}
-use Rattle.request_demands.specs.Order.{IsUnbroken}
-use Rattle.request_demands.specs.Settings.{HasNames, Settings, caller_name}
-use Rattle.request_demands.proofs.Judged.{IsAmong, unbroken_each}
-use Rattle.request_demands.proofs.NumberLaws.{kept_there, unnumbered}
-use Rattle.request_rules.proofs.ReuseLaws.{found_digest}
-use Rattle.request_demands.proofs.PolicyLaws.{caller_is_there, name_is}
+use Rattle.service_core.specs.RequestRules.declared.rules.Rule.TheVariants as rule
+use Rattle.service_core.specs.RequestRules.Again.{IsRight, IsUnused}
+use Rattle.service_core.specs.RequestDemands.Numbered.{asked_again}
+use Rattle.service_core.specs.RequestRules.Broken.{IsBroken, RequestIdReused, order}
+use Rattle.service_core.specs.RequestDemands.Demands.{Demand, demand_of}
+use Rattle.service_core.specs.RequestDemands.Numbered.{IsRepeatOf, digest_of, kept_for}
+use Rattle.service_core.specs.RequestDemands.Order.{IsUnbroken}
+use Rattle.service_core.specs.RequestDemands.Settings.{HasNames, Settings, caller_name}
+use Rattle.service_core.proofs.RequestDemands.Judged.{IsAmong, unbroken_each}
+use Rattle.service_core.proofs.RequestDemands.NumberLaws.{kept_there, unnumbered}
+use Rattle.service_core.proofs.RequestRules.ReuseLaws.{found_digest}
+use Rattle.service_core.proofs.RequestDemands.PolicyLaws.{caller_is_there, name_is}
 use Rattle.service_effects.specs.declared.effect.Effect.TheVariants as does
 use Rattle.service_effects.specs.Effects.{with_effect}
 use Rattle.service_effects.specs.Fitting.{IsTimely}
@@ -39,11 +39,11 @@ use Rattle.service_effects.specs.Service.{Recorded, ServiceWorld, recorded}
 use Rattle.service_effects.specs.Storing.{IsStorable}
 use Rattle.service_effects.proofs.EffectLaws.{one_settling}
 use Rattle.service_effects.proofs.StoringLaws.{bytes_of_change}
-use Rattle.request_demands.specs.Understood.{length_for}
-use Rattle.request_effects.specs.declared.keeping.Numbered.{Numbered}
-use Rattle.request_effects.specs.Effects.{effect_of}
-use Rattle.request_effects.specs.Keeps.{kept_of, numbered_of, with_kept}
-use Rattle.request_effects.specs.Places.{held_in}
+use Rattle.service_core.specs.RequestDemands.Understood.{length_for}
+use Rattle.service_core.specs.RequestEffects.declared.keeping.Numbered.{Numbered}
+use Rattle.service_core.specs.RequestEffects.Effects.{effect_of}
+use Rattle.service_core.specs.RequestEffects.Keeps.{kept_of, numbered_of, with_kept}
+use Rattle.service_core.specs.RequestEffects.Places.{held_in}
 use Rattle.service_core.specs.Step.{Acts, IsAccepted, bytes_for, case_in, effect_for, keep_for}
 use Rattle.service_replay.specs.Replay.{ActsAgain, IsKindOf, RecordedIsReplayed, Replays, ReplaysAreUnique, ReplaysCall, ReplaysSaid, TickIsReplayed, command_of, effect_again, keep_again, length_again, recorded_method}
 use Rattle.service_core.proofs.ClearedLaws.{IsCleared, accepted_found, safe, unused}

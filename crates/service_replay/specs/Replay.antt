@@ -2,20 +2,20 @@
 use Rattle.std.specs.Prelude.{⊤, ◌≡◌, ◌≢◌, ℕ, ◌+◌, ◌^◌, ◌<◌, ℤ, ◌≤ℤ◌, List, Option, Some, Result, Ok, Err, length}
 use Rattle.kept_replies.specs.declared.reply.KeptReply.{KeptReply}
 use Rattle.call_forms.specs.declared.asked.Asked.{Asked}
-use Rattle.message_forms.specs.declared.requests.Method.{Method}
-use Rattle.message_forms.specs.declared.requests.Method.TheVariants as method
-use Rattle.message_forms.specs.declared.requests.Request.{Request}
-use Rattle.message_forms.specs.Methods.{method_of, name_of, service_of}
-use Rattle.message_forms.specs.Reading.{Asks}
+use Rattle.service_core.specs.MessageForms.declared.requests.Method.{Method}
+use Rattle.service_core.specs.MessageForms.declared.requests.Method.TheVariants as method
+use Rattle.service_core.specs.MessageForms.declared.requests.Request.{Request}
+use Rattle.service_core.specs.MessageForms.Methods.{method_of, name_of, service_of}
+use Rattle.service_core.specs.MessageForms.Reading.{Asks}
 use Rattle.recorded_calls.specs.declared.command.CallKind.{CallKind}
 use Rattle.recorded_calls.specs.declared.command.CallKind.TheVariants as kind
 use Rattle.recorded_calls.specs.Commands.{CallSaid, IsCommand, Said, called, command_bytes, record_length, ticked}
-use Rattle.invocation_world.specs.Advancing.{IsDueAt, IsQuiet}
-use Rattle.invocation_world.specs.World.{IsCallMoment}
-use Rattle.request_rules.specs.Again.{IsRight, IsUnused}
-use Rattle.request_demands.specs.Numbered.{asked_again}
-use Rattle.request_demands.specs.Demands.{demand_of}
-use Rattle.request_demands.specs.Settings.{HasNames, Settings, caller_name}
+use Rattle.service_core.specs.InvocationWorld.Advancing.{IsDueAt, IsQuiet}
+use Rattle.service_core.specs.InvocationWorld.World.{IsCallMoment}
+use Rattle.service_core.specs.RequestRules.Again.{IsRight, IsUnused}
+use Rattle.service_core.specs.RequestDemands.Numbered.{asked_again}
+use Rattle.service_core.specs.RequestDemands.Demands.{demand_of}
+use Rattle.service_core.specs.RequestDemands.Settings.{HasNames, Settings, caller_name}
 use Rattle.service_effects.specs.declared.effect.Effect.{Effect}
 use Rattle.service_effects.specs.declared.effect.Effect.TheVariants as does
 use Rattle.service_effects.specs.Effects.{Makes}
@@ -23,9 +23,9 @@ use Rattle.service_effects.specs.Fitting.{IsTimely}
 use Rattle.service_effects.specs.Refused.{IsUnrefused}
 use Rattle.service_effects.specs.Service.{ServiceWorld, recorded}
 use Rattle.service_effects.specs.Storing.{IsStorable}
-use Rattle.request_effects.specs.Effects.{effect_of}
-use Rattle.request_effects.specs.Keeps.{kept_of, numbered_of, with_kept}
-use Rattle.request_effects.specs.Places.{held_in}
+use Rattle.service_core.specs.RequestEffects.Effects.{effect_of}
+use Rattle.service_core.specs.RequestEffects.Keeps.{kept_of, numbered_of, with_kept}
+use Rattle.service_core.specs.RequestEffects.Places.{held_in}
 use Rattle.service_replay.specs.declared.replaying.ReplayFault.{ReplayFault}
 use Rattle.service_replay.specs.declared.replaying.ReplayFault.TheVariants.{OutOfPlace, Memory}
 use Rattle.service_core.specs.Service.{CatchesUp}

@@ -1,17 +1,17 @@
 -- The code's own words: what a recorded request is planned to.
 use Rattle.std.specs.Prelude.{◌≡◌, ◌≢◌, ℕ, ◌+◌, ℤ, List}
-use Rattle.message_forms.specs.declared.requests.Request.{Request}
-use Rattle.request_demands.specs.Demands.{demand_of}
-use Rattle.request_rules.specs.Again.{IsRight}
+use Rattle.service_core.specs.MessageForms.declared.requests.Request.{Request}
+use Rattle.service_core.specs.RequestDemands.Demands.{demand_of}
+use Rattle.service_core.specs.RequestRules.Again.{IsRight}
 use Rattle.service_effects.specs.declared.effect.Effect.{Effect}
 use Rattle.service_effects.specs.declared.effect.Effect.TheVariants as does
 use Rattle.service_effects.specs.Effects.{Makes}
 use Rattle.service_effects.specs.Refused.{IsUnrefused}
 use Rattle.service_effects.specs.Service.{ServiceWorld, recorded}
 use Rattle.service_effects.specs.Storing.{IsStorable}
-use Rattle.request_effects.specs.Effects.{effect_of}
-use Rattle.request_effects.specs.Keeps.{kept_of, with_kept}
-use Rattle.request_effects.specs.Places.{held_in}
+use Rattle.service_core.specs.RequestEffects.Effects.{effect_of}
+use Rattle.service_core.specs.RequestEffects.Keeps.{kept_of, with_kept}
+use Rattle.service_core.specs.RequestEffects.Places.{held_in}
 use Rattle.service_core.specs.declared.plan.CallRecord.{CallRecord}
 
 -- A request breaks none of the rules that are asked again, at a moment.

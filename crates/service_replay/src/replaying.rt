@@ -1,15 +1,15 @@
 //! Recorded commands, made again. No policy is asked: a command was allowed when it was recorded.
 ghost use Rattle.std.specs.Prelude.{◌≡◌, ◌≢◌, ◌<◌, ◌≤ℤ◌, IfOk, OnOk, Some, Err, MatchBool, MatchOption};
-ghost use Rattle.invocation_world.specs.World.{IsCallMoment};
-ghost use Rattle.message_forms.specs.Methods.{name_of, service_of};
-ghost use Rattle.message_forms.specs.Reading.{Asks};
+ghost use Rattle.service_core.specs.InvocationWorld.World.{IsCallMoment};
+ghost use Rattle.service_core.specs.MessageForms.Methods.{name_of, service_of};
+ghost use Rattle.service_core.specs.MessageForms.Reading.{Asks};
 ghost use Rattle.recorded_calls.specs.Commands.{IsCallSayable, IsSayable, call_said, said_by};
-ghost use Rattle.request_rules.specs.Again.{IsUnused};
-ghost use Rattle.request_demands.specs.Numbered.{asked_again};
-ghost use Rattle.request_demands.specs.Demands.{demand_of};
-ghost use Rattle.request_effects.specs.Keeps.{numbered_of};
-ghost use Rattle.request_effects.specs.Places.{located_in};
-ghost use Rattle.request_effects.specs.Planned.{IsSafe};
+ghost use Rattle.service_core.specs.RequestRules.Again.{IsUnused};
+ghost use Rattle.service_core.specs.RequestDemands.Numbered.{asked_again};
+ghost use Rattle.service_core.specs.RequestDemands.Demands.{demand_of};
+ghost use Rattle.service_core.specs.RequestEffects.Keeps.{numbered_of};
+ghost use Rattle.service_core.specs.RequestEffects.Places.{located_in};
+ghost use Rattle.service_core.specs.RequestEffects.Planned.{IsSafe};
 ghost use Rattle.service_effects.specs.Fitting.{IsTimely};
 ghost use Rattle.service_effects.specs.States.{recorded_in};
 ghost use Rattle.service_core.specs.Again.{IsFreeFor};
@@ -19,12 +19,12 @@ ghost use Rattle.service_replay.specs.Replay.{ReplaysTick, length_again, recorde
 ghost use Rattle.service_replay.specs.Replaying.{IsActedAgain, IsRightIn};
 
 use call_forms::Asked;
-use message_forms::{FormFault, Method, Request, read_request};
 use names_realms::Moment;
 use recorded_calls::{CallKind, Command, RecordedCall, read_command, record_length};
-use request_demands::{Demand, NumberCheck, check_digest, demand_of, digest_again};
-use request_effects::{Context, Numbered, numbered_in};
-use request_rules::{Located, is_right};
+use service_core::message_forms::{FormFault, Method, Request, read_request};
+use service_core::request_demands::{Demand, NumberCheck, check_digest, demand_of, digest_again};
+use service_core::request_effects::{Context, Numbered, numbered_in};
+use service_core::request_rules::{Located, is_right};
 use service_core::{CallRecord, Core};
 use std::alloc::{AllocError, Global};
 

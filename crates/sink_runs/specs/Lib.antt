@@ -1,3 +1,4 @@
+pub use Rattle.sink_uploads.specs as SinkUploads
 pub mod Texts
 pub mod Configs
 pub mod Reports

@@ -1,7 +1,7 @@
 //! A test exoneration, and a batch of them.
 ghost use Rattle.std.specs.Prelude.{◌≡◌};
 
-use lists::Bytes;
+use names_realms::lists::Bytes;
 use names_realms::{TestId, Variant};
 use std::marker::Model;
 

@@ -1,7 +1,7 @@
 //! A test result, and a batch of them.
 ghost use Rattle.std.specs.Prelude.{◌≡◌};
 
-use lists::{Bytes, Listed};
+use names_realms::lists::{Bytes, Listed};
 use names_realms::{Moment, Pair, ResultId, Span, Status, TestId, Variant};
 use std::marker::Model;
 

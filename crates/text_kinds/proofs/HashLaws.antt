@@ -4,8 +4,8 @@ use Rattle.std.specs.List.{list_all, position, position_or_len}
 use Rattle.std.specs.Option.{option_or}
 use Rattle.std.proofs.lemmas.Bool.{and_from, and_parts, false≢true}
 use Rattle.std.proofs.lemmas.Bool.Decides.{nat_tests}
-use Rattle.name_parts.specs.Parts.{literal_bad_place}
-use Rattle.name_parts.proofs.CutLemmas.{literal_bad_place-None, literal_bad_place-literal}
+use Rattle.json_fields.specs.NameParts.Parts.{literal_bad_place}
+use Rattle.json_fields.proofs.NameParts.CutLemmas.{literal_bad_place-None, literal_bad_place-literal}
 use Rattle.json_fields.specs.declared.whys.Why.TheVariants.{Empty, TooLong, BadByte}
 use Rattle.text_kinds.specs.Hashes.{IsHash, is_lower_hex, digit_place, end_place, hash_why}
 use Rattle.text_kinds.specs.Laws.{OnlyHashesAreRead}

@@ -3,7 +3,7 @@ use Rattle.std.specs.Prelude.{◌≡◌, ℕ, ◌+◌, ◌==◌, ◌&&◌, ◌||
 use Rattle.std.specs.List.{list_all, position}
 use Rattle.std.specs.Option.{option_or}
 use Rattle.std.specs.Char.{is_ascii_digit}
-use Rattle.name_parts.specs.Parts.{literal_bad_place}
+use Rattle.json_fields.specs.NameParts.Parts.{literal_bad_place}
 use Rattle.json_fields.specs.declared.whys.Why.{Why}
 use Rattle.json_fields.specs.declared.whys.Why.TheVariants.{Empty, TooLong, BadByte}
 

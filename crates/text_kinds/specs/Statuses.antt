@@ -1,8 +1,8 @@
 -- How a test ended, by name.
 use Rattle.std.specs.Prelude.{◌≡◌, ℕ, Bool, false, ◌||◌, ◌==◌, if◌then◌else◌, List, [], ◌∷◌, length, codes, bytes_eq, Option, Some, None}
 use Rattle.serde_json.specs.Data.{Data, null, boolean, number, string, array, object}
-use Rattle.names_realms.specs.declared.states.Status.{Status}
-use Rattle.names_realms.specs.declared.states.Status.TheVariants.{Pass, Fail, Crash, Abort, Skip}
+use Rattle.json_fields.specs.NamesRealms.declared.states.Status.{Status}
+use Rattle.json_fields.specs.NamesRealms.declared.states.Status.TheVariants.{Pass, Fail, Crash, Abort, Skip}
 use Rattle.json_fields.specs.Faults.{here}
 use Rattle.json_fields.specs.declared.faults.FieldFault.{FieldFault}
 use Rattle.json_fields.specs.declared.faults.FaultKind.TheVariants.{WrongKind, BadValue}

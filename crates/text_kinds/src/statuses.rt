@@ -3,8 +3,8 @@ ghost use Rattle.std.specs.Prelude.{◌≡◌};
 ghost use Rattle.text_kinds.specs.Statuses.{no_status, status_of, status_name};
 ghost use Rattle.serde_json.specs.View.{view};
 
+use json_fields::names_realms::Status;
 use json_fields::{FaultKind, Form, ReadFault, Why, Written};
-use names_realms::Status;
 use serde_json::Value;
 use std::alloc::{AllocError, Global};
 

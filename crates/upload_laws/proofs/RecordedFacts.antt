@@ -21,25 +21,25 @@ use Rattle.call_forms.specs.declared.forms.Told.TheVariants.{Made, Standin as In
 use Rattle.call_forms.specs.Rules.{Rule, refusal_answer, rule, rule_of, rules}
 use Rattle.call_forms.specs.declared.forms.Refusal.{Refusal}
 use Rattle.invocation_world.specs.World as worlds
-use Rattle.request_rules.specs.Broken.{IsAbsent, NotFound, Sought, invocation_with, of_invocation, sought}
-use Rattle.request_demands.specs.Demands.{Demand, demand_of}
-use Rattle.request_rules.specs.Held.{Held}
-use Rattle.request_rules.specs.Named.{place_named}
-use Rattle.request_demands.specs.Numbered.{digest_of, kept_at}
-use Rattle.request_demands.specs.Order.{FirstOf, IsUnbroken}
-use Rattle.request_demands.specs.Settings.{Settings, caller_name}
-use Rattle.request_rules.proofs.PlaceLaws.{place_holds, placed, slice_get-Contains}
+use Rattle.service_laws.specs.RequestRules.Broken.{IsAbsent, NotFound, Sought, invocation_with, of_invocation, sought}
+use Rattle.service_laws.specs.RequestDemands.Demands.{Demand, demand_of}
+use Rattle.service_laws.specs.RequestRules.Held.{Held}
+use Rattle.service_laws.specs.RequestRules.Named.{place_named}
+use Rattle.service_laws.specs.RequestDemands.Numbered.{digest_of, kept_at}
+use Rattle.service_laws.specs.RequestDemands.Order.{FirstOf, IsUnbroken}
+use Rattle.service_laws.specs.RequestDemands.Settings.{Settings, caller_name}
+use Rattle.service_laws.proofs.RequestRules.PlaceLaws.{place_holds, placed, slice_get-Contains}
 use Rattle.service_effects.specs.declared.effect.Effect.TheVariants as does
 use Rattle.service_effects.specs.Effects.{Makes}
 use Rattle.service_effects.specs.Service.{Recorded, ServiceWorld, recorded}
 use Rattle.service_effects.proofs.IdFacts.{id_at}
-use Rattle.request_effects.specs.Effects.{results_at}
-use Rattle.request_effects.specs.Keeps.{numbered_of, with_kept}
-use Rattle.request_effects.specs.Places.{held_in}
-use Rattle.request_effects.proofs.KeepLaws.{kept_is, numbered_is}
-use Rattle.request_effects.proofs.PlaceFacts.{row_placed}
-use Rattle.service_core.specs.History.{DoesNoMore, Entry, Leads, Tells}
-use Rattle.service_core.specs.Step.{IsTold, Performs, effect_for, keep_for, performed, refused, repeated}
+use Rattle.service_laws.specs.RequestEffects.Effects.{results_at}
+use Rattle.service_laws.specs.RequestEffects.Keeps.{numbered_of, with_kept}
+use Rattle.service_laws.specs.RequestEffects.Places.{held_in}
+use Rattle.service_laws.proofs.RequestEffects.KeepLaws.{kept_is, numbered_is}
+use Rattle.service_laws.proofs.RequestEffects.PlaceFacts.{row_placed}
+use Rattle.service_laws.specs.ServiceCore.History.{DoesNoMore, Entry, Leads, Tells}
+use Rattle.service_laws.specs.ServiceCore.Step.{IsTold, Performs, effect_for, keep_for, performed, refused, repeated}
 use Rattle.service_laws.proofs.TableLaws.{Lasts, made_lasts}
 
 -- ---- results of an invocation

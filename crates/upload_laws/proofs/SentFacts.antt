@@ -23,11 +23,11 @@ use Rattle.result_forms.specs.Names as name
 use Rattle.result_forms.specs.Results.{IsResultOfForm}
 use Rattle.result_forms.specs.declared.batches.BatchCreateTestResults.{BatchCreateTestResults}
 use Rattle.result_forms.proofs.MethodLaws.{results_again, results_lawful}
-use Rattle.message_forms.specs.Methods.{name_of, request_data, service_of}
-use Rattle.message_forms.specs.Reading.{Asks}
-use Rattle.message_forms.specs.declared.requests.Method.TheVariants.{BatchCreateTestResults as CreateResults}
-use Rattle.message_forms.specs.declared.requests.Request.TheVariants as asks
-use Rattle.message_forms.proofs.MethodLaws.{method_named}
+use Rattle.sink_uploads.specs.MessageForms.Methods.{name_of, request_data, service_of}
+use Rattle.sink_uploads.specs.MessageForms.Reading.{Asks}
+use Rattle.sink_uploads.specs.MessageForms.declared.requests.Method.TheVariants.{BatchCreateTestResults as CreateResults}
+use Rattle.sink_uploads.specs.MessageForms.declared.requests.Request.TheVariants as asks
+use Rattle.sink_uploads.proofs.MessageForms.MethodLaws.{method_named}
 use Rattle.report_ids.specs.Digests.{IsDigest, report_digest, request_id_text}
 use Rattle.report_ids.proofs.DigitLemmas.{numbered_is_name}
 use Rattle.sink_plans.specs.Plans.{batch_behind, first_numbers}

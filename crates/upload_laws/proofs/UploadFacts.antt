@@ -14,22 +14,22 @@ use Rattle.call_forms.specs.declared.asked.Asked.{Asked}
 use Rattle.call_forms.specs.declared.forms.Answer.{Answer}
 use Rattle.call_forms.specs.declared.forms.Told.{Told}
 use Rattle.call_forms.specs.declared.forms.Told.TheVariants.{Made}
-use Rattle.message_forms.specs.Reading.{Asks}
-use Rattle.message_forms.specs.declared.requests.Request.{Request}
-use Rattle.message_forms.proofs.RequestLaws.{one_request_asked}
-use Rattle.request_rules.specs.Broken.{NotFound}
-use Rattle.request_demands.specs.Demands.{demand_of}
-use Rattle.request_rules.specs.Named.{place_named}
-use Rattle.request_demands.specs.Numbered.{digest_of, kept_for}
-use Rattle.request_demands.specs.Order.{IsUnbroken}
-use Rattle.request_demands.specs.Settings.{HasNames, Settings, caller_name, caller_of}
-use Rattle.request_effects.specs.Places.{held_in}
+use Rattle.sink_uploads.specs.MessageForms.Reading.{Asks}
+use Rattle.sink_uploads.specs.MessageForms.declared.requests.Request.{Request}
+use Rattle.sink_uploads.proofs.MessageForms.RequestLaws.{one_request_asked}
+use Rattle.service_laws.specs.RequestRules.Broken.{NotFound}
+use Rattle.service_laws.specs.RequestDemands.Demands.{demand_of}
+use Rattle.service_laws.specs.RequestRules.Named.{place_named}
+use Rattle.service_laws.specs.RequestDemands.Numbered.{digest_of, kept_for}
+use Rattle.service_laws.specs.RequestDemands.Order.{IsUnbroken}
+use Rattle.service_laws.specs.RequestDemands.Settings.{HasNames, Settings, caller_name, caller_of}
+use Rattle.service_laws.specs.RequestEffects.Places.{held_in}
 use Rattle.service_effects.specs.Effects.{Makes}
 use Rattle.service_effects.specs.Service.{ServiceWorld, recorded}
-use Rattle.service_core.specs.History.{Entry, IsLegal, Leads, Tells}
+use Rattle.service_laws.specs.ServiceCore.History.{Entry, IsLegal, Leads, Tells}
 use Rattle.service_laws.specs.Validity.{IsValid}
-use Rattle.service_core.specs.Step.{IsTold, Performs, effect_for, performed, refused, repeated}
-use Rattle.service_core.proofs.ClearedLaws.{accepted_found}
+use Rattle.service_laws.specs.ServiceCore.Step.{IsTold, Performs, effect_for, performed, refused, repeated}
+use Rattle.service_laws.proofs.ServiceCore.ClearedLaws.{accepted_found}
 use Rattle.service_laws.proofs.TableLaws.{legal_lasts}
 use Rattle.service_laws.proofs.ValidLaws.{leads_valid, legal_keeps_valid}
 use Rattle.report_ids.specs.Digests.{report_digest}

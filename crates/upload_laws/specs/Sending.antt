@@ -1,8 +1,8 @@
 -- What the sink asks to upload a report.
 use Rattle.std.specs.Prelude.{All, Some, codes}
 use Rattle.call_forms.specs.declared.asked.Asked.{Asked}
-use Rattle.message_forms.specs.Reading.{Asks}
-use Rattle.message_forms.specs.declared.requests.Request.{Request}
+use Rattle.sink_uploads.specs.MessageForms.Reading.{Asks}
+use Rattle.sink_uploads.specs.MessageForms.declared.requests.Request.{Request}
 use Rattle.sink_plans.specs.declared.plans.Destination.{Destination}
 use Rattle.sink_plans.specs.declared.plans.SinkBatch.{SinkBatch}
 use Rattle.sink_uploads.specs.Requests.{batch_body, batch_request}

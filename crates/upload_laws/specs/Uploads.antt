@@ -7,11 +7,11 @@ use Rattle.call_forms.specs.declared.asked.Asked.{Asked}
 use Rattle.call_forms.specs.declared.forms.Answer.{Answer}
 use Rattle.call_forms.specs.declared.forms.Told.TheVariants.{Made}
 use Rattle.kept_replies.specs.Kept.{IsFree}
-use Rattle.request_rules.specs.Named.{place_named}
-use Rattle.request_demands.specs.Numbered.{digest_of}
-use Rattle.request_demands.specs.Settings.{HasNames, Settings, caller_name, caller_of}
+use Rattle.service_laws.specs.RequestRules.Named.{place_named}
+use Rattle.service_laws.specs.RequestDemands.Numbered.{digest_of}
+use Rattle.service_laws.specs.RequestDemands.Settings.{HasNames, Settings, caller_name, caller_of}
 use Rattle.service_effects.specs.Service.{ServiceWorld}
-use Rattle.service_core.specs.History.{Entry, IsLegal}
+use Rattle.service_laws.specs.ServiceCore.History.{Entry, IsLegal}
 use Rattle.service_laws.specs.Validity.{IsValid}
 use Rattle.upload_laws.specs.Reports.{CanBeSent, Report, plan_in, results_in}
 use Rattle.upload_laws.specs.Sending.{asked_by}

@@ -3,10 +3,10 @@ use Rattle.std.specs.Prelude.{◌≡◌, ℕ, ℤ, Bool, true, false, List, Opti
 use Rattle.names_realms.specs.declared.pairs.Pair.{Pair}
 use Rattle.names_realms.specs.declared.states.Status.{Status}
 use Rattle.names_realms.specs.Variants.{label_of}
-use Rattle.policy_checks.specs.declared.permission.Permission.TheVariants.{GetTestResult}
+use Rattle.permissions.specs.PolicyChecks.declared.permission.Permission.TheVariants.{GetTestResult}
 use Rattle.policy_tables.specs.declared.tables.PolicyTables.{PolicyTables}
 use Rattle.permissions.specs.Allows.{Allows}
-use Rattle.invocations.specs.declared.invocation.Invocation.{Invocation}
+use Rattle.verdict_lists.specs.Invocations.declared.invocation.Invocation.{Invocation}
 use Rattle.test_results.specs.declared.result.TestResult.{TestResult}
 use Rattle.verdict_lists.specs.declared.verdict.Verdict.{Verdict}
 use Rattle.verdict_lists.specs.World.{World}

@@ -6,7 +6,7 @@ ghost use Rattle.verdict_masks.specs.Masks.{IsMasked, IsWhole, MaySeeResult, Sho
 use crate::cuts::cut;
 use crate::shown::ShownResult;
 use permissions::Granted;
-use policy_checks::Permission;
+use permissions::policy_checks::Permission;
 use test_results::TestResult;
 use verdict_lists::{Verdict, View};
 

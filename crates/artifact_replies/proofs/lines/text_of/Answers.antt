@@ -1,5 +1,5 @@
 use Rattle.std.proofs.Common.{sym, ◌∙◌}
-use Rattle.result_forms.proofs.ShownLaws.{as_text-utf8, as_text-other}
+use Rattle.artifact_forms.proofs.ResultForms.ShownLaws.{as_text-utf8, as_text-other}
 use Rattle.artifact_replies.proofs.lines.text_of.Goals as goal
 
 pub returns-in-Ok : goal.returns-in-Ok

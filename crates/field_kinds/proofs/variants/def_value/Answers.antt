@@ -2,7 +2,7 @@ use Rattle.std.proofs.Common.{take, sym, ap, subst, ◌∙◌, arith}
 use Rattle.std.proofs.lemmas.List.{take_all}
 use Rattle.serde_json.specs.Data.{string, object, Members, put}
 use Rattle.serde_json.proofs.Views.{view-Object}
-use Rattle.names_realms.specs.declared.pairs.Pair.{Pair}
+use Rattle.json_fields.specs.NamesRealms.declared.pairs.Pair.{Pair}
 use Rattle.field_kinds.specs.Variants.{IsPairOfGrammar, def_members}
 use Rattle.field_kinds.proofs.VariantLaws.{grammar_at, put_after}
 use Rattle.field_kinds.proofs.variants.def_value.Goals as goal

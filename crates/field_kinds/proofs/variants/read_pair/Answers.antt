@@ -1,6 +1,6 @@
 use Rattle.std.proofs.Common.{◌≡◌, List, ℕ, None, sym, ap, ◌∙◌}
-use Rattle.names_realms.specs.Pairs.{IsPairKey, IsPairValue, pair_fault}
-use Rattle.names_realms.proofs.PairLemmas.{pair-fault}
+use Rattle.json_fields.specs.NamesRealms.Pairs.{IsPairKey, IsPairValue, pair_fault}
+use Rattle.json_fields.proofs.NamesRealms.PairLemmas.{pair-fault}
 use Rattle.field_kinds.proofs.variants.read_pair.Goals as goal
 
 right : (a b key value : List ℕ) → a ≡ key → b ≡ value → IsPairKey a → IsPairValue b → pair_fault key value ≡ None

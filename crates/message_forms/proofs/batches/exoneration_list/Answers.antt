@@ -4,8 +4,8 @@ use Rattle.serde_json.specs.Data.{Data, array}
 use Rattle.serde_json.specs.View.{items_of}
 use Rattle.serde_json.proofs.Views.{view-Array}
 use Rattle.test_results.specs.declared.exoneration.TestExoneration.{TestExoneration}
-use Rattle.result_forms.specs.Replies.{exoneration_data}
-use Rattle.invocation_forms.proofs.ListLaws.{data_more}
+use Rattle.query_forms.specs.ResultForms.Replies.{exoneration_data}
+use Rattle.query_forms.proofs.InvocationForms.ListLaws.{data_more}
 use Rattle.message_forms.proofs.batches.exoneration_list.Goals as goal
 
 pub loop-row-preserved : goal.loop-row-preserved

@@ -1,6 +1,6 @@
 use Rattle.std.proofs.Common.{◌≡◌, map, take}
 use Rattle.serde_json.specs.View.{view}
-use Rattle.result_forms.specs.Replies.{exoneration_data}
+use Rattle.query_forms.specs.ResultForms.Replies.{exoneration_data}
 use Rattle.message_forms.proofs.batches.exoneration_list.Given as goal
 
 abbrev pub invariant-loop-row : goal.invariant-loop-row

@@ -4,8 +4,8 @@ use Rattle.serde_json.specs.Data.{Data, array}
 use Rattle.serde_json.specs.View.{items_of}
 use Rattle.serde_json.proofs.Views.{view-Array}
 use Rattle.test_results.specs.declared.result.TestResult.{TestResult}
-use Rattle.result_forms.specs.Replies.{result_data}
-use Rattle.invocation_forms.proofs.ListLaws.{data_more}
+use Rattle.query_forms.specs.ResultForms.Replies.{result_data}
+use Rattle.query_forms.proofs.InvocationForms.ListLaws.{data_more}
 use Rattle.message_forms.proofs.batches.result_list.Goals as goal
 
 pub loop-row-preserved : goal.loop-row-preserved

@@ -1,6 +1,6 @@
 use Rattle.std.proofs.Common.{◌≡◌, ◌≤◌, ℕ, ◌-◌, ◌++◌, length, take, drop, codes, ap, ◌∙◌, arith}
 use Rattle.std.proofs.lemmas.List.{length-take-le, length-drop}
-use Rattle.names_realms.specs.Realms.{project_len}
+use Rattle.policy_checks.specs.NamesRealms.Realms.{project_len}
 use Rattle.permissions.proofs.RootLemmas.{project_most, written}
 use Rattle.permissions.proofs.root.write_root.Goals as goal
 

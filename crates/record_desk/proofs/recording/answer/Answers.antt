@@ -2,12 +2,12 @@ use Rattle.std.proofs.Common.{◌≡◌, subst}
 use Rattle.call_forms.specs.declared.forms.Answer.{Answer}
 use Rattle.call_forms.specs.declared.forms.Standin.TheVariants.{Unavailable}
 use Rattle.call_forms.specs.declared.forms.Told.TheVariants.{Standin as Instead}
-use Rattle.request_demands.specs.Settings.{Settings}
-use Rattle.service_effects.specs.Service.{ServiceWorld}
-use Rattle.service_core.specs.CoreState.{world_in}
-use Rattle.service_core.specs.Plans.{IsPrepared}
-use Rattle.service_core.specs.Step.{IsTold, performed, refused, repeated}
-use Rattle.service_core.proofs.PlanLaws.{same_world, told_at_once}
+use Rattle.service_machine.specs.RequestDemands.Settings.{Settings}
+use Rattle.service_machine.specs.ServiceEffects.Service.{ServiceWorld}
+use Rattle.service_machine.specs.ServiceCore.CoreState.{world_in}
+use Rattle.service_machine.specs.ServiceCore.Plans.{IsPrepared}
+use Rattle.service_machine.specs.ServiceCore.Step.{IsTold, performed, refused, repeated}
+use Rattle.service_machine.proofs.ServiceCore.PlanLaws.{same_world, told_at_once}
 use Rattle.service_machine.specs.Machines.{Plays}
 use Rattle.record_desk.specs.Recording.{KeepsBook, TriesAtMost}
 use Rattle.record_desk.proofs.recording.answer.Goals as goal

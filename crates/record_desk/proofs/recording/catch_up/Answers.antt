@@ -2,8 +2,8 @@ use Rattle.std.proofs.Common.{Option, ap, rules}
 use Rattle.std.proofs.lemmas.Result.{err_from_is_err_and}
 use Rattle.call_forms.specs.declared.forms.Answer.{Answer}
 use Rattle.invocation_world.specs.Advancing.{IsDueAt}
-use Rattle.service_core.specs.CoreState.{world_in}
-use Rattle.service_core.proofs.ServeLaws.{caught_up, ticked}
+use Rattle.service_machine.specs.ServiceCore.CoreState.{world_in}
+use Rattle.service_machine.proofs.ServiceCore.ServeLaws.{caught_up, ticked}
 use Rattle.service_machine.specs.Machines.{Plays}
 use Rattle.record_desk.proofs.RecordingLaws.{kept_as, kept_weaker, quiet_caught, same_failed, tries_as, tries_weaker}
 use Rattle.record_desk.proofs.recording.catch_up.Goals as goal

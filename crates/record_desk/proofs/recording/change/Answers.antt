@@ -1,8 +1,8 @@
 use Rattle.std.proofs.Common.{ap, subst, ◌∙◌, Option}
 use Rattle.call_forms.specs.declared.forms.Answer.{Answer}
-use Rattle.request_demands.specs.Settings.{Settings}
-use Rattle.service_core.specs.CoreState.{PlanState, world_in}
-use Rattle.service_core.specs.Plans.{Carries}
+use Rattle.service_machine.specs.RequestDemands.Settings.{Settings}
+use Rattle.service_machine.specs.ServiceCore.CoreState.{PlanState, world_in}
+use Rattle.service_machine.specs.ServiceCore.Plans.{Carries}
 use Rattle.service_machine.specs.Machines.{Plays}
 use Rattle.service_machine.specs.Leading.{carries_there}
 use Rattle.record_desk.proofs.RecordingLaws.{change_told, change_unrecorded, kept_weaker, not_spent, plan_told, same_standin, tries_weaker}

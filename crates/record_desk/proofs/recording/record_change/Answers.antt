@@ -1,8 +1,8 @@
 use Rattle.std.proofs.Common.{Option, ap, ◌∙◌, Err}
 use Rattle.call_forms.specs.declared.forms.Answer.{Answer}
-use Rattle.service_core.specs.CoreState.{world_in}
+use Rattle.service_machine.specs.ServiceCore.CoreState.{world_in}
 use Rattle.service_machine.specs.Machines.{Plays}
-use Rattle.service_effects.specs.Service.{empty_service}
+use Rattle.service_machine.specs.ServiceEffects.Service.{empty_service}
 use Rattle.service_machine.proofs.MachineLaws.{replayed_is_carried}
 use Rattle.record_desk.proofs.RecordingLaws.{kept_err, kept_settled, kept_weaker, never_spent, rose_err, tries_plan}
 use Rattle.record_desk.proofs.recording.record_change.Goals as goal

@@ -1,9 +1,9 @@
 use Rattle.std.proofs.Common.{ℕ, inl, inr, FitsSigned, w64, to_z-of_z, subst}
 use Rattle.result_journal.specs.Journals.{disk_of}
 use Rattle.call_forms.specs.declared.forms.Told.TheVariants.{Standin as Instead}
-use Rattle.request_demands.specs.Settings.{Settings}
-use Rattle.service_core.specs.CoreState.{world_in}
-use Rattle.service_core.specs.History.{entry_at}
+use Rattle.service_machine.specs.RequestDemands.Settings.{Settings}
+use Rattle.service_machine.specs.ServiceCore.CoreState.{world_in}
+use Rattle.service_machine.specs.ServiceCore.History.{entry_at}
 use Rattle.service_machine.specs.Machines.{Plays}
 use Rattle.record_desk.specs.Standing.{IsTried, RoseIf}
 use Rattle.record_desk.specs.Recording.{is_unavailable}

@@ -4,7 +4,7 @@ use Rattle.std.proofs.lemmas.Bool.{false≢true}
 use Rattle.std.proofs.lemmas.Option.{slice_get_within}
 use Rattle.kept_replies.specs.Kept.{IsWord, place_for}
 use Rattle.kept_replies.proofs.FirstLemmas.{place_holds_for}
-use Rattle.text_kinds.proofs.TextLaws.{request_id_form}
+use Rattle.message_forms.proofs.TextKinds.TextLaws.{request_id_form}
 use Rattle.request_demands.specs.Demands.{Demand}
 use Rattle.request_demands.specs.Understood.{IsDigested}
 use Rattle.request_demands.proofs.NumberLaws.{inked_word, kept_there}

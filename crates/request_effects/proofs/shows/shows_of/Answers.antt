@@ -1,6 +1,6 @@
 use Rattle.std.proofs.Common.{ap, ◌∙◌}
-use Rattle.message_forms.specs.declared.requests.Request.{Request}
-use Rattle.request_demands.specs.Demands.{demand_of}
+use Rattle.request_rules.specs.MessageForms.declared.requests.Request.{Request}
+use Rattle.request_rules.specs.RequestDemands.Demands.{demand_of}
 use Rattle.request_rules.specs.Locating.{Located}
 use Rattle.request_rules.specs.Named.{places_in}
 use Rattle.request_effects.proofs.shows.shows_of.Goals as goal

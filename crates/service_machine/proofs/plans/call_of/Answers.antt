@@ -1,7 +1,7 @@
 use Rattle.std.proofs.Common.{◌≡◌, ℕ, true, List, sym, subst}
 use Rattle.policy_checks.specs.Checks.{is_name}
-use Rattle.request_demands.specs.Settings.{Settings}
-use Rattle.request_demands.proofs.PolicyLaws.{name_is, names_of_sound}
+use Rattle.service_replay.specs.RequestDemands.Settings.{Settings}
+use Rattle.service_replay.proofs.RequestDemands.PolicyLaws.{name_is, names_of_sound}
 use Rattle.service_machine.proofs.plans.call_of.Goals as goal
 
 pub returns-clause-caller : goal.returns-clause-caller

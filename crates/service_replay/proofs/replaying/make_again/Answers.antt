@@ -1,10 +1,10 @@
 use Rattle.std.proofs.Common.{ap, subst, ◌∙◌}
 use Rattle.recorded_calls.specs.Commands.{call_said}
-use Rattle.request_rules.specs.Again.{IsUnused}
-use Rattle.request_demands.specs.Numbered.{asked_again}
-use Rattle.request_demands.specs.Demands.{Demand, demand_of}
-use Rattle.request_effects.specs.Keeps.{numbered_of}
-use Rattle.request_effects.specs.Places.{held_in}
+use Rattle.service_core.specs.RequestRules.Again.{IsUnused}
+use Rattle.service_core.specs.RequestDemands.Numbered.{asked_again}
+use Rattle.service_core.specs.RequestDemands.Demands.{Demand, demand_of}
+use Rattle.service_core.specs.RequestEffects.Keeps.{numbered_of}
+use Rattle.service_core.specs.RequestEffects.Places.{held_in}
 use Rattle.service_effects.specs.Service.{ServiceWorld, recorded}
 use Rattle.service_core.specs.CoreState.{world_in}
 use Rattle.service_replay.specs.Replay.{ActsAgain}

@@ -1,4 +1,4 @@
-use Rattle.request_demands.specs.Numbered.{asked_again}
+use Rattle.service_core.specs.RequestDemands.Numbered.{asked_again}
 use Rattle.service_replay.proofs.AgainLaws.{repeat_is_used, reused_is_used, unused_in}
 use Rattle.service_replay.proofs.replaying.number_again.Goals as goal
 

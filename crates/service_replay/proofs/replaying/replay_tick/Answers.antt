@@ -1,5 +1,5 @@
 use Rattle.std.proofs.Common.{rules}
-use Rattle.invocation_world.specs.Advancing.{IsDueAt}
+use Rattle.service_core.specs.InvocationWorld.Advancing.{IsDueAt}
 use Rattle.service_core.specs.CoreState.{world_in}
 use Rattle.service_core.proofs.ServeLaws.{ticked}
 use Rattle.service_replay.proofs.replaying.replay_tick.Goals as goal

@@ -1,9 +1,9 @@
 use Rattle.std.proofs.Common.{List, sym, ap, subst, ◌∙◌}
 use Rattle.invocations.specs.declared.invocation.Invocation.{Invocation}
-use Rattle.request_rules.specs.Again.{IsRight}
-use Rattle.request_rules.specs.Locating.{located}
-use Rattle.request_demands.specs.Demands.{demand_of}
-use Rattle.request_effects.specs.Places.{held_in}
+use Rattle.service_core.specs.RequestRules.Again.{IsRight}
+use Rattle.service_core.specs.RequestRules.Locating.{located}
+use Rattle.service_core.specs.RequestDemands.Demands.{demand_of}
+use Rattle.service_core.specs.RequestEffects.Places.{held_in}
 use Rattle.service_effects.specs.declared.tables.Tables.{Tables}
 use Rattle.service_effects.specs.States.{recorded_in}
 use Rattle.service_replay.proofs.replaying.right_places.Goals as goal

@@ -1,4 +1,4 @@
-use Rattle.name_parts.proofs.PartLemmas.{IsPart-part_fault}
+use Rattle.names_realms.proofs.NameParts.PartLemmas.{IsPart-part_fault}
 use Rattle.json_fields.proofs.TextLaws.{value_right}
 use Rattle.json_fields.proofs.WriteLaws.{always, tag_written}
 use Rattle.json_fields.proofs.tags.TagWritten.write.Goals as goal

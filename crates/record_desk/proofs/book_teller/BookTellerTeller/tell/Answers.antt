@@ -1,9 +1,9 @@
 use Rattle.std.proofs.Common.{FitsSigned, w64, to_z-of_z, [], ◌∷◌, ◌++◌, refl, ap, subst}
 use Rattle.call_forms.specs.declared.asked.Asked.{Asked}
-use Rattle.request_demands.specs.Settings.{Settings}
-use Rattle.service_core.specs.CoreState.{world_in}
+use Rattle.service_machine.specs.RequestDemands.Settings.{Settings}
+use Rattle.service_machine.specs.ServiceCore.CoreState.{world_in}
 use Rattle.service_machine.specs.Machines.{Plays}
-use Rattle.service_core.specs.Service.{Service, service_of}
+use Rattle.service_machine.specs.ServiceCore.Service.{Service, service_of}
 use Rattle.record_desk.specs.Recording.{is_unavailable}
 use Rattle.record_desk.specs.Standing.{HasServed}
 use Rattle.record_desk.proofs.StandingLaws.{served_more}

@@ -2,7 +2,7 @@ use Rattle.std.proofs.Common.{◌≡◌, ap, map, ◌∙◌}
 use Rattle.std.proofs.lemmas.Result.{IfOk-weaker}
 use Rattle.std.specs.Prelude.{slice_get}
 use Rattle.call_forms.specs.declared.forms.Answer.{Answer}
-use Rattle.message_forms.specs.declared.replies.Reply.TheVariants as reply
+use Rattle.request_rules.specs.MessageForms.declared.replies.Reply.TheVariants as reply
 use Rattle.request_effects.specs.Shows.{done, reply_at}
 use Rattle.request_effects.proofs.AheadFacts.{shown_so}
 use Rattle.request_effects.proofs.ahead.Ahead.answer.Goals as goal

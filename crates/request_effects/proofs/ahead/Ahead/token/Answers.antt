@@ -1,7 +1,7 @@
 use Rattle.std.proofs.Common.{ap, sym}
 use Rattle.std.specs.Prelude.{slice_get}
 use Rattle.invocations.specs.declared.invocation.Invocation.{Invocation}
-use Rattle.request_demands.proofs.CauseLaws.{secret_read}
+use Rattle.request_rules.proofs.RequestDemands.CauseLaws.{secret_read}
 use Rattle.request_effects.proofs.AheadFacts.{token_so}
 use Rattle.request_effects.proofs.ahead.Ahead.token.Goals as goal
 

@@ -1,5 +1,5 @@
 use Rattle.std.proofs.Common.{sym, ◌∙◌, subst}
-use Rattle.request_demands.specs.Settings.{Settings}
+use Rattle.request_effects.specs.RequestDemands.Settings.{Settings}
 use Rattle.service_core.specs.CoreState.{world_in}
 use Rattle.service_core.specs.Plans.{IsPrepared}
 use Rattle.service_core.specs.Step.{performed, refused, repeated}

@@ -1,9 +1,9 @@
 use Rattle.std.proofs.Common.{subst}
 use Rattle.std.proofs.lemmas.Option.{slice_get_within}
-use Rattle.request_demands.specs.Numbered.{IsNumbered}
-use Rattle.request_demands.specs.Settings.{Settings, caller_name}
-use Rattle.request_demands.specs.Demands.{demand_of}
-use Rattle.request_demands.proofs.PolicyLaws.{caller_is_there}
+use Rattle.request_effects.specs.RequestDemands.Numbered.{IsNumbered}
+use Rattle.request_effects.specs.RequestDemands.Settings.{Settings, caller_name}
+use Rattle.request_effects.specs.RequestDemands.Demands.{demand_of}
+use Rattle.request_effects.proofs.RequestDemands.PolicyLaws.{caller_is_there}
 use Rattle.service_core.specs.CoreState.{world_in}
 use Rattle.service_core.specs.Judged.{TellsJudged}
 use Rattle.service_core.proofs.ServeLaws.{numbered_in, repeats_as}

@@ -1,10 +1,10 @@
 use Rattle.std.proofs.Common.{List, subst, ap, ◌∙◌}
 use Rattle.call_forms.specs.declared.forms.Answer.{Answer}
 use Rattle.invocations.specs.declared.invocation.Invocation.{Invocation}
-use Rattle.request_demands.specs.Demands.{demand_of}
-use Rattle.request_demands.specs.Settings.{Settings}
+use Rattle.request_effects.specs.RequestDemands.Demands.{demand_of}
+use Rattle.request_effects.specs.RequestDemands.Settings.{Settings}
 use Rattle.request_effects.specs.Places.{held_in, located_in}
-use Rattle.request_rules.specs.Locating.{located}
+use Rattle.request_effects.specs.RequestRules.Locating.{located}
 use Rattle.service_effects.specs.States.{recorded_in}
 use Rattle.service_core.specs.CoreState.{CoreState, world_in}
 use Rattle.service_core.specs.Judged.{TellsJudged, TellsRefusal}

@@ -1,9 +1,9 @@
 use Rattle.std.proofs.Common.{◌≡◌, ℕ, Result, ◌∙◌, ap, sym, subst}
 use Rattle.std.proofs.lemmas.Result.{IfOk-weaker}
-use Rattle.request_demands.specs.Demands.{demand_of}
+use Rattle.request_effects.specs.RequestDemands.Demands.{demand_of}
 use Rattle.call_forms.specs.declared.forms.Answer.{Answer}
-use Rattle.request_demands.specs.Settings.{Settings}
-use Rattle.request_demands.specs.Understood.{length_for}
+use Rattle.request_effects.specs.RequestDemands.Settings.{Settings}
+use Rattle.request_effects.specs.RequestDemands.Understood.{length_for}
 use Rattle.service_effects.specs.declared.effect.Effect.{Effect}
 use Rattle.service_effects.specs.declared.effect.Planned.{Planned}
 use Rattle.request_effects.specs.Effects.{effect_of}

@@ -1,7 +1,7 @@
 use Rattle.std.proofs.Common.{subst}
 use Rattle.std.proofs.lemmas.Result.{IfOk-weaker}
-use Rattle.request_demands.specs.Settings.{Settings}
-use Rattle.request_demands.proofs.PolicyLaws.{caller_is_there, names_of_sound}
+use Rattle.request_effects.specs.RequestDemands.Settings.{Settings}
+use Rattle.request_effects.proofs.RequestDemands.PolicyLaws.{caller_is_there, names_of_sound}
 use Rattle.service_core.specs.CoreState.{world_in}
 use Rattle.service_core.specs.Judged.{TellsJudged}
 use Rattle.service_core.specs.Planning.{ComesTo}

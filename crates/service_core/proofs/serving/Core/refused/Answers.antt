@@ -1,5 +1,5 @@
 use Rattle.std.proofs.Common.{Some, None, ap, ◌∙◌}
-use Rattle.request_rules.specs.Breaches.{refusal_of}
+use Rattle.request_effects.specs.RequestRules.Breaches.{refusal_of}
 use Rattle.request_effects.specs.Places.{held_in}
 use Rattle.service_effects.specs.States.{recorded_in}
 use Rattle.service_core.specs.CoreState.{CoreState, world_in}

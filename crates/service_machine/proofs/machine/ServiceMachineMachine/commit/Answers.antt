@@ -1,6 +1,6 @@
 use Rattle.std.proofs.Common.{subst}
-use Rattle.service_core.specs.CoreState.{PlanState, world_in}
-use Rattle.service_core.specs.Plans.{Carries}
+use Rattle.service_replay.specs.ServiceCore.CoreState.{PlanState, world_in}
+use Rattle.service_replay.specs.ServiceCore.Plans.{Carries}
 use Rattle.service_machine.proofs.machine.ServiceMachineMachine.commit.Goals as goal
 
 pub returns-clause-world : goal.returns-clause-world

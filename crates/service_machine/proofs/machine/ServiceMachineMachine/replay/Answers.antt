@@ -1,4 +1,4 @@
-use Rattle.service_core.specs.CoreState.{world_in}
+use Rattle.service_replay.specs.ServiceCore.CoreState.{world_in}
 use Rattle.service_machine.proofs.MachineLaws.{replays_are_alone}
 use Rattle.service_machine.proofs.machine.ServiceMachineMachine.replay.Goals as goal
 

@@ -1,7 +1,7 @@
 use Rattle.std.proofs.Common.{ℕ, ◌^◌, ◌<◌, List, length, sym, subst}
-use Rattle.request_demands.specs.Settings.{Settings}
-use Rattle.request_demands.proofs.PolicyLaws.{names_of_sound}
-use Rattle.service_core.specs.CoreState.{world_in}
+use Rattle.service_replay.specs.RequestDemands.Settings.{Settings}
+use Rattle.service_replay.proofs.RequestDemands.PolicyLaws.{names_of_sound}
+use Rattle.service_replay.specs.ServiceCore.CoreState.{world_in}
 use Rattle.service_machine.specs.Machines.{IsCommandOf}
 use Rattle.service_machine.proofs.PlanFacts.{change_fits, kind_found}
 use Rattle.service_machine.proofs.plans.RecordedPlan.change.Goals as goal

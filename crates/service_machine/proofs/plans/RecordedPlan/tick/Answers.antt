@@ -1,6 +1,6 @@
 use Rattle.std.proofs.Common.{◌≤ℤ◌, sym, subst}
 use Rattle.invocation_world.specs.Advancing.{IsDueAt}
-use Rattle.service_core.specs.CoreState.{CoreState}
+use Rattle.service_replay.specs.ServiceCore.CoreState.{CoreState}
 use Rattle.service_machine.proofs.PlanFacts.{tick_fits}
 use Rattle.service_machine.proofs.plans.RecordedPlan.tick.Goals as goal
 
