@@ -2,9 +2,11 @@
 ghost use Rattle.std.specs.Prelude.{ℤ, ◌≡◌, List, ◌∷◌};
 
 mod list;
+mod step;
 mod wall;
 
 pub use list::ListClock;
+pub use step::StepClock;
 pub use wall::WallClock;
 
 /// A clock, in microseconds since 1970-01-01T00:00:00Z.

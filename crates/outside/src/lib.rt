@@ -15,7 +15,7 @@ mod standard;
 mod stream;
 mod whole;
 
-pub use clock::{Clock, ListClock, WallClock};
+pub use clock::{Clock, ListClock, StepClock, WallClock};
 pub use either::Either;
 pub use fault_counts::{Failed, counts_add_up};
 pub use file::FileSource;

@@ -203,6 +203,10 @@ fn clocks_answer(rt: HostRuntime) -> Result<(), Fail> {
     for moment in [5, -7, -7] {
         assert_eq!(rt; listed.now(), moment);
     }
+    let mut stepped = StepClock::new(i64::MAX - 5, 3);
+    for before_the_greatest in [5, 2, 0, 0] {
+        assert_eq!(rt; stepped.now(), i64::MAX - before_the_greatest);
+    }
     let start_of_2020 = 1_577_836_800_000_000;
     assert!(rt; WallClock::new(&rt).now() > start_of_2020);
     Ok(())
