@@ -1,5 +1,5 @@
 #!/usr/bin/env python3
-"""Counts what CONTRIBUTING.md limits: the sizes of crates and files, wide lines, and wrong bodies.
+"""Counts what CONTRIBUTING.md limits: the sizes of crates and files, wide lines, wrong bodies, and paths of crates.
 
     tests/sizes.py          tells what is over a limit, and ends with status 1 where there is any
     tests/sizes.py --lower  takes down the numbers of what is listed below and fell; none is ever raised
@@ -22,6 +22,7 @@ LIMITS = {
     "wrong bodies": (6, "wrong bodies"),
     "wide lines": (0, f"lines of code and definitions over {WIDTH} columns"),
     "file": (800, "lines in one file"),
+    "paths": (3000, "paths through crates.txt"),
 }
 
 # begin of the list
@@ -81,8 +82,27 @@ def counted(top):
         yield "wide lines", name, sum(is_wide(line) for file in sources + specs for line in lines_of(file))
         for file in sources + specs + sorted(folder.glob("proofs/**/*.antt")):
             yield "file", str(file.relative_to(top)), len(lines_of(file))
+    for name, count in paths(top).items():
+        yield "paths", name, count
     for file in sorted([*top.glob("tests/*.py"), *top.glob("bench/*.py"), top / "build", top / "rdb"]):
         yield "file", str(file.relative_to(top)), len(lines_of(file))
+
+
+def paths(top):
+    """Of each crate how many paths lead through crates.txt from it down, itself counted. rt sums a crate's sources once for
+    each of them, so that a build, and the gate, take minutes for some hundred thousand."""
+    named = {}
+    for line in (top / "crates.txt").read_text().splitlines():
+        words, colon, uses = line.partition("#")[0].partition(":")
+        if colon:
+            named[words.split()[0]] = uses.split()
+    found = {}
+    while len(found) < len(named):
+        ready = [name for name in named if name not in found and all(use in found or use not in named for use in named[name])]
+        found |= {name: 1 + sum(found.get(use, 0) for use in named[name]) for name in ready}
+        if not ready:
+            sys.exit("crates.txt: crates stand on each other")
+    return found
 
 
 def faults(top, listed):

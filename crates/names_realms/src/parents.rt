@@ -39,7 +39,7 @@ fn read_parts(alloc: Global, text: &[u8]) -> Result<Parent, NameFault>
 }
 
 /// Reads a parent's name.
-#[tactic(auto, unfolding(crate::specs::Parents::parent_named_fault, moments_spans::name_parts::specs::Sequences::behind))]
+#[tactic(auto, unfolding(crate::specs::Parents::parent_named_fault, moments_spans::specs::NameParts::Sequences::behind))]
 fn read_named(alloc: Global, text: &[u8]) -> Result<Parent, NameFault>
     ensures ok { IfOk result (λ p. IsParentName p text.now) }
     ensures fault { IfErr result

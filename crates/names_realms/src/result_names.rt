@@ -53,7 +53,7 @@ pub(crate) fn read_test(alloc: Global, text: &[u8]) -> Result<TestId, NameFault>
 }
 
 /// Reads an escaped test id, `/results/` and a result's id.
-#[tactic(auto, unfolding(crate::specs::ResultNames::test_and_result_fault, moments_spans::name_parts::specs::Sequences::up_to_slash))]
+#[tactic(auto, unfolding(crate::specs::ResultNames::test_and_result_fault, moments_spans::specs::NameParts::Sequences::up_to_slash))]
 fn read_test_and_result(alloc: Global, text: &[u8]) -> Result<(TestId, ResultId), NameFault>
     ensures ok { IfOk result (λ r. text.now ≡ escaped r.0 ++ result_tail r.1) }
     ensures grammar { IfOk result (λ r. IsTestId r.0 × IsResultId r.1) }
@@ -71,7 +71,7 @@ fn read_test_and_result(alloc: Global, text: &[u8]) -> Result<(TestId, ResultId)
 }
 
 /// Reads `/tests/` and what `read_test_and_result` reads.
-#[tactic(auto, unfolding(crate::specs::ResultNames::test_tail_fault, moments_spans::name_parts::specs::Sequences::behind))]
+#[tactic(auto, unfolding(crate::specs::ResultNames::test_tail_fault, moments_spans::specs::NameParts::Sequences::behind))]
 fn read_test_tail(alloc: Global, text: &[u8]) -> Result<(TestId, ResultId), NameFault>
     ensures ok { IfOk result (λ r. text.now ≡ test_tail r.0 r.1) }
     ensures grammar { IfOk result (λ r. IsTestId r.0 × IsResultId r.1) }
@@ -98,7 +98,7 @@ pub(crate) fn read_invocation(alloc: Global, text: &[u8]) -> Result<InvocationId
 }
 
 /// Reads what stands behind `invocations/` in the name of a result.
-#[tactic(auto, unfolding(crate::specs::ResultNames::all_parts_fault, moments_spans::name_parts::specs::Sequences::up_to_slash))]
+#[tactic(auto, unfolding(crate::specs::ResultNames::all_parts_fault, moments_spans::specs::NameParts::Sequences::up_to_slash))]
 pub(crate) fn read_all_parts(alloc: Global, text: &[u8]) -> Result<ResultName, NameFault>
     ensures ok { IfOk result (λ r. text.now ≡ r.invocation ++ test_tail r.test r.result) }
     ensures invocation { IfOk result (λ r. IsInvocationId r.invocation) }
@@ -120,7 +120,7 @@ pub(crate) fn read_all_parts(alloc: Global, text: &[u8]) -> Result<ResultName, N
 }
 
 /// Reads `invocations/` and what `read_all_parts` reads.
-#[tactic(auto, unfolding(crate::specs::ResultNames::named_fault, crate::specs::ResultNames::result_name, moments_spans::name_parts::specs::Sequences::behind))]
+#[tactic(auto, unfolding(crate::specs::ResultNames::named_fault, crate::specs::ResultNames::result_name, moments_spans::specs::NameParts::Sequences::behind))]
 fn read_named(alloc: Global, text: &[u8]) -> Result<ResultName, NameFault>
     ensures ok { IfOk result (λ r. IsResultName r text.now) }
     ensures fault { IfErr result (λ f. f ≢ NameFault.Memory → named_fault text.now ≡ Some f) }
