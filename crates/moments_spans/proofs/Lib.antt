@@ -1,4 +1,3 @@
-pub use Rattle.name_parts.proofs as NameParts
 pub mod CivilLemmas
 pub mod FractionLemmas
 pub mod DigitLaws

@@ -1,4 +1,3 @@
-pub use Rattle.name_parts.specs as NameParts
 pub mod Civil
 pub mod Moments
 pub mod MomentReading

@@ -11,5 +11,4 @@ mod moments;
 mod spans;
 
 pub use moments::{Moment, is_of_years};
-pub use name_parts::{self, lists};
 pub use spans::Span;

@@ -4,22 +4,22 @@ use Rattle.std.specs.Prelude.{◌==◌, nat_lt}
 use Rattle.std.specs.List.{list_all}
 use Rattle.std.proofs.lemmas.Bool.{and_parts, and_from, cases_Bool, eqb-true}
 use Rattle.std.proofs.lemmas.Bool.Decides.{nat_tests}
-use Rattle.moments_spans.specs.NameParts.declared.alphabets.Alphabet.TheVariants as alphabet
-use Rattle.moments_spans.specs.NameParts.declared.parts.PartForm.TheVariants.{Letters, TestId}
+use Rattle.name_parts.specs.declared.alphabets.Alphabet.TheVariants as alphabet
+use Rattle.name_parts.specs.declared.parts.PartForm.TheVariants.{Letters, TestId}
 use Rattle.names_realms.specs.declared.artifact_names.ArtifactName.{ArtifactName}
 use Rattle.names_realms.specs.declared.parents.Parent.{Parent}
 use Rattle.names_realms.specs.declared.parents.Parent.TheVariants as parent
 use Rattle.names_realms.specs.declared.result_names.ResultName.{ResultName}
-use Rattle.moments_spans.specs.NameParts.Alphabets.{may_follow}
-use Rattle.moments_spans.specs.NameParts.Escapes.{escaped, escaped_fault}
+use Rattle.name_parts.specs.Alphabets.{may_follow}
+use Rattle.name_parts.specs.Escapes.{escaped, escaped_fault}
 use Rattle.names_realms.specs.Names.{IsArtifactId, IsInvocationId, IsResultId, IsTestId, invocation_name, invocation_id_fault, result_id_fault}
 use Rattle.names_realms.specs.ResultNames.{IsResultName, result_name}
 use Rattle.names_realms.specs.Parents.{IsParentName, parent_name}
 use Rattle.names_realms.specs.ArtifactNames.{goes_to_tests, artifact_tail, artifact_name, IsArtifactName, artifact_tail_fault, result_and_artifact_fault, result_artifact_tail_fault, test_and_rest_fault, test_artifact_tail_fault, behind_id_fault, artifact_parts_fault, artifact_named_fault, artifact_name_fault}
-use Rattle.moments_spans.proofs.NameParts.PartLemmas.{IsPart-part_fault}
-use Rattle.moments_spans.proofs.NameParts.EscapeLemmas.{escaped-fault}
-use Rattle.moments_spans.proofs.NameParts.ByteLemmas.{IsPart-bytes, escaped_without_slash, invocation_without_slash}
-use Rattle.moments_spans.proofs.NameParts.SequenceLemmas.{behind-None, unless_empty-cons}
+use Rattle.name_parts.proofs.PartLemmas.{IsPart-part_fault}
+use Rattle.name_parts.proofs.EscapeLemmas.{escaped-fault}
+use Rattle.name_parts.proofs.ByteLemmas.{IsPart-bytes, escaped_without_slash, invocation_without_slash}
+use Rattle.name_parts.proofs.SequenceLemmas.{behind-None, unless_empty-cons}
 use Rattle.names_realms.proofs.ResultNameLemmas.{up_to_slash-None}
 
 follow_no_slash : (b : ℕ) → may_follow alphabet.Outcome b ≡ true → not (b == 47) ≡ true

@@ -1,10 +1,10 @@
 -- The name of an invocation has no fault.
 use Rattle.std.proofs.Common.{◌≡◌, ℕ, List, ◌++◌, codes, None, ap, ◌∙◌}
-use Rattle.moments_spans.specs.NameParts.declared.alphabets.Alphabet.TheVariants as alphabet
-use Rattle.moments_spans.specs.NameParts.declared.parts.PartForm.TheVariants.{Letters}
-use Rattle.moments_spans.specs.NameParts.Sequences.{behind}
-use Rattle.moments_spans.proofs.NameParts.PartLemmas.{IsPart-part_fault}
-use Rattle.moments_spans.proofs.NameParts.SequenceLemmas.{behind-None, unless_empty-cons}
+use Rattle.name_parts.specs.declared.alphabets.Alphabet.TheVariants as alphabet
+use Rattle.name_parts.specs.declared.parts.PartForm.TheVariants.{Letters}
+use Rattle.name_parts.specs.Sequences.{behind}
+use Rattle.name_parts.proofs.PartLemmas.{IsPart-part_fault}
+use Rattle.name_parts.proofs.SequenceLemmas.{behind-None, unless_empty-cons}
 use Rattle.names_realms.specs.Names.{IsInvocationName, invocation_name_fault, invocation_id_fault}
 
 pub IsInvocationName-fault : (id text : List ℕ) → IsInvocationName id text → invocation_name_fault text ≡ None

@@ -1,5 +1,5 @@
 pub use Rattle.moments_spans.proofs as MomentsSpans
-pub use Rattle.moments_spans.proofs.NameParts
+pub use Rattle.name_parts.proofs as NameParts
 pub mod InvocationNameLemmas
 pub mod RealmLemmas
 pub mod CutLaws

@@ -1,20 +1,20 @@
 -- One text names at most one value.
 use Rattle.std.proofs.Common.{◌≡◌, ℕ, List, ◌∷◌, ◌++◌, length, get_or, codes, sym, ap, ◌∙◌, append_assoc, length-append, arith}
 use Rattle.std.proofs.lemmas.List.{append_cancel_left}
-use Rattle.moments_spans.specs.NameParts.declared.alphabets.Alphabet.TheVariants as alphabet
-use Rattle.moments_spans.specs.NameParts.declared.parts.PartForm.TheVariants.{Letters, TestId}
+use Rattle.name_parts.specs.declared.alphabets.Alphabet.TheVariants as alphabet
+use Rattle.name_parts.specs.declared.parts.PartForm.TheVariants.{Letters, TestId}
 use Rattle.names_realms.specs.declared.result_names.ResultName.{ResultName}
 use Rattle.names_realms.specs.declared.parents.Parent.{Parent}
 use Rattle.names_realms.specs.declared.parents.Parent.TheVariants as parent
-use Rattle.moments_spans.specs.NameParts.Sequences.{slash_place}
-use Rattle.moments_spans.specs.NameParts.Escapes.{escaped}
+use Rattle.name_parts.specs.Sequences.{slash_place}
+use Rattle.name_parts.specs.Escapes.{escaped}
 use Rattle.names_realms.specs.Names.{IsInvocationId, IsArtifactId, IsInvocationName, invocation_name}
 use Rattle.names_realms.specs.ResultNames.{IsResultName, result_name, result_tail, test_tail}
 use Rattle.names_realms.specs.Parents.{IsParentName, parent_name}
 use Rattle.names_realms.specs.ArtifactNames.{artifact_name, artifact_tail}
 use Rattle.names_realms.specs.Laws.{OneArtifactNamed, OneInvocationNamed, OneParentNamed, OneResultNamed}
-use Rattle.moments_spans.proofs.NameParts.CutLemmas.{cut_before, no_cut}
-use Rattle.moments_spans.proofs.NameParts.ByteLemmas.{escaped_without_slash, invocation_without_slash, unescaped}
+use Rattle.name_parts.proofs.CutLemmas.{cut_before, no_cut}
+use Rattle.name_parts.proofs.ByteLemmas.{escaped_without_slash, invocation_without_slash, unescaped}
 use Rattle.names_realms.proofs.CutLaws.{Lacks, cut_alike}
 use Rattle.names_realms.proofs.ArtifactNameLemmas.{result_without_slash}
 

@@ -5,14 +5,14 @@ use Rattle.std.specs.Str.{IsUtf8}
 use Rattle.std.proofs.lemmas.Bool.{eq-eqb}
 use Rattle.std.proofs.lemmas.Bool.Decides.{nat_tests}
 use Rattle.std.proofs.lemmas.Str.{utf8_valid_len-IsUtf8}
-use Rattle.moments_spans.specs.NameParts.declared.faults.NameFault.{NameFault}
-use Rattle.moments_spans.specs.NameParts.declared.parts.PartForm.TheVariants.{PairKey}
+use Rattle.name_parts.specs.declared.faults.NameFault.{NameFault}
+use Rattle.name_parts.specs.declared.parts.PartForm.TheVariants.{PairKey}
 use Rattle.names_realms.specs.declared.pairs.PairFault.{PairFault}
 use Rattle.names_realms.specs.declared.pairs.PairFault.TheVariants.{Key, Value}
-use Rattle.moments_spans.specs.NameParts.Parts.{part_fault}
+use Rattle.name_parts.specs.Parts.{part_fault}
 use Rattle.names_realms.specs.Pairs.{IsPairKey, IsPairValue, utf8_place, pair_value_fault, pair_fault}
-use Rattle.moments_spans.proofs.NameParts.PartLemmas.{part_fault-None, IsPart-part_fault, limited_fault-None, limited_fault-from}
-use Rattle.moments_spans.proofs.NameParts.TextLemmas.{utf8_all}
+use Rattle.name_parts.proofs.PartLemmas.{part_fault-None, IsPart-part_fault, limited_fault-None, limited_fault-from}
+use Rattle.name_parts.proofs.TextLemmas.{utf8_all}
 
 key_none : (f : Option NameFault) (g : Option PairFault) → option_or (option_map Key f) g ≡ None → (f ≡ None) × (g ≡ None)
 key_none None g e = (refl, e)

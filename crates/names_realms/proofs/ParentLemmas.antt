@@ -1,19 +1,19 @@
 -- The name of a parent has no fault.
 use Rattle.std.proofs.Common.{◌≡◌, ℕ, ◌+◌, List, ◌∷◌, ◌++◌, length, length-append, codes, None, refl, ap, ◌∙◌, arith}
 use Rattle.std.proofs.lemmas.Bool.{eq-eqb, ne_eqb}
-use Rattle.moments_spans.specs.NameParts.declared.alphabets.Alphabet.TheVariants as alphabet
-use Rattle.moments_spans.specs.NameParts.declared.parts.PartForm.TheVariants.{Letters}
+use Rattle.name_parts.specs.declared.alphabets.Alphabet.TheVariants as alphabet
+use Rattle.name_parts.specs.declared.parts.PartForm.TheVariants.{Letters}
 use Rattle.names_realms.specs.declared.parents.Parent.{Parent}
 use Rattle.names_realms.specs.declared.parents.Parent.TheVariants as parent
 use Rattle.names_realms.specs.declared.result_names.ResultName.{ResultName}
 use Rattle.names_realms.specs.Names.{IsInvocationId, invocation_name}
-use Rattle.moments_spans.specs.NameParts.Sequences.{slash_place}
+use Rattle.name_parts.specs.Sequences.{slash_place}
 use Rattle.names_realms.specs.ResultNames.{IsResultName, result_name, test_tail, all_parts_fault}
 use Rattle.names_realms.specs.Parents.{IsParentName, parent_fault, parent_named_fault, parent_parts_fault}
-use Rattle.moments_spans.proofs.NameParts.PartLemmas.{IsPart-part_fault}
-use Rattle.moments_spans.proofs.NameParts.CutLemmas.{no_cut, cut_before}
-use Rattle.moments_spans.proofs.NameParts.ByteLemmas.{invocation_without_slash}
-use Rattle.moments_spans.proofs.NameParts.SequenceLemmas.{behind-None, unless_empty-cons}
+use Rattle.name_parts.proofs.PartLemmas.{IsPart-part_fault}
+use Rattle.name_parts.proofs.CutLemmas.{no_cut, cut_before}
+use Rattle.name_parts.proofs.ByteLemmas.{invocation_without_slash}
+use Rattle.name_parts.proofs.SequenceLemmas.{behind-None, unless_empty-cons}
 use Rattle.names_realms.proofs.ResultNameLemmas.{all_parts-None}
 
 -- an id alone, and one before a slash

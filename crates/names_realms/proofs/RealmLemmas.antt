@@ -8,15 +8,15 @@ use Rattle.std.proofs.lemmas.Bool.{and_parts, and_from}
 use Rattle.std.proofs.lemmas.Bool.Decides.{nat_tests}
 use Rattle.std.proofs.lemmas.List.{take_at, drop_at}
 use Rattle.std.proofs.lemmas.Str.{IsUtf8-append, IsUtf8-from_ascii}
-use Rattle.moments_spans.specs.NameParts.declared.faults.NameFault.{NameFault}
-use Rattle.moments_spans.specs.NameParts.declared.faults.NameFault.TheVariants.{Empty}
-use Rattle.moments_spans.specs.NameParts.declared.alphabets.Alphabet.TheVariants as alphabet
-use Rattle.moments_spans.specs.NameParts.declared.parts.PartForm.TheVariants.{Letters}
-use Rattle.moments_spans.specs.NameParts.Alphabets.{may_follow}
-use Rattle.moments_spans.specs.NameParts.Parts.{IsPart, bad_place, limited_fault, unempty_fault, shifted, literal_bad_place}
+use Rattle.name_parts.specs.declared.faults.NameFault.{NameFault}
+use Rattle.name_parts.specs.declared.faults.NameFault.TheVariants.{Empty}
+use Rattle.name_parts.specs.declared.alphabets.Alphabet.TheVariants as alphabet
+use Rattle.name_parts.specs.declared.parts.PartForm.TheVariants.{Letters}
+use Rattle.name_parts.specs.Alphabets.{may_follow}
+use Rattle.name_parts.specs.Parts.{IsPart, bad_place, limited_fault, unempty_fault, shifted, literal_bad_place}
 use Rattle.names_realms.specs.Realms.{IsSubrealm, IsRealm, bad_subrealm_place, colon_fault, project_len, realm_fault}
-use Rattle.moments_spans.proofs.NameParts.PartLemmas.{limited_fault-None, limited_fault-from, letters-bad_place, unempty_fault-None, IsPart-unempty_fault, IsPart-utf8, ascii_literal}
-use Rattle.moments_spans.proofs.NameParts.CutLemmas.{cut_is, cut_before, literal_bad_place-None}
+use Rattle.name_parts.proofs.PartLemmas.{limited_fault-None, limited_fault-from, letters-bad_place, unempty_fault-None, IsPart-unempty_fault, IsPart-utf8, ascii_literal}
+use Rattle.name_parts.proofs.CutLemmas.{cut_is, cut_before, literal_bad_place-None}
 
 shifted-None : (n : ℕ) (f : Option NameFault) → option_map (shifted n) f ≡ None → f ≡ None
 shifted-None n None e = refl

@@ -6,18 +6,18 @@ use Rattle.std.specs.List.{list_all, common_prefix_len}
 use Rattle.std.proofs.lemmas.Bool.{and_parts, and_from, both_ways, eqb-true, eq-eqb, ltb-false, cases_Bool, cases_lt, not-true}
 use Rattle.std.proofs.lemmas.List.{take_all, take-append-le}
 use Rattle.std.proofs.Math.Seq.{take-append-add}
-use Rattle.moments_spans.specs.NameParts.declared.alphabets.Alphabet.{Alphabet}
-use Rattle.moments_spans.specs.NameParts.declared.alphabets.Alphabet.TheVariants as alphabet
-use Rattle.moments_spans.specs.NameParts.declared.faults.NameFault.{NameFault}
-use Rattle.moments_spans.specs.NameParts.declared.faults.NameFault.TheVariants.{Empty, TooLong, BadByte}
-use Rattle.moments_spans.specs.NameParts.declared.parts.PartForm.TheVariants.{Letters}
-use Rattle.moments_spans.specs.NameParts.Alphabets.{may_follow}
-use Rattle.moments_spans.specs.NameParts.Grammar.{GoesOn, IsFirstBadPlace}
-use Rattle.moments_spans.specs.NameParts.Parts.{IsPart, alphabet_place, has_alphabet, limited_fault, literal_bad_place, shifted, unempty_fault}
-use Rattle.moments_spans.proofs.NameParts.CutLemmas.{cut_is, literal_bad_place-literal}
-use Rattle.moments_spans.proofs.NameParts.PartLemmas.{unempty_fault-None}
+use Rattle.name_parts.specs.declared.alphabets.Alphabet.{Alphabet}
+use Rattle.name_parts.specs.declared.alphabets.Alphabet.TheVariants as alphabet
+use Rattle.name_parts.specs.declared.faults.NameFault.{NameFault}
+use Rattle.name_parts.specs.declared.faults.NameFault.TheVariants.{Empty, TooLong, BadByte}
+use Rattle.name_parts.specs.declared.parts.PartForm.TheVariants.{Letters}
+use Rattle.name_parts.specs.Alphabets.{may_follow}
+use Rattle.name_parts.specs.Grammar.{GoesOn, IsFirstBadPlace}
+use Rattle.name_parts.specs.Parts.{IsPart, alphabet_place, has_alphabet, limited_fault, literal_bad_place, shifted, unempty_fault}
+use Rattle.name_parts.proofs.CutLemmas.{cut_is, literal_bad_place-literal}
+use Rattle.name_parts.proofs.PartLemmas.{unempty_fault-None}
 use Rattle.std.proofs.lemmas.List.Sums.{prefix_len-le-length}
-use Rattle.moments_spans.proofs.NameParts.PlaceLaws.{letters_break_first}
+use Rattle.name_parts.proofs.PlaceLaws.{letters_break_first}
 use Rattle.names_realms.specs.Realms.{IsRealm, IsSubrealm, bad_subrealm_place, colon_fault, project_len, realm_fault}
 use Rattle.names_realms.specs.Laws.{RealmBreaksFirst}
 use Rattle.names_realms.proofs.CutLaws.{Lacks, cut_alike}

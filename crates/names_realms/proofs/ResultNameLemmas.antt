@@ -3,19 +3,19 @@ use Rattle.std.proofs.Common.{◌≡◌, ℕ, true, not, List, ◌∷◌, ◌++�
 use Rattle.std.specs.Prelude.{◌==◌}
 use Rattle.std.specs.List.{list_all}
 use Rattle.std.proofs.lemmas.List.{take_at, drop_at}
-use Rattle.moments_spans.specs.NameParts.declared.faults.NameFault.{NameFault}
-use Rattle.moments_spans.specs.NameParts.declared.alphabets.Alphabet.TheVariants as alphabet
-use Rattle.moments_spans.specs.NameParts.declared.parts.PartForm.TheVariants.{Letters, TestId}
+use Rattle.name_parts.specs.declared.faults.NameFault.{NameFault}
+use Rattle.name_parts.specs.declared.alphabets.Alphabet.TheVariants as alphabet
+use Rattle.name_parts.specs.declared.parts.PartForm.TheVariants.{Letters, TestId}
 use Rattle.names_realms.specs.declared.result_names.ResultName.{ResultName}
-use Rattle.moments_spans.specs.NameParts.Escapes.{escaped, escaped_fault}
+use Rattle.name_parts.specs.Escapes.{escaped, escaped_fault}
 use Rattle.names_realms.specs.Names.{IsInvocationId, IsTestId, IsResultId, invocation_id_fault, result_id_fault}
-use Rattle.moments_spans.specs.NameParts.Sequences.{up_to_slash}
+use Rattle.name_parts.specs.Sequences.{up_to_slash}
 use Rattle.names_realms.specs.ResultNames.{result_tail, test_tail, result_name, IsResultName, result_tail_fault, test_and_result_fault, test_tail_fault, all_parts_fault, named_fault, result_name_fault}
-use Rattle.moments_spans.proofs.NameParts.PartLemmas.{IsPart-part_fault}
-use Rattle.moments_spans.proofs.NameParts.CutLemmas.{cut_before}
-use Rattle.moments_spans.proofs.NameParts.EscapeLemmas.{escaped-fault}
-use Rattle.moments_spans.proofs.NameParts.ByteLemmas.{IsPart-bytes, escaped_without_slash, invocation_without_slash}
-use Rattle.moments_spans.proofs.NameParts.SequenceLemmas.{behind-None, unless_empty-cons}
+use Rattle.name_parts.proofs.PartLemmas.{IsPart-part_fault}
+use Rattle.name_parts.proofs.CutLemmas.{cut_before}
+use Rattle.name_parts.proofs.EscapeLemmas.{escaped-fault}
+use Rattle.name_parts.proofs.ByteLemmas.{IsPart-bytes, escaped_without_slash, invocation_without_slash}
+use Rattle.name_parts.proofs.SequenceLemmas.{behind-None, unless_empty-cons}
 
 pub up_to_slash-None : (first rest : List ℕ → Option NameFault) (part tail : List ℕ) → list_all (λ x. not (x == 47)) part ≡ true → first part ≡ None → rest (47 ∷ tail) ≡ None → up_to_slash first rest (part ++ 47 ∷ tail) ≡ None
 unfolding up_to_slash

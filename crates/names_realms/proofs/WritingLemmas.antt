@@ -1,8 +1,8 @@
 -- An escaped text is at most three times as long as what it spells.
 use Rattle.std.proofs.Common.{◌≡◌, ℕ, ◌*◌, ◌≤◌, true, false, cond, List, [], ◌∷◌, length, arith, length-append}
 use Rattle.std.specs.List.{flat_map}
-use Rattle.moments_spans.specs.NameParts.Escapes.{escaped, is_plain, spelling}
-use Rattle.moments_spans.proofs.NameParts.SpellingLemmas.{spelling-len}
+use Rattle.name_parts.specs.Escapes.{escaped, is_plain, spelling}
+use Rattle.name_parts.proofs.SpellingLemmas.{spelling-len}
 
 few_for_one : (b : ℕ) → length (spelling b) ≤ 3
 few_for_one b =

@@ -1,12 +1,12 @@
 -- Names of artifacts: `{parent}/artifacts/{escaped artifact id}`.
 use Rattle.std.specs.Prelude.{◌≡◌, ℕ, if◌then◌else◌, nat_eq, nat_lt, Bool, List, ◌++◌, codes, Option}
 use Rattle.std.specs.List.{common_prefix_len}
-use Rattle.moments_spans.specs.NameParts.declared.faults.NameFault.{NameFault}
-use Rattle.moments_spans.specs.NameParts.declared.alphabets.Alphabet.TheVariants as alphabet
-use Rattle.moments_spans.specs.NameParts.declared.parts.PartForm.TheVariants.{Letters, TestId}
+use Rattle.name_parts.specs.declared.faults.NameFault.{NameFault}
+use Rattle.name_parts.specs.declared.alphabets.Alphabet.TheVariants as alphabet
+use Rattle.name_parts.specs.declared.parts.PartForm.TheVariants.{Letters, TestId}
 use Rattle.names_realms.specs.declared.artifact_names.ArtifactName.{ArtifactName}
-use Rattle.moments_spans.specs.NameParts.Sequences.{behind, unless_empty, up_to_slash}
-use Rattle.moments_spans.specs.NameParts.Escapes.{escaped, escaped_fault}
+use Rattle.name_parts.specs.Sequences.{behind, unless_empty, up_to_slash}
+use Rattle.name_parts.specs.Escapes.{escaped, escaped_fault}
 use Rattle.names_realms.specs.Names.{IsArtifactId, invocation_id_fault, result_id_fault}
 use Rattle.names_realms.specs.Parents.{IsParentName, parent_name}
 

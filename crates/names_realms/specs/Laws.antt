@@ -1,9 +1,9 @@
 -- Laws of names: one text names one value, and a text of the grammar has no fault, and so is read.
 use Rattle.std.specs.Prelude.{◌≡◌, ℕ, List, Some, None}
-use Rattle.moments_spans.specs.NameParts.declared.faults.NameFault.TheVariants.{BadByte}
-use Rattle.moments_spans.specs.NameParts.declared.parts.PartForm.{PartForm}
-use Rattle.moments_spans.specs.NameParts.Grammar.{IsFirstBadPlace}
-use Rattle.moments_spans.specs.NameParts.Parts.{IsPart, part_fault}
+use Rattle.name_parts.specs.declared.faults.NameFault.TheVariants.{BadByte}
+use Rattle.name_parts.specs.declared.parts.PartForm.{PartForm}
+use Rattle.name_parts.specs.Grammar.{IsFirstBadPlace}
+use Rattle.name_parts.specs.Parts.{IsPart, part_fault}
 use Rattle.names_realms.specs.declared.result_names.ResultName.{ResultName}
 use Rattle.names_realms.specs.declared.parents.Parent.{Parent}
 use Rattle.names_realms.specs.declared.artifact_names.ArtifactName.{ArtifactName}

@@ -1,5 +1,5 @@
 pub use Rattle.moments_spans.specs as MomentsSpans
-pub use Rattle.moments_spans.specs.NameParts
+pub use Rattle.name_parts.specs as NameParts
 pub mod Names
 pub mod ResultNames
 pub mod Parents

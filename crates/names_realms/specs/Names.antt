@@ -1,10 +1,10 @@
 -- The grammar of ids, and what is wrong with a text that is none.
 use Rattle.std.specs.Prelude.{◌≡◌, ℕ, List, ◌++◌, codes, Option}
-use Rattle.moments_spans.specs.NameParts.declared.faults.NameFault.{NameFault}
-use Rattle.moments_spans.specs.NameParts.declared.alphabets.Alphabet.TheVariants as alphabet
-use Rattle.moments_spans.specs.NameParts.declared.parts.PartForm.TheVariants.{Letters, TestId}
-use Rattle.moments_spans.specs.NameParts.Parts.{IsPart, part_fault}
-use Rattle.moments_spans.specs.NameParts.Sequences.{behind, unless_empty}
+use Rattle.name_parts.specs.declared.faults.NameFault.{NameFault}
+use Rattle.name_parts.specs.declared.alphabets.Alphabet.TheVariants as alphabet
+use Rattle.name_parts.specs.declared.parts.PartForm.TheVariants.{Letters, TestId}
+use Rattle.name_parts.specs.Parts.{IsPart, part_fault}
+use Rattle.name_parts.specs.Sequences.{behind, unless_empty}
 
 -- a lower-case letter, then up to 99 lower-case letters, digits and `_ - : .`
 abbrev pub IsInvocationId : List ℕ → Type 0

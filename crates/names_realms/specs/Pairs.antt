@@ -3,11 +3,11 @@ use Rattle.std.specs.Prelude.{ℕ, ◌≤◌, ◌==◌, if◌then◌else◌, Lis
 use Rattle.std.specs.Option.{option_or}
 use Rattle.std.specs.Str.{IsUtf8}
 use Rattle.std.specs.Str.Lossy.{utf8_valid_len}
-use Rattle.moments_spans.specs.NameParts.declared.faults.NameFault.{NameFault}
-use Rattle.moments_spans.specs.NameParts.declared.parts.PartForm.TheVariants.{PairKey}
+use Rattle.name_parts.specs.declared.faults.NameFault.{NameFault}
+use Rattle.name_parts.specs.declared.parts.PartForm.TheVariants.{PairKey}
 use Rattle.names_realms.specs.declared.pairs.PairFault.{PairFault}
 use Rattle.names_realms.specs.declared.pairs.PairFault.TheVariants.{Key, Value}
-use Rattle.moments_spans.specs.NameParts.Parts.{IsPart, limited_fault, part_fault}
+use Rattle.name_parts.specs.Parts.{IsPart, limited_fault, part_fault}
 
 -- words of lower-case letters, digits and `_`, each of which begins with a letter, parted by `/`,
 -- of at most 64 bytes

@@ -1,9 +1,9 @@
 -- What holds artifacts: an invocation or a result, by its name.
 use Rattle.std.specs.Prelude.{ℕ, ◌==◌, if◌then◌else◌, List, length, codes, Option}
-use Rattle.moments_spans.specs.NameParts.declared.faults.NameFault.{NameFault}
+use Rattle.name_parts.specs.declared.faults.NameFault.{NameFault}
 use Rattle.names_realms.specs.declared.parents.Parent.{Parent}
 use Rattle.names_realms.specs.declared.parents.Parent.TheVariants.{Invocation, Result}
-use Rattle.moments_spans.specs.NameParts.Sequences.{behind, slash_place, unless_empty}
+use Rattle.name_parts.specs.Sequences.{behind, slash_place, unless_empty}
 use Rattle.names_realms.specs.Names.{IsInvocationName, invocation_id_fault, invocation_name}
 use Rattle.names_realms.specs.ResultNames.{IsResultName, all_parts_fault, result_name}
 

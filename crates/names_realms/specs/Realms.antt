@@ -2,11 +2,11 @@
 use Rattle.std.specs.Prelude.{◌≡◌, ℕ, ◌+◌, ◌⊎◌, ◌==◌, if◌then◌else◌, List, [], ◌∷◌, ◌++◌, length, take, drop, codes, Option, Some, option_map}
 use Rattle.std.specs.List.{position_or_len}
 use Rattle.std.specs.Option.{option_or}
-use Rattle.moments_spans.specs.NameParts.declared.faults.NameFault.{NameFault}
-use Rattle.moments_spans.specs.NameParts.declared.faults.NameFault.TheVariants.{Empty, BadByte}
-use Rattle.moments_spans.specs.NameParts.declared.alphabets.Alphabet.TheVariants as alphabet
-use Rattle.moments_spans.specs.NameParts.declared.parts.PartForm.TheVariants.{Letters}
-use Rattle.moments_spans.specs.NameParts.Parts.{IsPart, bad_place, limited_fault, unempty_fault, shifted, literal_bad_place}
+use Rattle.name_parts.specs.declared.faults.NameFault.{NameFault}
+use Rattle.name_parts.specs.declared.faults.NameFault.TheVariants.{Empty, BadByte}
+use Rattle.name_parts.specs.declared.alphabets.Alphabet.TheVariants as alphabet
+use Rattle.name_parts.specs.declared.parts.PartForm.TheVariants.{Letters}
+use Rattle.name_parts.specs.Parts.{IsPart, bad_place, limited_fault, unempty_fault, shifted, literal_bad_place}
 
 -- `@root`, or a part
 abbrev pub IsSubrealm : List ℕ → Type 0

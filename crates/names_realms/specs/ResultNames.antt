@@ -1,10 +1,10 @@
 -- Names of results: `invocations/{id}/tests/{escaped test id}/results/{result id}`.
 use Rattle.std.specs.Prelude.{◌≡◌, ℕ, List, ◌++◌, codes, Option}
-use Rattle.moments_spans.specs.NameParts.declared.faults.NameFault.{NameFault}
-use Rattle.moments_spans.specs.NameParts.declared.parts.PartForm.TheVariants.{TestId}
+use Rattle.name_parts.specs.declared.faults.NameFault.{NameFault}
+use Rattle.name_parts.specs.declared.parts.PartForm.TheVariants.{TestId}
 use Rattle.names_realms.specs.declared.result_names.ResultName.{ResultName}
-use Rattle.moments_spans.specs.NameParts.Sequences.{behind, unless_empty, up_to_slash}
-use Rattle.moments_spans.specs.NameParts.Escapes.{escaped, escaped_fault}
+use Rattle.name_parts.specs.Sequences.{behind, unless_empty, up_to_slash}
+use Rattle.name_parts.specs.Escapes.{escaped, escaped_fault}
 use Rattle.names_realms.specs.Names.{IsInvocationId, IsTestId, IsResultId, invocation_id_fault, result_id_fault}
 
 -- what stands behind the escaped test id, and behind the invocation's id

@@ -1,8 +1,8 @@
 //! Names of artifacts.
 ghost use Rattle.std.specs.Prelude.{◌≡◌, ◌≢◌, ◌≤◌, ◌++◌, List, ℕ, codes, length, take, IfOk, IfErr, OnOk, OnErr, None};
 ghost use Rattle.std.specs.Prelude.{Some};
-ghost use Rattle.moments_spans.specs.NameParts.Parts.{place_of};
-ghost use Rattle.moments_spans.specs.NameParts.Escapes.{escaped};
+ghost use Rattle.name_parts.specs.Parts.{place_of};
+ghost use Rattle.name_parts.specs.Escapes.{escaped};
 ghost use Rattle.names_realms.specs.Names.{IsArtifactId, IsInvocationId, IsResultId, IsTestId, result_id_fault};
 ghost use Rattle.names_realms.specs.ResultNames.{result_name};
 ghost use Rattle.names_realms.specs.declared.artifact_names.ArtifactName.{ArtifactName};
@@ -15,7 +15,7 @@ ghost use Rattle.names_realms.specs.ArtifactNames.{test_and_rest_fault, test_art
 use crate::ids::{ArtifactId, InvocationId, ResultId, TestId};
 use crate::parents::{Parent, parent_name_len, push_parent_name};
 use crate::result_names::{ResultName, read_invocation, read_test};
-use moments_spans::name_parts::{
+use name_parts::{
     Alphabet, NameFault, PartForm, all_or_nothing, append, append_escaped, escaped_len, len_before,
     moved, read_escaped, read_part, rest_behind,
 };
@@ -37,7 +37,7 @@ struct Ids {
 }
 
 /// Reads `/artifacts/` and an escaped artifact id.
-#[tactic(auto, unfolding(crate::specs::ArtifactNames::artifact_tail_fault, moments_spans::specs::NameParts::Sequences::behind))]
+#[tactic(auto, unfolding(crate::specs::ArtifactNames::artifact_tail_fault, name_parts::specs::Sequences::behind))]
 fn read_artifact_tail(alloc: Global, text: &[u8]) -> Result<ArtifactId, NameFault>
     ensures ok { IfOk result (λ a. (text.now ≡ artifact_tail a) × IsArtifactId a) }
     ensures fault { IfErr result
@@ -63,7 +63,7 @@ fn read_result(alloc: Global, text: &[u8]) -> Result<ResultId, NameFault>
 }
 
 /// Reads a result's id, `/artifacts/` and an escaped artifact id.
-#[tactic(auto, unfolding(crate::specs::ArtifactNames::result_and_artifact_fault, moments_spans::specs::NameParts::Sequences::up_to_slash))]
+#[tactic(auto, unfolding(crate::specs::ArtifactNames::result_and_artifact_fault, name_parts::specs::Sequences::up_to_slash))]
 fn read_result_and_artifact(alloc: Global, text: &[u8]) -> Result<(ResultId, ArtifactId), NameFault>
     ensures ok { IfOk result (λ r. text.now ≡ r.0 ++ artifact_tail r.1) }
     ensures grammar { IfOk result (λ r. IsResultId r.0 × IsArtifactId r.1) }
@@ -81,7 +81,7 @@ fn read_result_and_artifact(alloc: Global, text: &[u8]) -> Result<(ResultId, Art
 }
 
 /// Reads `/results/` and what `read_result_and_artifact` reads.
-#[tactic(auto, unfolding(crate::specs::ArtifactNames::result_artifact_tail_fault, moments_spans::specs::NameParts::Sequences::behind))]
+#[tactic(auto, unfolding(crate::specs::ArtifactNames::result_artifact_tail_fault, name_parts::specs::Sequences::behind))]
 fn read_result_tail(alloc: Global, text: &[u8]) -> Result<(ResultId, ArtifactId), NameFault>
     ensures ok { IfOk result (λ r. text.now ≡ codes "/results/" ++ (r.0 ++ artifact_tail r.1)) }
     ensures grammar { IfOk result (λ r. IsResultId r.0 × IsArtifactId r.1) }
@@ -97,7 +97,7 @@ fn read_result_tail(alloc: Global, text: &[u8]) -> Result<(ResultId, ArtifactId)
 }
 
 /// Reads an escaped test id and what `read_result_tail` reads.
-#[tactic(auto, unfolding(crate::specs::ArtifactNames::test_and_rest_fault, moments_spans::specs::NameParts::Sequences::up_to_slash))]
+#[tactic(auto, unfolding(crate::specs::ArtifactNames::test_and_rest_fault, name_parts::specs::Sequences::up_to_slash))]
 fn read_test_and_rest(alloc: Global, text: &[u8]) -> Result<Ids, NameFault>
     ensures ok { IfOk result
         (λ r. text.now ≡ escaped r.test
@@ -122,7 +122,7 @@ fn read_test_and_rest(alloc: Global, text: &[u8]) -> Result<Ids, NameFault>
 }
 
 /// Reads `/tests/` and what `read_test_and_rest` reads.
-#[tactic(auto, unfolding(crate::specs::ArtifactNames::test_artifact_tail_fault, moments_spans::specs::NameParts::Sequences::behind))]
+#[tactic(auto, unfolding(crate::specs::ArtifactNames::test_artifact_tail_fault, name_parts::specs::Sequences::behind))]
 fn read_test_tail(alloc: Global, text: &[u8]) -> Result<Ids, NameFault>
     ensures ok { IfOk result
         (λ r. text.now ≡ codes "/tests/"
@@ -216,7 +216,7 @@ fn read_behind_id(
 }
 
 /// Reads what stands behind `invocations/` in the name of an artifact.
-#[tactic(auto, unfolding(crate::specs::ArtifactNames::artifact_parts_fault, moments_spans::specs::NameParts::Sequences::up_to_slash))]
+#[tactic(auto, unfolding(crate::specs::ArtifactNames::artifact_parts_fault, name_parts::specs::Sequences::up_to_slash))]
 fn read_parts(alloc: Global, text: &[u8]) -> Result<ArtifactName, NameFault>
     ensures ok { IfOk result (λ a. codes "invocations/" ++ text.now ≡ artifact_name a) }
     ensures grammar { IfOk result (λ a. IsArtifactName a (artifact_name a)) }
@@ -234,7 +234,7 @@ fn read_parts(alloc: Global, text: &[u8]) -> Result<ArtifactName, NameFault>
 }
 
 /// Reads the name of an artifact.
-#[tactic(auto, unfolding(crate::specs::ArtifactNames::artifact_named_fault, moments_spans::specs::NameParts::Sequences::behind))]
+#[tactic(auto, unfolding(crate::specs::ArtifactNames::artifact_named_fault, name_parts::specs::Sequences::behind))]
 fn read_named(alloc: Global, text: &[u8]) -> Result<ArtifactName, NameFault>
     ensures ok { IfOk result (λ a. text.now ≡ artifact_name a) }
     ensures grammar { IfOk result (λ a. IsArtifactName a (artifact_name a)) }

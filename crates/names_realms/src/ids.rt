@@ -4,9 +4,7 @@ ghost use Rattle.names_realms.specs.Names.{IsArtifactId, IsInvocationId, IsInvoc
 ghost use Rattle.names_realms.specs.Names.{artifact_id_fault, invocation_id_fault, invocation_name_fault};
 ghost use Rattle.names_realms.specs.Names.{result_id_fault, test_id_fault};
 
-use moments_spans::name_parts::{
-    Alphabet, NameFault, PartForm, append, read_name, read_part, same,
-};
+use name_parts::{Alphabet, NameFault, PartForm, append, read_name, read_part, same};
 use std::alloc::{AllocError, Global};
 use std::marker::Model;
 

@@ -16,8 +16,8 @@ mod variants;
 
 pub use artifact_names::ArtifactName;
 pub use ids::{ArtifactId, InvocationId, ResultId, TestId};
-pub use moments_spans::name_parts::{Bytes, NameFault, Numbers};
-pub use moments_spans::{Moment, Span, lists, name_parts};
+pub use moments_spans::{Moment, Span};
+pub use name_parts::{self, Bytes, NameFault, Numbers, lists};
 pub use pairs::{Pair, PairFault};
 pub use parents::Parent;
 pub use realms::Realm;

@@ -1,9 +1,9 @@
 //! Pairs of a key and a value.
 ghost use Rattle.std.specs.Prelude.{◌≡◌, ◌≢◌, ◌≤◌, length, IfOk, IfErr, IfSome, Some};
-ghost use Rattle.moments_spans.specs.NameParts.Parts.{place_of};
+ghost use Rattle.name_parts.specs.Parts.{place_of};
 ghost use Rattle.names_realms.specs.Pairs.{IsPairKey, IsPairValue, pair_fault, pair_value_fault, utf8_place};
 
-use moments_spans::name_parts::{Bytes, NameFault, PartForm, fault_of_part, limited, utf8_len};
+use name_parts::{Bytes, NameFault, PartForm, fault_of_part, limited, utf8_len};
 use std::alloc::{AllocError, AllocFailed, Global};
 
 /// A key and a value, of a variant or a tag.

@@ -1,6 +1,6 @@
 //! What holds artifacts.
 ghost use Rattle.std.specs.Prelude.{◌≡◌, ◌≢◌, ◌≤◌, ◌++◌, List, ℕ, codes, length, take, IfOk, IfErr, OnOk, OnErr, Some};
-ghost use Rattle.moments_spans.specs.NameParts.Parts.{place_of};
+ghost use Rattle.name_parts.specs.Parts.{place_of};
 ghost use Rattle.names_realms.specs.declared.parents.Parent.{Parent};
 ghost use Rattle.names_realms.specs.Parents.{IsParentName, parent_fault, parent_name, parent_named_fault};
 ghost use Rattle.names_realms.specs.Parents.{parent_parts_fault};
@@ -9,9 +9,7 @@ use crate::ids::InvocationId;
 use crate::result_names::{
     ResultName, push_result_name, read_all_parts, read_invocation, result_name_len,
 };
-use moments_spans::name_parts::{
-    NameFault, all_or_nothing, append, len_before, moved, rest_behind,
-};
+use name_parts::{NameFault, all_or_nothing, append, len_before, moved, rest_behind};
 use std::alloc::{AllocError, Global};
 
 /// What holds artifacts: an invocation, or a result.
@@ -39,7 +37,7 @@ fn read_parts(alloc: Global, text: &[u8]) -> Result<Parent, NameFault>
 }
 
 /// Reads a parent's name.
-#[tactic(auto, unfolding(crate::specs::Parents::parent_named_fault, moments_spans::specs::NameParts::Sequences::behind))]
+#[tactic(auto, unfolding(crate::specs::Parents::parent_named_fault, name_parts::specs::Sequences::behind))]
 fn read_named(alloc: Global, text: &[u8]) -> Result<Parent, NameFault>
     ensures ok { IfOk result (λ p. IsParentName p text.now) }
     ensures fault { IfErr result

@@ -3,7 +3,7 @@ ghost use Rattle.std.specs.Prelude.{◌≡◌, ◌≢◌, ◌+◌, ◌^◌, ◌<
 ghost use Rattle.std.specs.Prelude.{IsTrue, Some};
 ghost use Rattle.names_realms.specs.Realms.{IsRealm, bad_subrealm_place, colon_fault, realm_fault};
 
-use moments_spans::name_parts::{
+use name_parts::{
     Alphabet, NameFault, PartForm, append, bad_in_literal, fault_unless_empty, first_bad,
     len_before, limited, owned_text, same, shifted_fault,
 };

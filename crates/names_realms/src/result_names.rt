@@ -1,8 +1,8 @@
 //! Names of results.
 ghost use Rattle.std.specs.Prelude.{◌≡◌, ◌≢◌, ◌≤◌, ◌++◌, ℕ, List, codes, length, take, IfOk, IfErr, OnOk, OnErr, None};
 ghost use Rattle.std.specs.Prelude.{Some};
-ghost use Rattle.moments_spans.specs.NameParts.Parts.{place_of};
-ghost use Rattle.moments_spans.specs.NameParts.Escapes.{escaped, escaped_fault};
+ghost use Rattle.name_parts.specs.Parts.{place_of};
+ghost use Rattle.name_parts.specs.Escapes.{escaped, escaped_fault};
 ghost use Rattle.names_realms.specs.Names.{IsInvocationId, IsResultId, IsTestId, invocation_id_fault};
 ghost use Rattle.names_realms.specs.declared.result_names.ResultName.{ResultName};
 ghost use Rattle.names_realms.specs.ResultNames.{IsResultName, all_parts_fault, named_fault, result_name};
@@ -10,7 +10,7 @@ ghost use Rattle.names_realms.specs.ResultNames.{result_name_fault, result_tail,
 ghost use Rattle.names_realms.specs.ResultNames.{test_and_result_fault, test_tail, test_tail_fault};
 
 use crate::ids::{InvocationId, ResultId, TestId};
-use moments_spans::name_parts::{
+use name_parts::{
     Alphabet, NameFault, PartForm, all_or_nothing, append, append_escaped, escaped_len, len_before,
     moved, read_behind, read_escaped, read_part, rest_behind,
 };
@@ -53,7 +53,7 @@ pub(crate) fn read_test(alloc: Global, text: &[u8]) -> Result<TestId, NameFault>
 }
 
 /// Reads an escaped test id, `/results/` and a result's id.
-#[tactic(auto, unfolding(crate::specs::ResultNames::test_and_result_fault, moments_spans::specs::NameParts::Sequences::up_to_slash))]
+#[tactic(auto, unfolding(crate::specs::ResultNames::test_and_result_fault, name_parts::specs::Sequences::up_to_slash))]
 fn read_test_and_result(alloc: Global, text: &[u8]) -> Result<(TestId, ResultId), NameFault>
     ensures ok { IfOk result (λ r. text.now ≡ escaped r.0 ++ result_tail r.1) }
     ensures grammar { IfOk result (λ r. IsTestId r.0 × IsResultId r.1) }
@@ -71,7 +71,7 @@ fn read_test_and_result(alloc: Global, text: &[u8]) -> Result<(TestId, ResultId)
 }
 
 /// Reads `/tests/` and what `read_test_and_result` reads.
-#[tactic(auto, unfolding(crate::specs::ResultNames::test_tail_fault, moments_spans::specs::NameParts::Sequences::behind))]
+#[tactic(auto, unfolding(crate::specs::ResultNames::test_tail_fault, name_parts::specs::Sequences::behind))]
 fn read_test_tail(alloc: Global, text: &[u8]) -> Result<(TestId, ResultId), NameFault>
     ensures ok { IfOk result (λ r. text.now ≡ test_tail r.0 r.1) }
     ensures grammar { IfOk result (λ r. IsTestId r.0 × IsResultId r.1) }
@@ -98,7 +98,7 @@ pub(crate) fn read_invocation(alloc: Global, text: &[u8]) -> Result<InvocationId
 }
 
 /// Reads what stands behind `invocations/` in the name of a result.
-#[tactic(auto, unfolding(crate::specs::ResultNames::all_parts_fault, moments_spans::specs::NameParts::Sequences::up_to_slash))]
+#[tactic(auto, unfolding(crate::specs::ResultNames::all_parts_fault, name_parts::specs::Sequences::up_to_slash))]
 pub(crate) fn read_all_parts(alloc: Global, text: &[u8]) -> Result<ResultName, NameFault>
     ensures ok { IfOk result (λ r. text.now ≡ r.invocation ++ test_tail r.test r.result) }
     ensures invocation { IfOk result (λ r. IsInvocationId r.invocation) }
@@ -120,7 +120,7 @@ pub(crate) fn read_all_parts(alloc: Global, text: &[u8]) -> Result<ResultName, N
 }
 
 /// Reads `invocations/` and what `read_all_parts` reads.
-#[tactic(auto, unfolding(crate::specs::ResultNames::named_fault, crate::specs::ResultNames::result_name, moments_spans::specs::NameParts::Sequences::behind))]
+#[tactic(auto, unfolding(crate::specs::ResultNames::named_fault, crate::specs::ResultNames::result_name, name_parts::specs::Sequences::behind))]
 fn read_named(alloc: Global, text: &[u8]) -> Result<ResultName, NameFault>
     ensures ok { IfOk result (λ r. IsResultName r text.now) }
     ensures fault { IfErr result (λ f. f ≢ NameFault.Memory → named_fault text.now ≡ Some f) }

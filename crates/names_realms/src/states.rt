@@ -1,7 +1,7 @@
 //! How far an invocation has come, and how a test ended.
 
 use moments_spans::Span;
-use moments_spans::name_parts::Bytes;
+use name_parts::Bytes;
 
 /// The state of an invocation. It goes from the first to the last, never back.
 #[derive(Clone, Copy, Debug, PartialEq, Eq)]

@@ -8,7 +8,7 @@ ghost use Rattle.names_realms.specs.declared.pairs.Pair.{Pair};
 ghost use Rattle.names_realms.specs.Variants.{IsAscending, IsFirstRepeat, label_of, pair_bytes, pair_of};
 
 use crate::pairs::Pair;
-use moments_spans::name_parts::{Bytes, NameFault};
+use name_parts::{Bytes, NameFault};
 use sha2::{Digest, Sha256};
 use std::alloc::{AllocError, Global};
 use std::collections::BTreeMap;

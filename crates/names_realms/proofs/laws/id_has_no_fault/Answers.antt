@@ -1,4 +1,4 @@
-use Rattle.moments_spans.proofs.NameParts.PartLemmas.{IsPart-part_fault}
+use Rattle.name_parts.proofs.PartLemmas.{IsPart-part_fault}
 use Rattle.names_realms.proofs.laws.id_has_no_fault.Goals as goal
 
 pub returns : goal.returns

@@ -1,6 +1,6 @@
 use Rattle.std.proofs.Common.{codes}
 use Rattle.names_realms.specs.ResultNames.{all_parts_fault, named_fault}
-use Rattle.moments_spans.proofs.NameParts.SequenceLemmas.{behind-other}
+use Rattle.name_parts.proofs.SequenceLemmas.{behind-other}
 use Rattle.names_realms.proofs.result_names.read_named.Goals as goal
 
 pub returns-in-Err-clause-fault : goal.returns-in-Err-clause-fault

@@ -2,7 +2,7 @@ use Rattle.std.proofs.Common.{◌≡◌, ◌+◌, List, [], ◌∷◌, ◌++◌,
 use Rattle.std.specs.Prelude.{IsPermutation}
 use Rattle.std.proofs.lemmas.List.{length-map, nil_from_length}
 use Rattle.std.proofs.lemmas.List.Sorted.{length_permutation}
-use Rattle.moments_spans.specs.NameParts.declared.faults.NameFault.TheVariants.{NotCanonical}
+use Rattle.name_parts.specs.declared.faults.NameFault.TheVariants.{NotCanonical}
 use Rattle.names_realms.specs.declared.pairs.Pair.{Pair}
 use Rattle.names_realms.specs.Variants.{IsAscending, label_of, pair_of}
 use Rattle.names_realms.proofs.VariantLemmas.{ascending_entries, first_repeat, none_of, one_more, some_of}
