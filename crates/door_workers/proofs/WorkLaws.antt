@@ -10,7 +10,7 @@ use Rattle.tellers.specs.Exchange.{Exchange}
 use Rattle.door_workers.specs.Visits.{Visit, exchanges_on, WasServed}
 use Rattle.door_workers.specs.Steps.{ServesOne}
 use Rattle.door_workers.specs.Tallies.{nothing_counted, one_link_more}
-use Rattle.door_workers.specs.Work.{Work}
+use Rattle.door_workers.specs.Work.{Work, ServesDoor}
 use Rattle.door_workers.specs.Workers.{WasAsked}
 use Rattle.door_workers.specs.declared.tally.Tally.{Tally}
 use Rattle.door_workers.proofs.VisitLaws.{nothing_passed, passed_more}
@@ -59,3 +59,18 @@ same_failed tally now calls now_is = ap (λ (t : Tally). t.failed) now_is
 
 pub none_failed : (tally : Tally) → tally ≡ nothing_counted → tally.failed ≡ false
 none_failed tally none = ap (λ (t : Tally). t.failed) none
+
+-- what says as much of the exchanges
+pub asked_alike : {L : Type 0} (ends : L → Ends) (holds : L → List GName) (asked asked_too : List Exchange → Type 0) (before : Dials L) (tally : Tally)
+    (after : Dials L) → ((exchanges : List Exchange) → asked exchanges → asked_too exchanges) → ServesDoor ends holds asked before tally after
+    → ServesDoor ends holds asked_too before tally after
+asked_alike ends holds asked asked_too before tally after alike serves = record {
+  work = record {
+    visits = serves.work.visits;
+    served = serves.work.served;
+    passed = serves.work.passed;
+    asked_all = alike _ serves.work.asked_all;
+    counts = serves.work.counts;
+  };
+  end = serves.end;
+}

@@ -2,6 +2,7 @@
 #![tactic(auto)]
 
 mod door;
+mod reader;
 mod tally;
 #[cfg(test)]
 mod tests;

@@ -7,7 +7,7 @@ use std::alloc::{AllocError, Global};
 use std::io::{Read, Write};
 use std::net::{Net, OpenStream, Shutdown, SocketAddr, TcpListener, TcpStream};
 use std::process::Abort;
-use std::sync::atomic::{AtomicBool, Ordering};
+use std::sync::atomic::{AtomicBool, AtomicU64, Ordering};
 use std::test::Fail;
 use std::{hint, io};
 use tellers::Teller;
@@ -179,6 +179,122 @@ fn workers_work_side_by_side(rt: HostRuntime) -> Result<(), Fail> {
             (tally.connections, tally.calls, tally.failed),
             (1, 1, false)
         );
+        check_replies(&rt, door, &[Some(1)]);
+    }
+    Ok(())
+}
+
+const LARGE_CALL: &[u8] = b"POST /prpc/a/b HTTP/1.1\r\nContent-Length: 4194304\r\n\r\n";
+
+/// As many bytes as a body may have: the room has place for two.
+const MOST_BODY: usize = 4 * 1024 * 1024;
+
+/// How long a large body is read.
+const STAY: u64 = 1_000_000;
+
+/// How many are reading large bodies, and whether a small one was told meanwhile.
+#[derive(Drop)]
+struct Reading {
+    large: AtomicU64,
+    small_was_told: AtomicBool,
+}
+
+/// A teller that stays with a large body until a small one was told, and then for a while.
+#[derive(Drop)]
+struct Watcher<'a> {
+    reading: &'a Reading,
+    /// At most two large bodies were read at once, and small ones beside them.
+    saw_it: bool,
+}
+
+impl Watcher<'_> {
+    fn read_small(&mut self) {
+        for _ in 0..MOST_LOOKS {
+            if self.reading.large.load(Ordering::SeqCst) > 0 {
+                self.saw_it = true;
+                break;
+            }
+            hint::spin_loop();
+        }
+        self.reading.small_was_told.store(true, Ordering::SeqCst);
+    }
+
+    fn read_large(&mut self) {
+        self.reading.large.fetch_add(1, Ordering::SeqCst);
+        for _ in 0..MOST_LOOKS {
+            if self.reading.small_was_told.load(Ordering::SeqCst) {
+                self.saw_it = true;
+                break;
+            }
+            hint::spin_loop();
+        }
+        for _ in 0..STAY {
+            if self.reading.large.load(Ordering::SeqCst) > 2 {
+                self.saw_it = false;
+            }
+            hint::spin_loop();
+        }
+        self.reading.large.fetch_sub(1, Ordering::SeqCst);
+    }
+}
+
+impl Teller for Watcher<'_> {
+    ghost use Rattle.std.specs.Prelude.{[]};
+
+    ghost stands = { λ _ _ _. Unit {0} };
+
+    ghost holds = { λ _. [] };
+
+    fn tell(&mut self, asked: &Asked) -> Told {
+        if asked.body.as_slice().is_empty() {
+            self.read_small();
+        } else {
+            self.read_large();
+        }
+        Told::Standin(Standin::Spent)
+    }
+}
+
+/// A worker with a door of one link, on which these bytes come in.
+fn watching_worker<'a>(
+    alloc: Global,
+    reading: &'a Reading,
+    link: &[&[u8]],
+) -> Result<Worker<MemoryDoor<MemoryLink>, Watcher<'a>>, AllocError> {
+    Ok(Worker {
+        door: door_of(alloc, &[link], Vec::new(alloc))?,
+        teller: Watcher {
+            reading,
+            saw_it: false,
+        },
+    })
+}
+
+#[test]
+fn two_large_bodies_are_read_at_once_and_small_ones_beside_them(
+    rt: HostRuntime,
+) -> Result<(), Fail> {
+    let reading = Reading {
+        large: AtomicU64::new(0),
+        small_was_told: AtomicBool::new(false),
+    };
+    let body = vec![in rt.alloc(); b'x'; MOST_BODY]?;
+    let large: [&[u8]; 2] = [LARGE_CALL, body.as_slice()];
+    let mut workers = vec![in rt.alloc(); watching_worker(rt.alloc(), &reading, &[CALL])?]?;
+    for _ in 0..3 {
+        workers.push(watching_worker(rt.alloc(), &reading, &large)?)?;
+    }
+    let Ok(all) = serve_doors(&rt, rt.alloc(), workers) else {
+        return Err(Fail::from("no memory"));
+    };
+    assert_eq!(rt; all.len(), 4);
+    for Worked {
+        door,
+        teller,
+        tally,
+    } in &all {
+        assert!(rt; teller.saw_it);
+        assert_eq!(rt; tally.calls, 1);
         check_replies(&rt, door, &[Some(1)]);
     }
     Ok(())

@@ -4,10 +4,14 @@ ghost use Rattle.std.specs.List.{AllZip};
 ghost use Rattle.tellers.specs.Exchange.{StandsForSome};
 ghost use Rattle.door_workers.specs.Workers.{IsWorked, job_of, worker_of};
 
+use crate::reader::Reader;
 use crate::{Tally, serve_door};
 use doors::Door;
+use reading_rooms::ReadingRoom;
 use std::alloc::Global;
+use std::marker::Brand;
 use std::sync::Wait;
+use std::sync::ledger::{Blank, Ledger};
 use std::thread;
 use std::thread::Threads;
 use tellers::Teller;
@@ -48,32 +52,45 @@ fn jobs_of<A: Drop, T: Drop>(
     Ok(jobs)
 }
 
-/// Serves one worker's door.
-fn work<R: Wait, A: Door, T: Teller>(rt: &R, alloc: Global, job: &mut Worked<A, T>)
+/// The most bytes of large bodies that all workers read at once.
+const ROOM: u64 = 8_388_608;
+
+/// Serves one worker's door. Its large bodies are read in the room.
+fn work<B: Ledger, R: Wait, A: Door, T: Teller>(
+    rt: &R,
+    alloc: Global,
+    room: &ReadingRoom<B>,
+    job: &mut Worked<A, T>,
+)
     requires { StandsForSome T.stands job.old.teller }
     ensures { IsWorked A.tells A.L.ends A.L.holds T.stands T.holds (worker_of job.old) job.new }
 {
-    job.tally = serve_door(rt, alloc, &mut job.door, &mut job.teller);
+    let teller = &mut job.teller;
+    let mut reader = Reader { rt, room, teller };
+    job.tally = serve_door(rt, alloc, &mut job.door, &mut reader);
 }
 
-/// Serves the doors of all workers, each in a thread of its own.
-fn work_all<R: Threads + Wait + Sync, A: Door + Send, T: Teller + Send>(
+/// Serves the doors of all workers, each in a thread of its own, with one room for all.
+fn work_all<B: Ledger + Send + Sync, R: Threads + Wait + Sync, A: Door + Send, T: Teller + Send>(
     rt: &R,
     alloc: Global,
+    blank: Blank,
     jobs: &mut [Worked<A, T>],
 )
 where
     A::L: Send,
-    requires { All (λ job. StandsForSome T.stands job.teller) jobs.old }
+    requires room { (blank.name ≡ B.name) × (blank.parts ≡ B.parts) × (B.parts ≡ 8388608) }
+    requires stands { All (λ job. StandsForSome T.stands job.teller) jobs.old }
     ensures { (i : ℕ) (d : _) → i < length jobs.old
         → IsWorked A.tells A.L.ends A.L.holds T.stands T.holds
         (worker_of (slice_index_or jobs.old i d)) (slice_index_or jobs.new i d) }
 {
     let threads = jobs.len().max(1);
+    let room = ReadingRoom::<B>::new(ROOM, blank);
     let serve = |_: usize, job: &mut Worked<A, T>|
         requires { StandsForSome T.stands job.old.teller }
         ensures { IsWorked A.tells A.L.ends A.L.holds T.stands T.holds (worker_of job.old) job.new }
-    { work(rt, alloc, job) };
+    { work(rt, alloc, &room, job) };
     thread::for_each_mut(rt, jobs, threads, &serve);
 }
 
@@ -94,6 +111,6 @@ where
     ensures err { IfErr result (λ back. back.items ≡ workers.items) }
 {
     let mut jobs = jobs_of(alloc, workers)?;
-    work_all(rt, alloc, jobs.as_mut_slice());
+    work_all::<Brand, _, _, _>(rt, alloc, Blank::new(ROOM), jobs.as_mut_slice());
     Ok(jobs)
 }

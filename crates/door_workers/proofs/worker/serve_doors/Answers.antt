@@ -15,6 +15,6 @@ returns-clause-ok g c =
     (zip_workers Did c.args.workers.items c.as_mut_slice.result.now done (c.as_mut_slice.ensures.value ∙ c.in_ok-jobs.ensures.ok)
     c.work_all.auto.jobs c.work_all.ensures)
 
-pub work_all-requires-after_bounds : goal.work_all-requires-after_bounds
-work_all-requires-after_bounds g c κs within =
+pub work_all-requires-clause-stands : goal.work_all-requires-clause-stands
+work_all-requires-clause-stands g c κs within =
     jobs_stand g.T.Teller.stands c.args.workers.items c.as_mut_slice.result.now (c.as_mut_slice.ensures.value ∙ c.in_ok-jobs.ensures.ok) c.requires

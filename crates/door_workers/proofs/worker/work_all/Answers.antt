@@ -6,7 +6,7 @@ use Rattle.door_workers.proofs.worker.work_all.Goals as goal
 
 pub for_each_mut-requires-clause-accepts : goal.for_each_mut-requires-clause-accepts
 for_each_mut-requires-clause-accepts g c κs within = λ i p below at.
-    subst (λ (job : Worked g.row.A.Denot g.row.T.Denot). StandsForSome g.T.Teller.stands job.teller) (sym at) (c.requires i p.now below)
+    subst (λ (job : Worked g.row.A.Denot g.row.T.Denot). StandsForSome g.T.Teller.stands job.teller) (sym at) (c.requires.stands i p.now below)
 
 pub returns : goal.returns
 returns g c = λ i d below.
