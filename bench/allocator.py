@@ -17,7 +17,12 @@ import time
 sys.path.insert(0, str(pathlib.Path(__file__).resolve().parent.parent / "tests"))
 import harness  # noqa: E402
 
-SETTINGS = {"MALLOC_TRIM_THRESHOLD_": "268435456", "MALLOC_TOP_PAD_": "67108864"}
+SETTINGS = {
+    "MALLOC_TRIM_THRESHOLD_": "268435456",
+    "MALLOC_TOP_PAD_": "62914560",
+    "MALLOC_ARENA_MAX": "4",
+    "GLIBC_TUNABLES": "glibc.malloc.tcache_count=0",
+}
 REQUESTS, BODY, ROUNDS = 400, 144_000, 5
 
 
