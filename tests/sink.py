@@ -79,6 +79,7 @@ class Farm:
         self.cuts = []  # of the links that are to come; those behind them are whole
         self.links = 0
         self.broken = 0
+        self.turn = threading.Lock()  # of the one process that may have the journal
 
     def __enter__(self):
         self.server = socket.create_server(("127.0.0.1", 0))
@@ -100,7 +101,7 @@ class Farm:
             except OSError:
                 return
             self.links += 1
-            with link:
+            with self.turn, link:
                 link.setsockopt(socket.IPPROTO_TCP, socket.TCP_NODELAY, 1)
                 words = harness.words(self.folder, journal=self.journal)
                 program = subprocess.Popen(
@@ -113,13 +114,15 @@ class Farm:
 
     def told(self, stream):
         """What the program tells of a stream of requests over the journal."""
-        out, errors, status = harness.run(stream, self.folder, journal=self.journal)
+        with self.turn:
+            out, errors, status = harness.run(stream, self.folder, journal=self.journal)
         same((errors, status), (b"", 0))
         return [told_by(int(head.split(b" ")[1]), body) for head, body in harness.replies(out)]
 
     def counts(self):
         """How many results the journal has, and how many numbered requests."""
-        done = subprocess.run([RDB, "check", "--journal", self.journal], capture_output=True, timeout=SECONDS)
+        with self.turn:
+            done = subprocess.run([RDB, "check", "--journal", self.journal], capture_output=True, timeout=SECONDS)
         found = COUNTS.fullmatch(done.stdout)
         if not found or done.returncode:
             raise Wrong(f"counted {done!r}")
