@@ -33,6 +33,12 @@ LISTED = {
     "functions": {
         "json_fields": 101,
     },
+    "paths": {
+        "rdb_program": 34022,
+        "serve_runs": 16597,
+        "served_desk": 8464,
+        "service_desk": 4208,
+    },
     "wide lines": {
         "call_forms": 4,
         "core_trial": 5,

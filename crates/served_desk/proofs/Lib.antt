@@ -1,4 +1,3 @@
-pub use Rattle.service_desk.proofs.RecordDesk
 pub mod SeatLaws
 pub mod PostLaws
 pub mod AttendLaws

@@ -1,4 +1,3 @@
-pub use Rattle.record_desk.proofs as RecordDesk
 pub mod TurnLaws
 pub mod ShelfLaws
 pub mod SendLaws
