@@ -33,12 +33,6 @@ LISTED = {
     "functions": {
         "json_fields": 101,
     },
-    "paths": {
-        "rdb_program": 34022,
-        "serve_runs": 16597,
-        "served_desk": 8464,
-        "service_desk": 4208,
-    },
     "wide lines": {
         "call_forms": 4,
         "core_trial": 5,
@@ -54,7 +48,7 @@ LISTED = {
         "permissions": 3,
         "policy_trial": 2,
         "program_words": 8,
-        "result_journal": 28,
+        "result_journal": 23,
         "tellers": 1,
         "turnstile": 1,
         "turnstile_trial": 1,

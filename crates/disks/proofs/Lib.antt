@@ -1,3 +1,2 @@
-pub mod MomentLaws
 pub mod WholeLaws
 pub mod AheadLaws

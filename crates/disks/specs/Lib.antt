@@ -1,5 +1,7 @@
 pub mod Parts
+pub mod PartLaws
 pub mod Moments
+pub mod MomentLaws
 pub mod Calls
 pub mod States
 pub mod PartStates

@@ -46,6 +46,16 @@ abbrev pub part_of : Parts → ℕ → Part
 part_of parts zero = parts.first
 part_of parts (suc n) = parts.second
 
+-- The other of the two parts.
+abbrev pub other_part : ℕ → ℕ
+other_part zero = 1
+other_part (suc n) = 0
+
+-- What an image has of a part.
+abbrev pub image_of : Image → ℕ → List ℕ
+image_of image zero = image.first
+image_of image (suc n) = image.second
+
 -- The parts with another one in this place.
 abbrev pub with_part : Parts → ℕ → Part → Parts
 with_part parts zero part = record parts { first = part }

@@ -19,7 +19,7 @@ pub use disk::Disk;
 pub use fault_counts::Failed;
 pub use file::FileDisk;
 pub use held::Holdable;
-pub use laws::moments_add_up;
+pub use laws::{moments_add_up, parts_are_two};
 pub use memory::MemoryDisk;
 pub use range::Range;
 

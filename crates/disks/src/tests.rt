@@ -118,6 +118,7 @@ fn files_are_parts(rt: HostRuntime) -> Result<(), Fail> {
     assert_eq!(rt; (&room[..3], disk.faults()), (b"abc".as_slice(), 0));
     assert_eq!(rt; disk.len(1).ok(), Some(0));
     moments_add_up();
+    parts_are_two();
     for path in ["disk_of_a_test", "disk_of_a_test.1"] {
         std::fs::remove_file(&rt, path)?;
     }

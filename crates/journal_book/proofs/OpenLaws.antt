@@ -1,9 +1,10 @@
 -- What a journal is opened as, and its world.
-use Rattle.std.proofs.Common.{◌≡◌, ◌⊎◌, inl, inr, ℕ, ◌<◌, ◌≤◌, List, [], ◌∷◌, ◌++◌, length, Option, None, Some, refl, sym, ap, subst, ◌∙◌, arith}
+use Rattle.std.proofs.Common.{◌≡◌, inl, inr, ℕ, ◌<◌, ◌≤◌, List, [], length, Option, None, Some, refl, sym, ap, subst, ◌∙◌, arith}
 use Rattle.std.proofs.lemmas.Bool.{cases_lt}
-use Rattle.disks.specs.Parts.{Image}
+use Rattle.disks.specs.Parts.{Image, part_of}
 use Rattle.disks.specs.Moments.{Told, AtEachMoment}
-use Rattle.result_journal.specs.Grammar.{Bodies, Reads, head}
+use Rattle.result_journal.specs.Grammar.{Bodies, Reads}
+use Rattle.result_journal.specs.Journals.{begun_part}
 use Rattle.result_journal.specs.Begins.{BeginsAs, IsEmptyJournal}
 use Rattle.result_journal.specs.Openings.{AlikeOnceSynced, LongPartStays, OpensAs}
 use Rattle.result_journal.proofs.ReadingLaws.{no_other_reading}
@@ -33,12 +34,12 @@ read_before old new commands begins reads = elim (cases_lt 9 (length old)) [
 ]
 
 pub opened_world : {W : Type 0} (plays : Play W) (first w : W) (old new : Option Told) (P : Image → Type 0) (commands : List (List ℕ))
-    → AtEachMoment old new P → OpensAs old new → ((t : Told) → new ≡ Some t → Reads t.now.first.bytes (Bodies commands))
+    → AtEachMoment old new P → OpensAs old new → ((t : Told) → new ≡ Some t → Reads (part_of t.now begun_part).bytes (Bodies commands))
     → Leads plays first commands w → HasWorldOf plays first w old
 opened_world plays first w None new P commands moments opens reads leads = λ t is. absurd cc
 opened_world plays first w (Some a) None P commands moments opens reads leads = absurd moments
 opened_world plays first w (Some a) (Some b) P commands moments opens reads leads = λ t is.
-    (commands, read_before t.now.first.bytes b.now.first.bytes commands (opens t b is refl) (reads b refl), leads)
+    (commands, read_before (part_of t.now begun_part).bytes (part_of b.now begun_part).bytes commands (opens t b is refl) (reads b refl), leads)
 
 pub long_stays : (old new last : Option Told) → last ≡ new → OpensAs old new → LongPartStays old last
 long_stays old new last same opens = λ t u is_t is_u long. (opens t u is_t (sym same ∙ is_u)).long long

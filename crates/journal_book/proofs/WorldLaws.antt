@@ -1,10 +1,9 @@
 -- Commands lead on, and what images have of it.
-use Rattle.std.proofs.Common.{◌≡◌, ◌⊎◌, inl, inr, ⊎_elim, ℕ, Bool, true, false, List, [], ◌∷◌, ◌++◌, refl, sym, subst, ◌∙◌}
+use Rattle.std.proofs.Common.{◌≡◌, ◌⊎◌, inl, inr, ⊎_elim, ℕ, List, [], ◌∷◌, ◌++◌, refl, sym, subst, ◌∙◌}
 use Rattle.disks.specs.Parts.{Image}
-use Rattle.disks.specs.Moments.{Told}
-use Rattle.result_journal.specs.Journals.{ReadsAs, BeforeOrAfter}
+use Rattle.result_journal.specs.Journals.{ReadsAs, PartBeforeOrAfter, begun_part}
 use Rattle.result_journal.specs.Grammar.{Bodies}
-use Rattle.journal_book.specs.Worlds.{HasNext, HasSettled, HasWorld, Leads, Play}
+use Rattle.journal_book.specs.Worlds.{HasNext, HasWorld, Leads, Play}
 
 pub leads_on : {W : Type 0} (plays : Play W) (w : W) (commands : List (List ℕ)) (x : W) (command : List ℕ) (next : W)
     → Leads plays w commands x → plays x command next → Leads plays w (commands ++ command ∷ []) next
@@ -22,7 +21,7 @@ one_end {W} plays one w (c ∷ cs) x y leads also =
 
 -- an image that reads as these commands, or as these and one more
 pub either_world : {W : Type 0} (plays : Play W) (first w : W) (commands : List (List ℕ)) (command : List ℕ) (image : Image)
-    → Leads plays first commands w → ((next : W) × plays w command next) → BeforeOrAfter commands command image
+    → Leads plays first commands w → ((next : W) × plays w command next) → PartBeforeOrAfter begun_part commands command image
     → HasWorld plays first w image ⊎ HasNext plays first w command image
 either_world plays first w commands command image leads next either =
     ⊎_elim (λ (before : ReadsAs commands image). inl (commands, before, leads))

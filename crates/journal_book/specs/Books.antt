@@ -1,9 +1,10 @@
 -- How a book stands over its disk.
-use Rattle.std.specs.Prelude.{◌≡◌, ◌⊎◌, ℕ, ◌+◌, ◌≤◌, true, false, List, [], ◌∷◌, ◌++◌, length, Option, Some, Result, Ok, Err}
+use Rattle.std.specs.Prelude.{◌≡◌, ◌⊎◌, ℕ, ◌≤◌, true, false, List, length, Option, Result, Ok, Err}
 use Rattle.fault_counts.specs.Causes.{Rose}
 use Rattle.disks.specs.Parts.{Image}
 use Rattle.disks.specs.Moments.{Told}
-use Rattle.result_journal.specs.Journals.{StandsFor, before_gate, end_of, is_settled, prepared}
+use Rattle.disks.specs.Calls.{WhereTold}
+use Rattle.result_journal.specs.Journals.{StandsFor, before_gate, begun_part, end_of, is_settled, journal_part, prepared}
 use Rattle.result_journal.specs.Full.{IsFullFor}
 use Rattle.result_journal.specs.Openings.{ShownWhereTold}
 use Rattle.result_journal.specs.declared.journal.Journal.{Journal}
@@ -19,6 +20,7 @@ use Rattle.journal_book.specs.declared.book.RecordFault.TheVariants.{DiskFailed,
 -- behind them; and where an append failed, its command leads on from there.
 pub record Stands {D W : Type 0} (told : D → Option Told) (plays : Play W) (first w : W)
     (journal : Journal D) (commands : List (List ℕ)) : Type 0 where
+  pub part : journal_part journal ≡ begun_part
   pub on_disk : StandsFor told journal commands
   pub leads : Leads plays first commands w
   pub place : end_of journal ≡ length (before_gate commands)
@@ -31,6 +33,7 @@ StandsForSome {W = W} told plays w journal =
 -- The journal has these commands, nothing is to settle, and the gate stands behind them.
 pub record IsAppended {D : Type 0} (told : D → Option Told) (journal : Journal D)
     (commands : List (List ℕ)) : Type 0 where
+  pub part : journal_part journal ≡ begun_part
   pub on_disk : StandsFor told journal commands
   pub settled : is_settled journal ≡ true
   pub place : end_of journal ≡ length (before_gate commands)
@@ -69,14 +72,13 @@ LeavesToSettle before command DiskFailed after =
 LeavesToSettle before command (Full end length) after = is_settled after ≡ true
 LeavesToSettle before command Memory after = is_settled after ≡ true
 
--- What an opening finds wrong: the bytes of part 0 show it, as the disk was or as it is left; or a
--- command is out of place.
+-- What an opening finds wrong: the bytes of its part show it, as the disk was or as it is left; or
+-- a command is out of place.
 abbrev pub IsOpenFault : {W : Type 0} → Play W → W → Option Told → Option Told → OpenFault → Type 0
 IsOpenFault plays first before after fault =
-    ShownWhereTold before fault ⊎ (ShownWhereTold after fault
-    ⊎ ((t : Told) → after ≡ Some t → ShowsOutOfPlace plays first t.now.first.bytes fault))
+    ShownWhereTold begun_part before fault ⊎ (ShownWhereTold begun_part after fault
+    ⊎ WhereTold after begun_part (λ p. ShowsOutOfPlace plays first p.bytes fault))
 
--- The world is that of the file that part 0 was, where the disk told it.
+-- The world is that of the file that the part was, where the disk told it.
 abbrev pub HasWorldOf : {W : Type 0} → Play W → W → W → Option Told → Type 0
-HasWorldOf plays first w told =
-    (t : Told) → told ≡ Some t → IsFileOf plays first w t.now.first.bytes
+HasWorldOf plays first w told = WhereTold told begun_part (λ p. IsFileOf plays first w p.bytes)

@@ -1,9 +1,10 @@
 -- The code's own words: commands that were given by an opening and replayed.
-use Rattle.std.specs.Prelude.{◌≡◌, ◌⊎◌, ℕ, Bool, true, false, List, [], ◌∷◌, ◌++◌, length, slice_index, Option, Some, Result, Ok, Err}
+use Rattle.std.specs.Prelude.{◌≡◌, ◌⊎◌, ℕ, Bool, true, false, List, length, slice_index, Option}
 use Rattle.disks.specs.Moments.{Told}
+use Rattle.disks.specs.Calls.{WhereTold}
 use Rattle.result_journal.specs.Grammar.{Bodies, Reads}
-use Rattle.result_journal.specs.Journals.{before_gate}
-use Rattle.result_journal.specs.Openings.{HasGiven, ShownWhereTold, is_ended, next_gate, opened_disk}
+use Rattle.result_journal.specs.Journals.{before_gate, begun_part}
+use Rattle.result_journal.specs.Openings.{HasGiven, ShownWhereTold, is_ended, next_gate, opened_disk, opened_part}
 use Rattle.result_journal.specs.declared.opening.Opening.{Opening}
 use Rattle.result_journal.specs.declared.opening.OpenFault.{OpenFault}
 use Rattle.result_journal.specs.declared.opening.OpenFault.TheVariants.{NotAJournal, Damaged, NewerVersion, DiskFailed, Memory}
@@ -13,18 +14,18 @@ use Rattle.journal_book.specs.Worlds.{Leads, Play, ShowsOutOfPlace}
 -- world.
 pub record HasPlayed {D W : Type 0} (told : D → Option Told) (plays : Play W) (first : W)
     (opening : Opening D) (w : W) (commands : List (List ℕ)) : Type 0 where
+  pub part : opened_part opening ≡ begun_part
   pub given : HasGiven told opening commands
   pub place : next_gate opening ≡ length (before_gate commands)
   pub leads : Leads plays first commands w
 
--- No other follows, and part 0 reads as these.
+-- No other follows, and the part reads as these.
 pub record HasPlayedAll {D W : Type 0} (told : D → Option Told) (plays : Play W) (first : W)
     (opening : Opening D) (w : W) : Type 0 where
   pub commands : List (List ℕ)
   pub played : HasPlayed told plays first opening w commands
   pub ended : is_ended opening ≡ true
-  pub all : (t : Told) → told (opened_disk opening) ≡ Some t
-      → Reads t.now.first.bytes (Bodies commands)
+  pub all : WhereTold (told (opened_disk opening)) begun_part (λ p. Reads p.bytes (Bodies commands))
 
 -- One more was played, or all were.
 abbrev pub GoesOnPlaying : {D W : Type 0} → (D → Option Told) → Play W → W → Opening D → W → Bool
@@ -36,8 +37,8 @@ GoesOnPlaying told plays first opening w false = HasPlayedAll told plays first o
 -- The bytes show the fault, or that a command is out of place.
 abbrev pub IsPlayFault : {W : Type 0} → Play W → W → Option Told → OpenFault → Type 0
 IsPlayFault plays first told fault =
-    ShownWhereTold told fault
-    ⊎ ((t : Told) → told ≡ Some t → ShowsOutOfPlace plays first t.now.first.bytes fault)
+    ShownWhereTold begun_part told fault
+    ⊎ WhereTold told begun_part (λ p. ShowsOutOfPlace plays first p.bytes fault)
 
 -- The command leads nowhere from the world, and is told by its place and its first byte; or there
 -- was no memory.

@@ -1,9 +1,8 @@
 -- Worlds that commands lead to, and what a crash may leave of them.
-use Rattle.std.specs.Prelude.{◌≡◌, ◌⊎◌, ℕ, ◌+◌, Bool, true, false, List, [], ◌∷◌, ◌++◌, length, take, slice_index, Option, Some, Result, Ok, Err}
-use Rattle.disks.specs.Parts.{Image}
-use Rattle.disks.specs.Moments.{Told}
-use Rattle.result_journal.specs.Grammar.{Bodies, IsBody, Reads}
-use Rattle.result_journal.specs.Journals.{before_gate}
+use Rattle.std.specs.Prelude.{◌≡◌, ◌⊎◌, ℕ, ◌+◌, Bool, true, false, List, [], ◌∷◌, ◌++◌, length, take, slice_index, Result, Ok, Err}
+use Rattle.disks.specs.Parts.{Image, image_of}
+use Rattle.result_journal.specs.Grammar.{Bodies, Reads}
+use Rattle.result_journal.specs.Journals.{before_gate, begun_part}
 use Rattle.result_journal.specs.declared.opening.OpenFault.{OpenFault}
 use Rattle.result_journal.specs.declared.opening.OpenFault.TheVariants.{NotAJournal, Damaged, NewerVersion, DiskFailed, Memory}
 use Rattle.journal_book.specs.declared.machine.ReplayFault.{ReplayFault}
@@ -24,9 +23,9 @@ abbrev pub IsFileOf : {W : Type 0} → Play W → W → W → List ℕ → Type 
 IsFileOf plays first w bytes =
     (commands : List (List ℕ)) × Reads bytes (Bodies commands) × Leads plays first commands w
 
--- So is part 0 of an image.
+-- So is what an image has of the part on which a journal is begun.
 abbrev pub HasWorld : {W : Type 0} → Play W → W → W → Image → Type 0
-HasWorld plays first w image = IsFileOf plays first w image.first
+HasWorld plays first w image = IsFileOf plays first w (image_of image begun_part)
 
 -- It has the world to which this command leads from that one.
 abbrev pub HasNext : {W : Type 0} → Play W → W → W → List ℕ → Image → Type 0

@@ -2,9 +2,10 @@
 ghost use Rattle.std.specs.Prelude.{◌≡◌, ℕ, ◌+◌, ◌++◌, ◌∷◌, List, [], true, IfOk, IfErr, OnOk};
 ghost use Rattle.disks.specs.Moments.{AtEachMoment};
 ghost use Rattle.result_journal.specs.Grammar.{IsBody};
-ghost use Rattle.result_journal.specs.Journals.{disk_of, is_settled};
+ghost use Rattle.result_journal.specs.Journals.{begun_part, disk_of, is_settled};
 ghost use Rattle.result_journal.specs.Openings.{AlikeOnceSynced, CountsOpening, FaultCause, HasGiven};
 ghost use Rattle.result_journal.specs.Openings.{LeftBeforeOrAlike, LongPartStays, OpensAs, next_gate, opened_disk};
+ghost use Rattle.result_journal.specs.Openings.{opened_part};
 ghost use Rattle.result_journal.specs.Steps.{OtherStays};
 ghost use Rattle.journal_book.specs.Books.{HasWorldOf, IsOpenFault, Stands};
 ghost use Rattle.journal_book.specs.Reading.{GoesOnPlaying, HasPlayed, HasPlayedAll, IsPlayFault, IsReplayFault};
@@ -70,6 +71,7 @@ fn replay_all<M: Machine, D: Disk>(
     machine: &mut M,
     opening: &mut Opening<D>,
 ) -> Result<(), OpenFault>
+    requires part { opened_part opening.old ≡ begun_part }
     requires given { HasGiven D.told opening.old [] }
     requires place { next_gate opening.old ≡ 8 }
     ensures ok { OnOk result (HasPlayedAll D.told M.plays (M.world machine.old) opening.new

@@ -19,12 +19,12 @@ use Rattle.result_journal.specs.declared.opening.OpenFault.{OpenFault}
 use Rattle.result_journal.specs.declared.opening.OpenFault.TheVariants as openings
 use Rattle.journal_book.specs.Books.{HasWorldOf, Stands}
 use Rattle.service_effects.specs.Service.{ServiceWorld, empty_service}
-use Rattle.service_machine.specs.Machines.{Plays}
-use Rattle.service_core.specs.Service.{Service, service_of}
+use Rattle.serve_runs.specs.ServiceMachine.Machines.{Plays}
+use Rattle.serve_runs.specs.ServiceCore.Service.{Service, service_of}
 use Rattle.tellers.specs.Exchange.{Exchange}
-use Rattle.record_desk.specs.Clocked.{IsClocked}
-use Rattle.record_desk.specs.Standing.{HasServed}
-use Rattle.record_desk.proofs.StandingLaws.{served_leaves, served_nothing}
+use Rattle.serve_runs.specs.RecordDesk.Clocked.{IsClocked}
+use Rattle.serve_runs.specs.RecordDesk.Standing.{HasServed}
+use Rattle.serve_runs.proofs.RecordDesk.StandingLaws.{served_leaves, served_nothing}
 use Rattle.http_wire.specs.declared.message.End.TheVariants as stream_ends
 use Rattle.program_words.specs.Grammar.{Says}
 use Rattle.program_words.specs.declared.command.Command.{Command}
@@ -35,9 +35,9 @@ use Rattle.http_workers.specs.Framing as served
 use Rattle.http_workers.specs.Ended.{ServesLink}
 use Rattle.http_workers.specs.declared.ended.Ended.{Ended}
 use Rattle.rdb_program.specs.Causes.{opening_row}
-use Rattle.service_core.specs.Counting.{counts_of}
-use Rattle.service_core.specs.declared.counting.Counts.{Counts}
-use Rattle.result_journal.proofs.JournalLaws.{settled_leaves}
+use Rattle.serve_runs.specs.ServiceCore.Counting.{counts_of}
+use Rattle.serve_runs.specs.ServiceCore.declared.counting.Counts.{Counts}
+use Rattle.journal_book.proofs.StepLaws.{settled_reads}
 use Rattle.rdb_program.specs.Counted.{counts_text, world_text}
 use Rattle.rdb_program.specs.Lines.{fixed_line}
 use Rattle.rdb_program.specs.Opening.{OpensBook}
@@ -674,7 +674,7 @@ counted_run {D} told faults words config before after disk w journal left tells 
       world = w;
       opens = book.opens;
       commands = book.commands;
-      leaves = settled_leaves told journal book.commands book.settled book.stands.on_disk;
+      leaves = settled_reads told Plays empty_service w journal book.commands book.stands book.settled;
       ends = subst (λ (t : List ℕ). ShowsText t before result after) text shows;
       clocked = unasked tells;
     })

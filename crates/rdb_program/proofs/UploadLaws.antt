@@ -11,7 +11,7 @@ use Rattle.program_words.specs.declared.command.Command.TheVariants as commands
 use Rattle.program_words.specs.declared.command.WordFault.{WordFault}
 use Rattle.program_words.specs.declared.command.WordFault.TheVariants as word_faults
 use Rattle.program_words.specs.declared.sink_words.SinkWords.{SinkWords}
-use Rattle.record_desk.specs.Clocked.{IsClocked}
+use Rattle.serve_runs.specs.RecordDesk.Clocked.{IsClocked}
 use Rattle.sink_runs.specs.Endings.{end_status, fault_status, sink_status, write_status, Tells}
 use Rattle.sink_runs.specs.Runs.{IsSending}
 use Rattle.sink_runs.specs.Statuses.{EachStatusSays}
@@ -19,9 +19,9 @@ use Rattle.sink_runs.specs.declared.ending.SinkEnd.{SinkEnd}
 use Rattle.sink_runs.specs.declared.ending.SinkEnd.TheVariants as sink_ends
 use Rattle.sink_runs.specs.declared.ending.SinkEnding.{SinkEnding}
 use Rattle.sink_runs.specs.declared.ending.SinkEnding.TheVariants as endings
-use Rattle.sink_uploads.specs.declared.course.Sent.{Sent}
-use Rattle.sink_uploads.specs.declared.course.SinkFault.{SinkFault}
-use Rattle.sink_uploads.specs.declared.course.SinkFault.TheVariants as sink_faults
+use Rattle.sink_runs.specs.SinkUploads.declared.course.Sent.{Sent}
+use Rattle.sink_runs.specs.SinkUploads.declared.course.SinkFault.{SinkFault}
+use Rattle.sink_runs.specs.SinkUploads.declared.course.SinkFault.TheVariants as sink_faults
 use Rattle.rdb_program.specs.Run.{DiskEnd, Work, Outside, outside, disk_end, IsReported, status_of, line_of, IsRun, Does, Links, ProgramRun, Telling, sending}
 use Rattle.rdb_program.specs.Statuses.{ExitSays}
 use Rattle.rdb_program.specs.Words.{SayNothing, IsSaid}

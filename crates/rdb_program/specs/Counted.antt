@@ -1,8 +1,8 @@
 -- What is printed of a journal that is counted.
 use Rattle.std.specs.Prelude.{ℕ, List, ◌++◌, codes, decimal}
 use Rattle.service_effects.specs.Service.{ServiceWorld}
-use Rattle.service_core.specs.Counting.{counts_of}
-use Rattle.service_core.specs.declared.counting.Counts.{Counts}
+use Rattle.serve_runs.specs.ServiceCore.Counting.{counts_of}
+use Rattle.serve_runs.specs.ServiceCore.declared.counting.Counts.{Counts}
 
 -- a name and a number
 abbrev pub item : List ℕ → ℕ → List ℕ

@@ -16,11 +16,11 @@ use Rattle.result_journal.specs.Steps.{OtherStays}
 use Rattle.result_journal.specs.declared.opening.OpenFault.{OpenFault}
 use Rattle.journal_book.specs.Books.{HasWorldOf, IsOpenFault}
 use Rattle.service_effects.specs.Service.{ServiceWorld, empty_service}
-use Rattle.service_machine.specs.Machines.{Plays}
-use Rattle.service_core.specs.Service.{Service, service_of}
+use Rattle.serve_runs.specs.ServiceMachine.Machines.{Plays}
+use Rattle.serve_runs.specs.ServiceCore.Service.{Service, service_of}
 use Rattle.tellers.specs.Exchange.{Exchange}
-use Rattle.record_desk.specs.Clocked.{IsClocked}
-use Rattle.record_desk.specs.Standing.{AtEachCall, HasLast, Moves, point_at}
+use Rattle.serve_runs.specs.RecordDesk.Clocked.{IsClocked}
+use Rattle.serve_runs.specs.RecordDesk.Standing.{AtEachCall, HasLast, Moves, point_at}
 use Rattle.rdb_program.specs.Words.{SayNothing, IsAnswerWords, IsCheckWords, IsServeWords, AskForText}
 use Rattle.program_words.specs.Grammar.{Says}
 use Rattle.program_words.specs.declared.command.Command.TheVariants.{Sink}
@@ -32,7 +32,7 @@ use Rattle.sink_runs.specs.Endings.{Tells, sink_line, sink_status}
 use Rattle.sink_runs.specs.Runs.{IsSending, Sending}
 use Rattle.sink_runs.specs.declared.ending.SinkEnd.{SinkEnd}
 use Rattle.sink_runs.specs.declared.ending.SinkEnding.{SinkEnding}
-use Rattle.sink_uploads.specs.declared.course.Sent.{Sent}
+use Rattle.sink_runs.specs.SinkUploads.declared.course.Sent.{Sent}
 use Rattle.http_workers.specs.Causes.{cause_of}
 use Rattle.http_workers.specs.Ended.{ServesLink}
 use Rattle.http_workers.specs.declared.ended.Ended.{Ended}

@@ -20,7 +20,7 @@ use Rattle.result_journal.specs.Grammar.{records}
 use Rattle.result_journal.specs.Journals.{Leaves, ReadsAs}
 use Rattle.result_journal.specs.declared.opening.OpenFault.{OpenFault}
 use Rattle.service_effects.specs.Service.{ServiceWorld, empty_service}
-use Rattle.service_machine.specs.Machines.{Plays}
+use Rattle.serve_runs.specs.ServiceMachine.Machines.{Plays}
 use Rattle.serve_runs.specs.Statuses.{DoorFailed, IsServed, NoneFailed}
 use Rattle.sink_runs.specs.Statuses.{SinkSays}
 use Rattle.rdb_program.specs.Causes.{opening_row}

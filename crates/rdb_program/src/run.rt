@@ -2,8 +2,8 @@
 ghost use Rattle.std.specs.Prelude.{◌≡◌, ◌≢◌, ◌≤◌, ℕ, List, map, string_bytes, Ok, IfErr, IfOk, MatchResult, vec_len};
 ghost use Rattle.outside.specs.Ends.{Incoming};
 ghost use Rattle.result_journal.specs.Journals.{disk_of};
-ghost use Rattle.service_core.specs.CoreState.{world_in};
-ghost use Rattle.service_machine.specs.Machines.{Plays};
+ghost use Rattle.serve_runs.specs.ServiceCore.CoreState.{world_in};
+ghost use Rattle.serve_runs.specs.ServiceMachine.Machines.{Plays};
 ghost use Rattle.rdb_program.specs.Words.{IsAnswerWords, IsCheckWords, IsSaid, AskForText};
 ghost use Rattle.rdb_program.specs.Configured.{Accepts, IsUnserved};
 ghost use Rattle.rdb_program.specs.Run.{outside, line_of, status_of, IsRun, Shows, StopsAtConfig, IsReported};
@@ -25,9 +25,9 @@ use policy_reading::from_toml;
 use program_words::{
     Command, ServeWords, SinkWords, WordFault, help_text, read_words, version_text,
 };
-use record_desk::BookTeller;
-use service_core::Core;
-use service_machine::ServiceMachine;
+use serve_runs::record_desk::BookTeller;
+use serve_runs::service_core::Core;
+use serve_runs::service_machine::ServiceMachine;
 use sink_runs::{send_report, tell};
 use std::alloc::Global;
 use std::sync::Wait;

@@ -3,13 +3,12 @@ use Rattle.std.proofs.Common.{◌≡◌, ◌≢◌, ◌⊎◌, inl, inr, ℕ, �
 use Rattle.std.proofs.Common.{refl, sym, ap, subst, ◌∙◌}
 use Rattle.disks.specs.Parts.{Image}
 use Rattle.disks.specs.Moments.{AtEachMoment, Told as DiskTold}
-use Rattle.disks.proofs.MomentLaws.{at_both, at_each_of}
+use Rattle.disks.specs.MomentLaws.{at_both, at_each_of}
 use Rattle.result_journal.specs.Journals.{disk_of, is_settled, prepared}
 use Rattle.result_journal.specs.declared.journal.Journal.{Journal}
-use Rattle.result_journal.proofs.StandLaws.{stands_leave}
 use Rattle.journal_book.specs.Worlds.{HasSettled, HasWorld, Play}
 use Rattle.journal_book.specs.Books.{HasEither, HasRecordCause, LeavesToSettle, Stands}
-use Rattle.journal_book.proofs.StepLaws.{settled_images, unmoved_moments, world_settled}
+use Rattle.journal_book.proofs.StepLaws.{stands_images, unmoved_moments, world_settled}
 use Rattle.journal_book.specs.declared.book.RecordFault.{RecordFault}
 use Rattle.journal_book.specs.declared.book.RecordFault.TheVariants.{DiskFailed, Full, Memory as NoMemory}
 use Rattle.call_forms.specs.declared.asked.Asked.{Asked}
@@ -86,11 +85,8 @@ kept_settled told plays w old tried after new settled stands = record {
 pub tries_nothing : {D : Type 0} (told : D → Option DiskTold) (plays : Play ServiceWorld) (w : ServiceWorld) (journal : Journal D)
     (tried : ServiceWorld → Type 0) → StandsFromNothing told plays w journal → TriesAtMost told plays w journal tried journal
 tries_nothing told plays w journal tried stands =
-    let settled = is_settled journal in
-    let book = stands.1 in
     unmoved_moments (told (disk_of journal)) (HasWorldOrTried plays w journal tried)
-    (λ t is image may. inl (settled_images plays empty_service w (told (disk_of journal)) settled stands.0 (prepared journal) book.leads
-    book.failed (stands_leave told journal stands.0 book.on_disk) t is image may))
+    (λ t is image may. inl (stands_images told plays empty_service w journal stands.0 stands.1 t is image may))
 
 pub tries_weaker : {D : Type 0} (told : D → Option DiskTold) (plays : Play ServiceWorld) (w : ServiceWorld) (old : Journal D)
     (tried also : ServiceWorld → Type 0) (new : Journal D) → ((next : ServiceWorld) → tried next → also next)

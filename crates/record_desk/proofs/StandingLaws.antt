@@ -4,13 +4,12 @@ use Rattle.std.proofs.lemmas.List.{map-append}
 use Rattle.std.specs.List.{AllByRecursion}
 use Rattle.disks.specs.Parts.{Image}
 use Rattle.disks.specs.Moments.{Told as DiskTold}
-use Rattle.disks.proofs.MomentLaws.{at_each_of}
+use Rattle.disks.specs.MomentLaws.{at_each_of}
 use Rattle.result_journal.specs.Journals.{Leaves, disk_of, is_settled, prepared}
-use Rattle.result_journal.proofs.StandLaws.{stands_leave}
 use Rattle.result_journal.specs.declared.journal.Journal.{Journal}
 use Rattle.journal_book.specs.Worlds.{HasSettled, Play}
 use Rattle.journal_book.specs.Books.{Stands}
-use Rattle.journal_book.proofs.StepLaws.{settled_images}
+use Rattle.journal_book.proofs.StepLaws.{stands_images}
 use Rattle.call_forms.specs.declared.asked.Asked.{Asked}
 use Rattle.call_forms.specs.declared.forms.Standin.TheVariants.{Unavailable}
 use Rattle.call_forms.specs.declared.forms.Told.{Told}
@@ -243,5 +242,4 @@ pub served_leaves : {D : Type 0} (told : D → Option DiskTold) (plays : Play Se
     → Leaves (told (disk_of journal)) (HasLast plays s first h w)
 served_leaves told plays s first h w journal book = λ t is image may.
     has_last told plays s first h w journal book image
-    (settled_images plays empty_service w (told (disk_of journal)) (is_settled journal) book.commands (prepared journal) book.stands.leads
-    book.stands.failed (stands_leave told journal book.commands book.stands.on_disk) t is image may)
+    (stands_images told plays empty_service w journal book.commands book.stands t is image may)

@@ -1,12 +1,12 @@
 -- What an opening finds at a gate.
-use Rattle.std.proofs.Common.{◌≡◌, ◌≢◌, inl, inr, ℕ, ◌+◌, ◌-◌, ◌^◌, ◌<◌, ◌≤◌, true, false, Option, None, Some, Result, Ok, Err, IfErr, IsErrAnd, List, [], ◌∷◌, ◌++◌, length, get_or, take, drop, take-append-drop, refl, sym, ◌∙◌, ap, subst, arith, append_assoc, length-append}
+use Rattle.std.proofs.Common.{◌≡◌, ◌≢◌, inl, inr, ℕ, ◌+◌, ◌-◌, ◌^◌, ◌<◌, ◌≤◌, true, false, Option, None, Some, Result, Ok, Err, IfErr, IsErrAnd, List, [], ◌∷◌, ◌++◌, length, get_or, take, drop, take-append-drop, refl, sym, ◌∙◌, ap, subst, subst₂, arith, append_assoc, length-append}
 use Rattle.std.proofs.lemmas.List.{drop-take, get_or-take, get_or-drop, length-drop, drop_more, take_at, length-take-le}
 use Rattle.std.proofs.lemmas.Bool.{cases_lt}
 use Rattle.std.specs.Int.{w32, from_le_bytes}
 use Rattle.disks.specs.Whole.{FillsRoom}
 use Rattle.result_journal.specs.Grammar.{head, records, framed, IsBody, AreBodies, BeginsFramed, Bodies, Broken, Reads}
 use Rattle.result_journal.specs.Journals.{before_gate, StandsBut, StandsFor}
-use Rattle.disks.specs.Parts.{Part}
+use Rattle.disks.specs.Parts.{Part, part_of}
 use Rattle.result_journal.specs.Openings.{IsWholeAt, IsBrokenAt, HasGiven, FindsLength, BrokenFault, IfFits, ShownWhereTold}
 use Rattle.disks.specs.Moments.{Told}
 use Rattle.disks.specs.Aheads.{IsAheadOf}
@@ -139,9 +139,10 @@ module _ (bytes : List ℕ) (given : List (List ℕ)) (place : ℕ) (are : AreBo
 -- An opening on the same disk has given the same.
 pub same_opening : {D : Type 0} (told : D → Option Told) (old new : Opening D) (given : List (List ℕ)) →
     new ≡ record old { disk = new.disk; ahead = new.ahead } → told new.disk ≡ told old.disk →
-    IsAheadOf (told old.disk) 0 new.ahead → HasGiven told old given → HasGiven told new given
+    IsAheadOf (told old.disk) old.part new.ahead → HasGiven told old given → HasGiven told new given
 same_opening told old new given same same_told ahead h =
     subst (λ (o : Opening _). HasGiven told o given) (sym same) (record {
+      part = h.part;
       behind_head = h.behind_head;
       inside = h.inside;
       ahead = λ t is. ahead t (sym same_told ∙ is);
@@ -152,14 +153,15 @@ same_opening told old new given same same_told ahead h =
 -- At a closed gate it is ended.
 pub ended_opening : {D : Type 0} (told : D → Option Told) (old new : Opening D) (given : List (List ℕ)) →
     new ≡ record old { disk = new.disk; ahead = new.ahead } → told new.disk ≡ told old.disk →
-    IsAheadOf (told old.disk) 0 new.ahead → HasGiven told old given → (found : Option ℕ) → found ≡ None → ((t : Told) → told old.disk ≡ Some t → old.size ≡ length t.now.first.bytes →
-    FindsLength t.now.first.bytes old.place found) →
+    IsAheadOf (told old.disk) old.part new.ahead → HasGiven told old given → (found : Option ℕ) → found ≡ None → ((t : Told) → told old.disk ≡ Some t → old.size ≡ length (part_of t.now old.part).bytes →
+    FindsLength (part_of t.now old.part).bytes old.place found) →
     HasGiven told (record new { is_ended = true }) given
 ended_opening told old new given same same_told ahead h found none finds =
-    let at : (t : Told) → told old.disk ≡ Some t → get_or t.now.first.bytes old.place 0 ≢ 1 =
-    λ t is. subst (λ (f : Option ℕ). FindsLength t.now.first.bytes old.place f) none
+    let at : (t : Told) → told old.disk ≡ Some t → get_or (part_of t.now old.part).bytes old.place 0 ≢ 1 =
+    λ t is. subst (λ (f : Option ℕ). FindsLength (part_of t.now old.part).bytes old.place f) none
     (finds t is (h.on_disk t is).whole) in
     subst (λ (o : Opening _). HasGiven told (record o { is_ended = true }) given) (sym same) (record {
+      part = h.part;
       behind_head = h.behind_head;
       inside = h.inside;
       ahead = λ t is. ahead t (sym same_told ∙ is);
@@ -169,23 +171,23 @@ ended_opening told old new given same same_told ahead h found none finds =
 
 pub ended_reads : {D : Type 0} (told : D → Option Told) (old : Opening D) (given : List (List ℕ)) →
     HasGiven told old given → (found : Option ℕ) → found ≡ None →
-    ((t : Told) → told old.disk ≡ Some t → old.size ≡ length t.now.first.bytes →
-    FindsLength t.now.first.bytes old.place found) →
-    (t : Told) → told old.disk ≡ Some t → Reads t.now.first.bytes (Bodies given)
+    ((t : Told) → told old.disk ≡ Some t → old.size ≡ length (part_of t.now old.part).bytes →
+    FindsLength (part_of t.now old.part).bytes old.place found) →
+    (t : Told) → told old.disk ≡ Some t → Reads (part_of t.now old.part).bytes (Bodies given)
 ended_reads told old given h found none finds t is =
     let b = h.on_disk t is in
-    closed_reads t.now.first.bytes given old.place b.are_bodies b.before b.after_records
+    closed_reads (part_of t.now old.part).bytes given old.place b.are_bodies b.before b.after_records
     (omega (arith, h.inside, b.whole))
-    (subst (λ (f : Option ℕ). FindsLength t.now.first.bytes old.place f) none (finds t is b.whole))
+    (subst (λ (f : Option ℕ). FindsLength (part_of t.now old.part).bytes old.place f) none (finds t is b.whole))
 
 pub broken_shown : {D : Type 0} (told : D → Option Told) (old : Opening D) (given : List (List ℕ)) →
     HasGiven told old given → (fault : OpenFault) → ((t : Told) → told old.disk ≡ Some t →
-    old.size ≡ length t.now.first.bytes → BrokenFault t.now.first.bytes old.place fault) →
-    ShownWhereTold (told old.disk) fault
+    old.size ≡ length (part_of t.now old.part).bytes → BrokenFault (part_of t.now old.part).bytes old.place fault) →
+    ShownWhereTold old.part (told old.disk) fault
 broken_shown told old given h (NotAJournal at) finds t is = absurd (finds t is (h.on_disk t is).whole)
 broken_shown told old given h (Damaged at byte) finds t is =
     let b = h.on_disk t is in
-    broken_reads t.now.first.bytes given old.place b.are_bodies b.before b.after_records at byte
+    broken_reads (part_of t.now old.part).bytes given old.place b.are_bodies b.before b.after_records at byte
     (omega (arith, h.inside, b.whole)) b.short (finds t is b.whole)
 broken_shown told old given h (NewerVersion found) finds t is = absurd (finds t is (h.on_disk t is).whole)
 broken_shown told old given h DiskFailed finds t is = tt
@@ -194,21 +196,22 @@ broken_shown told old given h Memory finds t is = tt
 -- A whole record is given.
 pub given_opening : {D : Type 0} (told : D → Option Told) (old new : Opening D) (given : List (List ℕ)) (count : ℕ)
     (body : List ℕ) → new ≡ record old { disk = new.disk; ahead = new.ahead } → told new.disk ≡ told old.disk →
-    IsAheadOf (told old.disk) 0 new.ahead → HasGiven told old given →
+    IsAheadOf (told old.disk) old.part new.ahead → HasGiven told old given →
     old.place + 5 + count < old.size → old.is_ended ≡ false →
-    ((t : Told) → told old.disk ≡ Some t → old.size ≡ length t.now.first.bytes →
-    IsWholeAt t.now.first.bytes old.place count) →
-    ((t : Told) → told old.disk ≡ Some t → body ≡ take count (drop (old.place + 5) t.now.first.bytes)) →
+    ((t : Told) → told old.disk ≡ Some t → old.size ≡ length (part_of t.now old.part).bytes →
+    IsWholeAt (part_of t.now old.part).bytes old.place count) →
+    ((t : Told) → told old.disk ≡ Some t → body ≡ take count (drop (old.place + 5) (part_of t.now old.part).bytes)) →
     HasGiven told (record new { place = new.place + 5 + count }) (given ++ body ∷ [])
 given_opening told old new given count body same same_told ahead h inside going finds read =
     subst (λ (o : Opening _). HasGiven told (record o { place = o.place + 5 + count }) (given ++ body ∷ [])) (sym same)
     (record {
+      part = h.part;
       behind_head = omega (arith, h.behind_head);
       inside = inside;
       ahead = λ t is. ahead t (sym same_told ∙ is);
       on_disk = λ t is.
           let b = h.on_disk t (sym same_told ∙ is) in
-          let more = given_more t.now.first.bytes given old.place b.are_bodies b.before b.after_records count body
+          let more = given_more (part_of t.now old.part).bytes given old.place b.are_bodies b.before b.after_records count body
           (finds t (sym same_told ∙ is) b.whole) (read t (sym same_told ∙ is)) in
           record {
             synced = b.synced;
@@ -224,6 +227,7 @@ given_opening told old new given count body same same_told ahead h inside going 
 pub going_opening : {D : Type 0} (told : D → Option Told) (old : Opening D) (given : List (List ℕ)) →
     HasGiven told old given → HasGiven told (record old { is_ended = false }) given
 going_opening told old given h = record {
+  part = h.part;
   behind_head = h.behind_head;
   inside = h.inside;
   ahead = h.ahead;
@@ -243,6 +247,7 @@ front_taken bytes given place before =
 pub restarted : {D : Type 0} (told : D → Option Told) (old : Opening D) (given : List (List ℕ)) →
     HasGiven told old given → HasGiven told (record old { place = 8; is_ended = false }) []
 restarted told old given h = record {
+  part = h.part;
   behind_head = omega arith;
   inside = omega (arith, h.behind_head, h.inside);
   ahead = h.ahead;
@@ -252,7 +257,7 @@ restarted told old given h = record {
         synced = b.synced;
         whole = b.whole;
         are_bodies = tt;
-        before = front_taken t.now.first.bytes given old.place b.before;
+        before = front_taken (part_of t.now old.part).bytes given old.place b.before;
         after_records = refl;
         short = b.short;
       };
@@ -262,15 +267,16 @@ restarted told old given h = record {
 pub given_next : {D : Type 0} (told : D → Option Told) (old mid new : Opening D) (given : List (List ℕ))
     (found : Option ℕ) (count : ℕ) (body : List ℕ) → HasGiven told old given → old.is_ended ≡ false →
     mid ≡ record old { disk = mid.disk; ahead = mid.ahead } → told mid.disk ≡ told old.disk →
-    IsAheadOf (told old.disk) 0 mid.ahead → new ≡ record mid { disk = new.disk; ahead = new.ahead } →
-    told new.disk ≡ told mid.disk → IsAheadOf (told mid.disk) 0 new.ahead →
+    IsAheadOf (told old.disk) old.part mid.ahead → new ≡ record mid { disk = new.disk; ahead = new.ahead } →
+    told new.disk ≡ told mid.disk → IsAheadOf (told mid.disk) mid.part new.ahead →
     found ≡ Some count → IfFits old.place old.size found →
-    ((t : Told) → told old.disk ≡ Some t → old.size ≡ length t.now.first.bytes →
-    FindsLength t.now.first.bytes old.place found) →
-    ((t : Told) → told mid.disk ≡ Some t → body ≡ take count (drop (mid.place + 5) t.now.first.bytes)) →
+    ((t : Told) → told old.disk ≡ Some t → old.size ≡ length (part_of t.now old.part).bytes →
+    FindsLength (part_of t.now old.part).bytes old.place found) →
+    ((t : Told) → told mid.disk ≡ Some t → body ≡ take count (drop (mid.place + 5) (part_of t.now mid.part).bytes)) →
     HasGiven told (record new { place = new.place + 5 + count }) (given ++ body ∷ [])
 given_next {D} told old mid new given found count body h going same_mid told_mid ahead_mid same_new told_new ahead_new is fits finds read =
     let places : mid.place ≡ old.place = ap (λ (o : Opening D). o.place) same_mid in
+    let parts : mid.part ≡ old.part = ap (λ (o : Opening D). o.part) same_mid in
     let sizes : mid.size ≡ old.size = ap (λ (o : Opening D). o.size) same_mid in
     let ends : mid.is_ended ≡ false = ap (λ (o : Opening D). o.is_ended) same_mid ∙ going in
     let whole : IfFits old.place old.size (Some count) =
@@ -278,32 +284,35 @@ given_next {D} told old mid new given found count body h going same_mid told_mid
     given_opening told mid new given count body same_new told_new ahead_new
     (same_opening told old mid given same_mid told_mid ahead_mid h)
     (omega (arith, whole.2, places, sizes)) ends
-    (λ t here long. subst (λ (p : ℕ). IsWholeAt t.now.first.bytes p count) (sym places)
-    (subst (λ (f : Option ℕ). FindsLength t.now.first.bytes old.place f) is
-    (finds t (sym told_mid ∙ here) (sym sizes ∙ long))))
+    (λ t here long. subst₂ (λ (n p : ℕ). IsWholeAt (part_of t.now n).bytes p count) (sym parts) (sym places)
+    (subst (λ (f : Option ℕ). FindsLength (part_of t.now old.part).bytes old.place f) is
+    (finds t (sym told_mid ∙ here)
+    (subst (λ (n : ℕ). old.size ≡ length (part_of t.now n).bytes) parts (sym sizes ∙ long)))))
     read
 
-pub shown_at : {T : Type 0} (told : Option Told) (result : Result T OpenFault) (fault : OpenFault) →
-    IsErrAnd result (λ e. e ≡ fault) → ShownWhereTold told fault → IfErr result (ShownWhereTold told)
-shown_at told (Ok value) fault is shown = tt
-shown_at told (Err e) fault is shown = subst (λ (f : OpenFault). ShownWhereTold told f) (sym is) shown
+pub shown_at : {T : Type 0} (number : ℕ) (told : Option Told) (result : Result T OpenFault) (fault : OpenFault) →
+    IsErrAnd result (λ e. e ≡ fault) → ShownWhereTold number told fault → IfErr result (ShownWhereTold number told)
+shown_at number told (Ok value) fault is shown = tt
+shown_at number told (Err e) fault is shown = subst (λ (f : OpenFault). ShownWhereTold number told f) (sym is) shown
 
 -- The journal of an opening that has ended.
 pub ready_stands : {D : Type 0} (told : D → Option Told) (opening : Opening D) (given : List (List ℕ)) →
     HasGiven told opening given → opening.is_ended ≡ true →
     StandsFor told (record {
       disk = opening.disk;
+      part = opening.part;
       end = opening.place;
       staged = opening.staged;
       is_prepared = false;
       standing = Settled;
     }) given
 ready_stands told opening given h ended = record {
+  part = h.part;
   when_prepared = λ none. absurd (cc);
   when_unsettled = λ none. absurd (cc);
   on_disk = λ t is.
       let b = h.on_disk t is in
-      let bytes = t.now.first.bytes in
+      let bytes = (part_of t.now opening.part).bytes in
       let inside : opening.place < length bytes = omega (arith, h.inside, b.whole) in
       record {
         gate = get_or bytes opening.place 0;

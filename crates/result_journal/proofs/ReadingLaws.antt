@@ -3,7 +3,7 @@ use Rattle.std.proofs.Common.{◌≡◌, ◌≢◌, ◌⊎◌, inl, inr, ⊎_eli
 use Rattle.std.proofs.lemmas.List.{append_cancel_left, drop_more, ext_get_or, length-take-le, get_or-take}
 use Rattle.std.proofs.lemmas.Bool.{cases_eq, cases_lt}
 use Rattle.std.specs.Int.{w32, from_le_bytes}
-use Rattle.result_journal.specs.Grammar.{head, IsBody, framed, records, AreBodies, BeginsFramed, IsOfHead, IsForeign, Reading, Bodies, Foreign, Newer, Broken, LongReads, Reads}
+use Rattle.result_journal.specs.Grammar.{IsVersion, first_version, head, head_of, IsBody, framed, records, AreBodies, BeginsFramed, IsOfHead, IsForeign, Reading, Bodies, Foreign, Newer, Broken, LongReads, Reads, VersionReads}
 use Rattle.result_journal.proofs.FrameLaws.{one_frame, frame_bounds, frame_made, length_said}
 
 -- Records end at a closed gate, or at an open one behind which no framed body stands.
@@ -116,203 +116,218 @@ walk (suc n) gate rest small are = at_gate gate rest are (λ open_gate f. record
     (λ k. byte_behind (framed f.body) (f.gate ∷ f.rest)
     (λ i. subst (λ (l : List ℕ). get_or l i 0 < 256) f.form (are i)) (suc k))))
 
--- A head of version 1 is one of a journal,
-pub head_of_head : (rest : List ℕ) (k : ℕ) → k < 8 → IsOfHead k (get_or (head ++ rest) k 0)
-head_of_head rest k below = record {
-  name = λ name. front rest k name;
-  least = λ is. subst (λ (i : ℕ). 49 ≤ get_or (head ++ rest) i 0) (sym is) (omega arith);
-  greatest = λ is. subst (λ (i : ℕ). get_or (head ++ rest) i 0 ≤ 57) (sym is) (omega arith);
-}
-  where
-    front : (rest : List ℕ) (k : ℕ) → k < 7 → get_or (head ++ rest) k 0 ≡ get_or head k 0
-    front rest zero below = refl
-    front rest (suc zero) below = refl
-    front rest (suc (suc zero)) below = refl
-    front rest (suc (suc (suc zero))) below = refl
-    front rest (suc (suc (suc (suc zero)))) below = refl
-    front rest (suc (suc (suc (suc (suc zero))))) below = refl
-    front rest (suc (suc (suc (suc (suc (suc zero)))))) below = refl
-    front rest (suc (suc (suc (suc (suc (suc (suc n))))))) below = absurd (omega arith)
+-- Of files of one version.
+module _ (version : ℕ) (is_version : IsVersion version) where
+  -- A head of some version is one of a journal,
+  pub head_of_head : (rest : List ℕ) (k : ℕ) → k < 8 → IsOfHead k (get_or (head_of version ++ rest) k 0)
+  head_of_head rest k below = record {
+    name = λ name. front rest k name;
+    least = λ is. subst (λ (i : ℕ). 49 ≤ get_or (head_of version ++ rest) i 0) (sym is) is_version.0;
+    greatest = λ is. subst (λ (i : ℕ). get_or (head_of version ++ rest) i 0 ≤ 57) (sym is) is_version.1;
+  }
+    where
+      front : (rest : List ℕ) (k : ℕ) → k < 7 → get_or (head_of version ++ rest) k 0 ≡ get_or head k 0
+      front rest zero below = refl
+      front rest (suc zero) below = refl
+      front rest (suc (suc zero)) below = refl
+      front rest (suc (suc (suc zero))) below = refl
+      front rest (suc (suc (suc (suc zero)))) below = refl
+      front rest (suc (suc (suc (suc (suc zero))))) below = refl
+      front rest (suc (suc (suc (suc (suc (suc zero)))))) below = refl
+      front rest (suc (suc (suc (suc (suc (suc (suc n))))))) below = absurd (omega arith)
 
--- The first place that isn't of a head, or there is none below n.
-first_place : (bytes : List ℕ) (n : ℕ) → n ≤ 8 →
-    ((k : ℕ) → k < n → IsOfHead k (get_or bytes k 0)) ⊎ ((at : ℕ) × IsForeign bytes at)
-first_place bytes zero small = inl (λ k below. absurd (omega arith))
-first_place bytes (suc n) small = ⊎_elim
-    (λ below. ⊎_elim
-    (λ here. inl (λ k less. elim (cases_lt k n) [
-      | inl lower ↦ below k lower
-      | inr upper ↦ let same : n ≡ k = omega arith in subst (λ (i : ℕ). IsOfHead i (get_or bytes i 0)) same here
-    ]))
-    (λ strange. inr (n, record { inside = omega arith; before = below; first = strange }))
-    (of_head_or_not n (get_or bytes n 0)))
-    (λ found. inr found)
-    (first_place bytes n (omega arith))
-  where
-    of_head_or_not : (k b : ℕ) → IsOfHead k b ⊎ (IsOfHead k b → ⊥)
-    of_head_or_not k b = elim (cases_lt k 7) [
-      | inl name ↦ elim (cases_eq b (get_or head k 0)) [
-        | inl same ↦ inl (record { name = λ _. same; least = λ is. absurd (omega arith); greatest = λ is. absurd (omega arith) })
-        | inr other ↦ inr (λ is. other (is.name name))
-      ]
-      | inr past ↦ elim (cases_lt b 49) [
-        | inl low ↦ elim (cases_eq k 7) [
-          | inl seven ↦ inr (λ is. let le = is.least seven in absurd (omega arith))
-          | inr more ↦ inl (record { name = λ below. absurd (omega arith); least = λ seven. absurd (more seven); greatest = λ seven. absurd (more seven) })
+  -- The first place that isn't of a head, or there is none below n.
+  first_place : (bytes : List ℕ) (n : ℕ) → n ≤ 8 →
+      ((k : ℕ) → k < n → IsOfHead k (get_or bytes k 0)) ⊎ ((at : ℕ) × IsForeign bytes at)
+  first_place bytes zero small = inl (λ k below. absurd (omega arith))
+  first_place bytes (suc n) small = ⊎_elim
+      (λ below. ⊎_elim
+      (λ here. inl (λ k less. elim (cases_lt k n) [
+        | inl lower ↦ below k lower
+        | inr upper ↦ let same : n ≡ k = omega arith in subst (λ (i : ℕ). IsOfHead i (get_or bytes i 0)) same here
+      ]))
+      (λ strange. inr (n, record { inside = omega arith; before = below; first = strange }))
+      (of_head_or_not n (get_or bytes n 0)))
+      (λ found. inr found)
+      (first_place bytes n (omega arith))
+    where
+      of_head_or_not : (k b : ℕ) → IsOfHead k b ⊎ (IsOfHead k b → ⊥)
+      of_head_or_not k b = elim (cases_lt k 7) [
+        | inl name ↦ elim (cases_eq b (get_or head k 0)) [
+          | inl same ↦ inl (record { name = λ _. same; least = λ is. absurd (omega arith); greatest = λ is. absurd (omega arith) })
+          | inr other ↦ inr (λ is. other (is.name name))
         ]
-        | inr high ↦ elim (cases_lt 57 b) [
-          | inl above ↦ elim (cases_eq k 7) [
-            | inl seven ↦ inr (λ is. let le = is.greatest seven in absurd (omega arith))
+        | inr past ↦ elim (cases_lt b 49) [
+          | inl low ↦ elim (cases_eq k 7) [
+            | inl seven ↦ inr (λ is. let le = is.least seven in absurd (omega arith))
             | inr more ↦ inl (record { name = λ below. absurd (omega arith); least = λ seven. absurd (more seven); greatest = λ seven. absurd (more seven) })
           ]
-          | inr within ↦ inl (record { name = λ below. absurd (omega arith); least = λ _. high; greatest = λ _. omega arith })
+          | inr high ↦ elim (cases_lt 57 b) [
+            | inl above ↦ elim (cases_eq k 7) [
+              | inl seven ↦ inr (λ is. let le = is.greatest seven in absurd (omega arith))
+              | inr more ↦ inl (record { name = λ below. absurd (omega arith); least = λ seven. absurd (more seven); greatest = λ seven. absurd (more seven) })
+            ]
+            | inr within ↦ inl (record { name = λ below. absurd (omega arith); least = λ _. high; greatest = λ _. omega arith })
+          ]
         ]
       ]
+
+  name_place : (k : ℕ) → k < 7 → get_or (head_of version) k 0 ≡ get_or head k 0
+  name_place zero below = refl
+  name_place (suc zero) below = refl
+  name_place (suc (suc zero)) below = refl
+  name_place (suc (suc (suc zero))) below = refl
+  name_place (suc (suc (suc (suc zero)))) below = refl
+  name_place (suc (suc (suc (suc (suc zero))))) below = refl
+  name_place (suc (suc (suc (suc (suc (suc zero)))))) below = refl
+  name_place (suc (suc (suc (suc (suc (suc (suc n))))))) below = absurd (omega arith)
+
+  -- Bytes with a head of this version begin with it.
+  pub begins_with_head : (bytes : List ℕ) → 8 ≤ length bytes → ((k : ℕ) → k < 8 → IsOfHead k (get_or bytes k 0)) →
+      get_or bytes 7 0 ≡ version → bytes ≡ head_of version ++ drop 8 bytes
+  begins_with_head bytes long each digit =
+      let size : length (take 8 bytes) ≡ 8 = length-take-le 8 bytes long in
+      let front : take 8 bytes ≡ head_of version = ext_get_or 0 (take 8 bytes) (head_of version) size
+      (λ k below. get_or-take 8 bytes k 0 (omega (arith, size, below)) ∙ place k (omega (arith, size, below))) in
+      sym (take-append-drop 8 bytes) ∙ ap (λ (l : List ℕ). l ++ drop 8 bytes) front
+    where
+      place : (k : ℕ) → k < 8 → get_or bytes k 0 ≡ get_or (head_of version) k 0
+      place k below = elim (cases_lt k 7) [
+        | inl name ↦ (each k below).name name ∙ sym (name_place k name)
+        | inr last ↦ let seven : 7 ≡ k = omega arith in
+            subst (λ (i : ℕ). get_or bytes i 0 ≡ get_or (head_of version) i 0) seven digit
+      ]
+
+  -- What is behind the head.
+  pub behind_head : (bytes : List ℕ) (bodies : List (List ℕ)) (gate : ℕ) (rest : List ℕ) →
+      bytes ≡ head_of version ++ records bodies ++ gate ∷ rest → bytes ≡ head_of version ++ (records bodies ++ gate ∷ rest)
+  behind_head bytes bodies gate rest form = form ∙ append_assoc (head_of version) (records bodies) (gate ∷ rest)
+
+  pub before_head : (bytes : List ℕ) (bodies : List (List ℕ)) (gate : ℕ) (rest : List ℕ) →
+      bytes ≡ head_of version ++ (records bodies ++ gate ∷ rest) → bytes ≡ head_of version ++ records bodies ++ gate ∷ rest
+  before_head bytes bodies gate rest form = form ∙ sym (append_assoc (head_of version) (records bodies) (gate ∷ rest))
+
+  same_records : (bytes : List ℕ) (xs ys : List (List ℕ)) (g h : ℕ) (x y : List ℕ) →
+      AreBodies xs → AreBodies ys → Ends g x → Ends h y →
+      bytes ≡ head_of version ++ records xs ++ g ∷ x → bytes ≡ head_of version ++ records ys ++ h ∷ y →
+      (xs ≡ ys) × (g ≡ h) × (x ≡ y)
+  same_records bytes xs ys g h x y are_xs are_ys ends_g ends_h one other =
+      same_walk xs ys g h x y are_xs are_ys ends_g ends_h
+      (append_cancel_left (head_of version) (records xs ++ g ∷ x) (records ys ++ h ∷ y)
+      (sym (behind_head bytes xs g x one) ∙ behind_head bytes ys h y other))
+
+  heads : (bytes : List ℕ) (bodies : List (List ℕ)) (gate : ℕ) (rest : List ℕ) →
+      bytes ≡ head_of version ++ records bodies ++ gate ∷ rest → (k : ℕ) → k < 8 → IsOfHead k (get_or bytes k 0)
+  heads bytes bodies gate rest form k below =
+      subst (λ (l : List ℕ). IsOfHead k (get_or l k 0)) (sym (behind_head bytes bodies gate rest form))
+      (head_of_head (records bodies ++ gate ∷ rest) k below)
+
+  version_is : (bytes : List ℕ) (bodies : List (List ℕ)) (gate : ℕ) (rest : List ℕ) →
+      bytes ≡ head_of version ++ records bodies ++ gate ∷ rest → get_or bytes 7 0 ≡ version
+  version_is bytes bodies gate rest form =
+      ap (λ (l : List ℕ). get_or l 7 0) (behind_head bytes bodies gate rest form)
+
+  same_reading : (bytes : List ℕ) (one other : Reading) → LongReads version bytes one → LongReads version bytes other → one ≡ other
+  same_reading bytes (Bodies xs) (Bodies ys) a b =
+      ap Bodies (same_records bytes xs ys a.gate b.gate a.rest b.rest a.are_bodies b.are_bodies
+      (Closed a.closed) (Closed b.closed) a.form b.form).0
+  same_reading bytes (Bodies xs) (Foreign at) a b = absurd (b.first (heads bytes xs a.gate a.rest a.form at b.inside))
+  same_reading bytes (Bodies xs) (Newer found) a b =
+      absurd (b.newer (b.digit ∙ version_is bytes xs a.gate a.rest a.form))
+  same_reading bytes (Bodies xs) (Broken at byte) a b =
+      absurd (a.closed (same_records bytes xs b.bodies a.gate 1 a.rest b.rest a.are_bodies b.are_bodies
+      (Closed a.closed) (Without refl b.broken) a.form b.form).1)
+  same_reading bytes (Foreign at) (Bodies ys) a b = absurd (a.first (heads bytes ys b.gate b.rest b.form at a.inside))
+  same_reading bytes (Foreign at) (Foreign bt) a b = elim (cases_eq at bt) [
+    | inl same ↦ ap Foreign same
+    | inr apart ↦ elim (cases_lt at bt) [
+      | inl less ↦ absurd (a.first (b.before at less))
+      | inr more ↦ absurd (b.first (a.before bt (omega arith)))
     ]
-
--- Bytes with a head of version 1 begin with it.
-pub begins_with_head : (bytes : List ℕ) → 8 ≤ length bytes → ((k : ℕ) → k < 8 → IsOfHead k (get_or bytes k 0)) →
-    get_or bytes 7 0 ≡ 49 → bytes ≡ head ++ drop 8 bytes
-begins_with_head bytes long each version =
-    let size : length (take 8 bytes) ≡ 8 = length-take-le 8 bytes long in
-    let front : take 8 bytes ≡ head = ext_get_or 0 (take 8 bytes) head size
-    (λ k below. get_or-take 8 bytes k 0 (omega (arith, size, below)) ∙ place k (omega (arith, size, below))) in
-    sym (take-append-drop 8 bytes) ∙ ap (λ (l : List ℕ). l ++ drop 8 bytes) front
-  where
-    place : (k : ℕ) → k < 8 → get_or bytes k 0 ≡ get_or head k 0
-    place k below = elim (cases_lt k 7) [
-      | inl name ↦ (each k below).name name
-      | inr last ↦ let seven : 7 ≡ k = omega arith in
-          subst (λ (i : ℕ). get_or bytes i 0 ≡ get_or head i 0) seven version
-    ]
-
--- What is behind the head.
-pub behind_head : (bytes : List ℕ) (bodies : List (List ℕ)) (gate : ℕ) (rest : List ℕ) →
-    bytes ≡ head ++ records bodies ++ gate ∷ rest → bytes ≡ head ++ (records bodies ++ gate ∷ rest)
-behind_head bytes bodies gate rest form = form ∙ append_assoc head (records bodies) (gate ∷ rest)
-
-pub before_head : (bytes : List ℕ) (bodies : List (List ℕ)) (gate : ℕ) (rest : List ℕ) →
-    bytes ≡ head ++ (records bodies ++ gate ∷ rest) → bytes ≡ head ++ records bodies ++ gate ∷ rest
-before_head bytes bodies gate rest form = form ∙ sym (append_assoc head (records bodies) (gate ∷ rest))
-
-same_records : (bytes : List ℕ) (xs ys : List (List ℕ)) (g h : ℕ) (x y : List ℕ) →
-    AreBodies xs → AreBodies ys → Ends g x → Ends h y →
-    bytes ≡ head ++ records xs ++ g ∷ x → bytes ≡ head ++ records ys ++ h ∷ y →
-    (xs ≡ ys) × (g ≡ h) × (x ≡ y)
-same_records bytes xs ys g h x y are_xs are_ys ends_g ends_h one other =
-    same_walk xs ys g h x y are_xs are_ys ends_g ends_h
-    (append_cancel_left head (records xs ++ g ∷ x) (records ys ++ h ∷ y)
-    (sym (behind_head bytes xs g x one) ∙ behind_head bytes ys h y other))
-
-heads : (bytes : List ℕ) (bodies : List (List ℕ)) (gate : ℕ) (rest : List ℕ) →
-    bytes ≡ head ++ records bodies ++ gate ∷ rest → (k : ℕ) → k < 8 → IsOfHead k (get_or bytes k 0)
-heads bytes bodies gate rest form k below =
-    subst (λ (l : List ℕ). IsOfHead k (get_or l k 0)) (sym (behind_head bytes bodies gate rest form))
-    (head_of_head (records bodies ++ gate ∷ rest) k below)
-
-version_one : (bytes : List ℕ) (bodies : List (List ℕ)) (gate : ℕ) (rest : List ℕ) →
-    bytes ≡ head ++ records bodies ++ gate ∷ rest → get_or bytes 7 0 ≡ 49
-version_one bytes bodies gate rest form =
-    ap (λ (l : List ℕ). get_or l 7 0) (behind_head bytes bodies gate rest form)
-
-same_reading : (bytes : List ℕ) (one other : Reading) → LongReads bytes one → LongReads bytes other → one ≡ other
-same_reading bytes (Bodies xs) (Bodies ys) a b =
-    ap Bodies (same_records bytes xs ys a.gate b.gate a.rest b.rest a.are_bodies b.are_bodies
-    (Closed a.closed) (Closed b.closed) a.form b.form).0
-same_reading bytes (Bodies xs) (Foreign at) a b = absurd (b.first (heads bytes xs a.gate a.rest a.form at b.inside))
-same_reading bytes (Bodies xs) (Newer found) a b =
-    absurd (b.newer (b.version ∙ version_one bytes xs a.gate a.rest a.form))
-same_reading bytes (Bodies xs) (Broken at byte) a b =
-    absurd (a.closed (same_records bytes xs b.bodies a.gate 1 a.rest b.rest a.are_bodies b.are_bodies
-    (Closed a.closed) (Without refl b.broken) a.form b.form).1)
-same_reading bytes (Foreign at) (Bodies ys) a b = absurd (a.first (heads bytes ys b.gate b.rest b.form at a.inside))
-same_reading bytes (Foreign at) (Foreign bt) a b = elim (cases_eq at bt) [
-  | inl same ↦ ap Foreign same
-  | inr apart ↦ elim (cases_lt at bt) [
-    | inl less ↦ absurd (a.first (b.before at less))
-    | inr more ↦ absurd (b.first (a.before bt (omega arith)))
   ]
-]
-same_reading bytes (Foreign at) (Newer found) a b = absurd (a.first (b.head at a.inside))
-same_reading bytes (Foreign at) (Broken bt byte) a b =
-    absurd (a.first (heads bytes b.bodies 1 b.rest b.form at a.inside))
-same_reading bytes (Newer found) (Bodies ys) a b =
-    absurd (a.newer (a.version ∙ version_one bytes ys b.gate b.rest b.form))
-same_reading bytes (Newer found) (Foreign bt) a b = absurd (b.first (a.head bt b.inside))
-same_reading bytes (Newer found) (Newer other) a b = ap Newer (a.version ∙ sym b.version)
-same_reading bytes (Newer found) (Broken bt byte) a b =
-    absurd (a.newer (a.version ∙ version_one bytes b.bodies 1 b.rest b.form))
-same_reading bytes (Broken at byte) (Bodies ys) a b =
-    absurd (b.closed (sym (same_records bytes a.bodies ys 1 b.gate a.rest b.rest a.are_bodies b.are_bodies
-    (Without refl a.broken) (Closed b.closed) a.form b.form).1))
-same_reading bytes (Broken at byte) (Foreign bt) a b =
-    absurd (b.first (heads bytes a.bodies 1 a.rest a.form bt b.inside))
-same_reading bytes (Broken at byte) (Newer found) a b =
-    absurd (b.newer (b.version ∙ version_one bytes a.bodies 1 a.rest a.form))
-same_reading bytes (Broken at byte) (Broken bt other) a b =
-    let same = same_records bytes a.bodies b.bodies 1 1 a.rest b.rest a.are_bodies b.are_bodies
-    (Without refl a.broken) (Without refl b.broken) a.form b.form in
-    let places : at ≡ bt =
-    a.place ∙ ap (λ (xs : List (List ℕ)). 9 + length (records xs)) same.0 ∙ sym b.place in
-    let there : byte ≡ other = a.there ∙ ap (λ (l : List ℕ). get_or l 0 256) same.2 ∙ sym b.there in
-    (cc)
+  same_reading bytes (Foreign at) (Newer found) a b = absurd (a.first (b.head at a.inside))
+  same_reading bytes (Foreign at) (Broken bt byte) a b =
+      absurd (a.first (heads bytes b.bodies 1 b.rest b.form at a.inside))
+  same_reading bytes (Newer found) (Bodies ys) a b =
+      absurd (a.newer (a.digit ∙ version_is bytes ys b.gate b.rest b.form))
+  same_reading bytes (Newer found) (Foreign bt) a b = absurd (b.first (a.head bt b.inside))
+  same_reading bytes (Newer found) (Newer other) a b = ap Newer (a.digit ∙ sym b.digit)
+  same_reading bytes (Newer found) (Broken bt byte) a b =
+      absurd (a.newer (a.digit ∙ version_is bytes b.bodies 1 b.rest b.form))
+  same_reading bytes (Broken at byte) (Bodies ys) a b =
+      absurd (b.closed (sym (same_records bytes a.bodies ys 1 b.gate a.rest b.rest a.are_bodies b.are_bodies
+      (Without refl a.broken) (Closed b.closed) a.form b.form).1))
+  same_reading bytes (Broken at byte) (Foreign bt) a b =
+      absurd (b.first (heads bytes a.bodies 1 a.rest a.form bt b.inside))
+  same_reading bytes (Broken at byte) (Newer found) a b =
+      absurd (b.newer (b.digit ∙ version_is bytes a.bodies 1 a.rest a.form))
+  same_reading bytes (Broken at byte) (Broken bt other) a b =
+      let same = same_records bytes a.bodies b.bodies 1 1 a.rest b.rest a.are_bodies b.are_bodies
+      (Without refl a.broken) (Without refl b.broken) a.form b.form in
+      let places : at ≡ bt =
+      a.place ∙ ap (λ (xs : List (List ℕ)). 9 + length (records xs)) same.0 ∙ sym b.place in
+      let there : byte ≡ other = a.there ∙ ap (λ (l : List ℕ). get_or l 0 256) same.2 ∙ sym b.there in
+      (cc)
+
+  pub no_other_version_reading : (bytes : List ℕ) (one other : Reading) → VersionReads version bytes one → VersionReads version bytes other → one ≡ other
+  no_other_version_reading bytes one other (inl a) (inl b) = a.1 ∙ sym b.1
+  no_other_version_reading bytes one other (inl a) (inr b) = absurd (omega (arith, a.0, b.0))
+  no_other_version_reading bytes one other (inr a) (inl b) = absurd (omega (arith, a.0, b.0))
+  no_other_version_reading bytes one other (inr a) (inr b) = same_reading bytes one other a.1 b.1
+
+  read_walk : (bytes : List ℕ) → 9 < length bytes → bytes ≡ head_of version ++ drop 8 bytes → Walked (drop 8 bytes) →
+      (reading : Reading) × VersionReads version bytes reading
+  read_walk bytes long front w = elim w.ends [
+    | Closed closed ↦ (
+      Bodies w.bodies,
+      inr (
+        long,
+        record {
+          gate = w.gate;
+          rest = w.rest;
+          closed = closed;
+          are_bodies = w.are_bodies;
+          form = before_head bytes w.bodies w.gate w.rest (front ∙ ap (λ (l : List ℕ). head_of version ++ l) w.form);
+        },
+      ),
+    )
+    | Without open_gate none ↦ (
+      Broken (9 + length (records w.bodies)) (get_or w.rest 0 256),
+      inr (
+        long,
+        record {
+          bodies = w.bodies;
+          rest = w.rest;
+          are_bodies = w.are_bodies;
+          broken = none;
+          place = refl;
+          there = refl;
+          form = subst (λ (g : ℕ). bytes ≡ head_of version ++ records w.bodies ++ g ∷ w.rest) open_gate
+              (before_head bytes w.bodies w.gate w.rest (front ∙ ap (λ (l : List ℕ). head_of version ++ l) w.form));
+        },
+      ),
+    )
+  ]
+
+  -- Where the bytes are numbers below 256, there is a reading.
+  pub some_version_reading : (bytes : List ℕ) → ((k : ℕ) → get_or bytes k 0 < 256) → (reading : Reading) × VersionReads version bytes reading
+  some_version_reading bytes are = elim (cases_lt 9 (length bytes)) [
+    | inr short ↦ (Bodies [], inl (short, refl))
+    | inl long ↦ ⊎_elim
+        (λ each. elim (cases_eq (get_or bytes 7 0) version) [
+          | inr other ↦ (Newer (get_or bytes 7 0), inr (long, record { head = each; digit = refl; newer = other }))
+          | inl digit ↦
+              let front = begins_with_head bytes (omega arith) each digit in
+              let tail : drop 8 bytes ≡ get_or bytes 8 0 ∷ drop 9 bytes = drop_more bytes 8 0 (omega arith) in
+              let walked : Walked (drop 8 bytes) = subst Walked (sym tail)
+              (walk (length (drop 9 bytes)) (get_or bytes 8 0) (drop 9 bytes) (omega arith)
+              (byte_behind (take 9 bytes) (drop 9 bytes)
+              (λ k. subst (λ (l : List ℕ). get_or l k 0 < 256) (sym (take-append-drop 9 bytes)) (are k)))) in
+              read_walk bytes long front walked
+        ])
+        (λ found. (Foreign found.0, inr (long, found.1)))
+        (first_place bytes 8 (omega arith))
+  ]
 
 pub no_other_reading : (bytes : List ℕ) (one other : Reading) → Reads bytes one → Reads bytes other → one ≡ other
-no_other_reading bytes one other (inl a) (inl b) = a.1 ∙ sym b.1
-no_other_reading bytes one other (inl a) (inr b) = absurd (omega (arith, a.0, b.0))
-no_other_reading bytes one other (inr a) (inl b) = absurd (omega (arith, a.0, b.0))
-no_other_reading bytes one other (inr a) (inr b) = same_reading bytes one other a.1 b.1
-
-read_walk : (bytes : List ℕ) → 9 < length bytes → bytes ≡ head ++ drop 8 bytes → Walked (drop 8 bytes) →
-    (reading : Reading) × Reads bytes reading
-read_walk bytes long front w = elim w.ends [
-  | Closed closed ↦ (
-    Bodies w.bodies,
-    inr (
-      long,
-      record {
-        gate = w.gate;
-        rest = w.rest;
-        closed = closed;
-        are_bodies = w.are_bodies;
-        form = before_head bytes w.bodies w.gate w.rest (front ∙ ap (λ (l : List ℕ). head ++ l) w.form);
-      },
-    ),
-  )
-  | Without open_gate none ↦ (
-    Broken (9 + length (records w.bodies)) (get_or w.rest 0 256),
-    inr (
-      long,
-      record {
-        bodies = w.bodies;
-        rest = w.rest;
-        are_bodies = w.are_bodies;
-        broken = none;
-        place = refl;
-        there = refl;
-        form = subst (λ (g : ℕ). bytes ≡ head ++ records w.bodies ++ g ∷ w.rest) open_gate
-            (before_head bytes w.bodies w.gate w.rest (front ∙ ap (λ (l : List ℕ). head ++ l) w.form));
-      },
-    ),
-  )
-]
-
--- Where the bytes are numbers below 256, there is a reading.
-pub some_reading : (bytes : List ℕ) → ((k : ℕ) → get_or bytes k 0 < 256) → (reading : Reading) × Reads bytes reading
-some_reading bytes are = elim (cases_lt 9 (length bytes)) [
-  | inr short ↦ (Bodies [], inl (short, refl))
-  | inl long ↦ ⊎_elim
-      (λ each. elim (cases_eq (get_or bytes 7 0) 49) [
-        | inr other ↦ (Newer (get_or bytes 7 0), inr (long, record { head = each; version = refl; newer = other }))
-        | inl version ↦
-            let front = begins_with_head bytes (omega arith) each version in
-            let tail : drop 8 bytes ≡ get_or bytes 8 0 ∷ drop 9 bytes = drop_more bytes 8 0 (omega arith) in
-            let walked : Walked (drop 8 bytes) = subst Walked (sym tail)
-            (walk (length (drop 9 bytes)) (get_or bytes 8 0) (drop 9 bytes) (omega arith)
-            (byte_behind (take 9 bytes) (drop 9 bytes)
-            (λ k. subst (λ (l : List ℕ). get_or l k 0 < 256) (sym (take-append-drop 9 bytes)) (are k)))) in
-            read_walk bytes long front walked
-      ])
-      (λ found. (Foreign found.0, inr (long, found.1)))
-      (first_place bytes 8 (omega arith))
-]
+no_other_reading = no_other_version_reading first_version (omega arith, omega arith)

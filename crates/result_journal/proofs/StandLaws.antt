@@ -4,14 +4,15 @@ use Rattle.std.proofs.lemmas.Bool.{cases_eq, cases_lt}
 use Rattle.std.proofs.lemmas.Bool.Decides.{nat_tests}
 use Rattle.std.proofs.lemmas.List.{append-nil}
 use Rattle.disks.specs.declared.range.Range.{Range}
-use Rattle.disks.specs.Parts.{Part, IsPartImage, is_among, all_synced, written_over, write_begun}
+use Rattle.disks.specs.Parts.{Part, IsPartImage, image_of, is_among, all_synced, part_of, written_over, write_begun}
+use Rattle.disks.specs.PartLaws.{image_of_part}
 use Rattle.result_journal.specs.Grammar.{head, IsBody, framed, records, AreBodies, Bodies, Reads}
 use Rattle.result_journal.specs.Steps.{BeginsBut}
 use Rattle.disks.specs.Moments.{Told}
 use Rattle.result_journal.specs.declared.journal.Journal.{Journal}
 use Rattle.result_journal.specs.declared.journal.Standing.{Standing}
 use Rattle.result_journal.specs.declared.journal.Standing.TheVariants.{Settled, GateMayBeOpen}
-use Rattle.result_journal.specs.Journals.{ReadsAs, BeforeOrAfter, Leaves, StandsBut, before_gate, AtRest, AtGate, StandsAt, StandsFor, prepared, is_settled, is_settled_at}
+use Rattle.result_journal.specs.Journals.{PartReadsAs, PartBeforeOrAfter, Leaves, StandsBut, before_gate, AtRest, AtGate, StandsAt, StandsFor, prepared, is_settled, is_settled_at}
 use Rattle.result_journal.proofs.FrameLaws.{length-framed}
 use Rattle.result_journal.proofs.FrontLaws.{Begins, begins, begins_but, get_front, get_but, written_behind, written_byte}
 
@@ -129,17 +130,20 @@ at_gate_reads part commands command end image at is =
 -- What a journal that stands for commands leaves.
 pub stands_leave : {D : Type 0} (told : D → Option Told) (journal : Journal D) (commands : List (List ℕ)) →
     StandsFor told journal commands → MatchBool (is_settled journal)
-    (Leaves (told journal.disk) (ReadsAs commands))
-    (Leaves (told journal.disk) (BeforeOrAfter commands (prepared journal)))
+    (Leaves (told journal.disk) (PartReadsAs journal.part commands))
+    (Leaves (told journal.disk) (PartBeforeOrAfter journal.part commands (prepared journal)))
 stands_leave told journal commands stands = by_gate journal.standing stands.on_disk
   where
     by_gate : (standing : Standing) → ((t : Told) → told journal.disk ≡ Some t →
-        StandsAt standing t.now.first commands (prepared journal) journal.end) →
-        MatchBool (is_settled_at standing) (Leaves (told journal.disk) (ReadsAs commands))
-        (Leaves (told journal.disk) (BeforeOrAfter commands (prepared journal)))
-    by_gate Settled at = λ t is image may. at_rest_reads t.now.first commands journal.end image.first (at t is) may.first
+        StandsAt standing (part_of t.now journal.part) commands (prepared journal) journal.end) →
+        MatchBool (is_settled_at standing) (Leaves (told journal.disk) (PartReadsAs journal.part commands))
+        (Leaves (told journal.disk) (PartBeforeOrAfter journal.part commands (prepared journal)))
+    by_gate Settled at = λ t is image may.
+        at_rest_reads (part_of t.now journal.part) commands journal.end (image_of image journal.part) (at t is)
+        (image_of_part t.now journal.part image may)
     by_gate GateMayBeOpen at = λ t is image may.
-        at_gate_reads t.now.first commands (prepared journal) journal.end image.first (at t is) may.first
+        at_gate_reads (part_of t.now journal.part) commands (prepared journal) journal.end (image_of image journal.part)
+        (at t is) (image_of_part t.now journal.part image may)
 
 -- The length of what stands in front.
 length-front : (commands : List (List ℕ)) (gate end : ℕ) → end ≡ length (before_gate commands) →

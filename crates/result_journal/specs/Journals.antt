@@ -1,20 +1,27 @@
 -- How a journal stands on its disk.
 use Rattle.std.specs.Prelude.{◌≡◌, ◌≢◌, ◌⊎◌, ℕ, ◌+◌, ◌-◌, ◌^◌, ◌<◌, ◌≤◌, Bool, true, false, List, [], ◌∷◌, ◌++◌, length, take, drop, slice_index, Option, Some}
-use Rattle.disks.specs.Parts.{Part, Image, MayLeave, is_among}
+use Rattle.disks.specs.Parts.{Part, Image, MayLeave, image_of, is_among, part_of}
 use Rattle.disks.specs.Moments.{Told, moment}
 use Rattle.result_journal.specs.Grammar.{head, records, framed, IsBody, AreBodies, Bodies, Reads}
 use Rattle.result_journal.specs.declared.journal.Journal.{Journal}
 use Rattle.result_journal.specs.declared.journal.Standing.{Standing}
 use Rattle.result_journal.specs.declared.journal.Standing.TheVariants.{Settled, GateMayBeOpen}
 
--- The part 0 of an image reads as these commands.
+-- The part on which an opening begins. What is said of it alone has a name without `Part`.
+abbrev pub begun_part : ℕ
+begun_part = 0
+
+-- What an image has of this part reads as these commands.
+abbrev pub PartReadsAs : ℕ → List (List ℕ) → Image → Type 0
+PartReadsAs part commands image = Reads (image_of image part) (Bodies commands)
+
 abbrev pub ReadsAs : List (List ℕ) → Image → Type 0
-ReadsAs commands image = Reads image.first (Bodies commands)
+ReadsAs = PartReadsAs begun_part
 
 -- It reads as these commands, or as these and one more.
-abbrev pub BeforeOrAfter : List (List ℕ) → List ℕ → Image → Type 0
-BeforeOrAfter commands command image =
-    ReadsAs commands image ⊎ ReadsAs (commands ++ command ∷ []) image
+abbrev pub PartBeforeOrAfter : ℕ → List (List ℕ) → List ℕ → Image → Type 0
+PartBeforeOrAfter part commands command image =
+    PartReadsAs part commands image ⊎ PartReadsAs part (commands ++ command ∷ []) image
 
 -- Whatever a crash now may leave, where the disk tells it, has P.
 abbrev pub Leaves : Option Told → (Image → Type 0) → Type 0
@@ -53,6 +60,10 @@ StandsAt GateMayBeOpen part commands command end = AtGate part commands command 
 abbrev pub disk_of : {D : Type 0} → Journal D → D
 disk_of journal = journal.disk
 
+-- The part of the disk that it stands on.
+abbrev pub journal_part : {D : Type 0} → Journal D → ℕ
+journal_part journal = journal.part
+
 -- The place of the gate behind the last record.
 abbrev pub end_of : {D : Type 0} → Journal D → ℕ
 end_of journal = journal.end
@@ -81,16 +92,18 @@ pub record IsPrepared {D : Type 0} (journal : Journal D) : Type 0 where
 -- The journal stands for these commands, where its disk tells how it stands. One that isn't settled stands for the
 -- commands before the one whose append failed, and that one's gate may be open.
 pub record StandsFor {D : Type 0} (told : D → Option Told) (journal : Journal D) (commands : List (List ℕ)) : Type 0 where
+  pub part : journal.part ≤ 1
   pub when_prepared : journal.is_prepared ≡ true → IsPrepared journal
   pub when_unsettled : is_settled journal ≡ false → journal.is_prepared ≡ true
   pub on_disk : (t : Told) → told journal.disk ≡ Some t →
-      StandsAt journal.standing t.now.first commands (prepared journal) journal.end
+      StandsAt journal.standing (part_of t.now journal.part) commands (prepared journal) journal.end
 
 abbrev pub StandsForSome : {D : Type 0} → (D → Option Told) → Journal D → Type 0
 StandsForSome told journal = (commands : List (List ℕ)) × StandsFor told journal commands
 
 -- Beside the disk, and whether it is settled, the journal is as it was.
 pub record SameButDisk {D : Type 0} (old new : Journal D) : Type 0 where
+  pub part : new.part ≡ old.part
   pub end : new.end ≡ old.end
   pub staged : new.staged.items ≡ old.staged.items
   pub prepared : new.is_prepared ≡ old.is_prepared

@@ -3,11 +3,12 @@ use Rattle.std.specs.Prelude.{◌≡◌, ◌≢◌, ◌⊎◌, ℕ, suc, ◌+◌
 use Rattle.std.specs.List.{slice_index_or}
 use Rattle.std.specs.Int.{w32, to_le_bytes}
 use Rattle.fault_counts.specs.Causes.{Rose}
-use Rattle.disks.specs.Parts.{Part, Image, MayLeave, all_synced}
+use Rattle.disks.specs.Parts.{Part, Image, MayLeave, all_synced, image_of, part_of}
 use Rattle.disks.specs.Moments.{Told, moment, LeftSince}
 use Rattle.disks.specs.Aheads.{IsAheadOf}
+use Rattle.disks.specs.Calls.{WhereTold}
 use Rattle.result_journal.specs.Grammar.{AreBodies, BeginsFramed, Reading, Foreign, Newer, Broken, Reads}
-use Rattle.result_journal.specs.Journals.{before_gate}
+use Rattle.result_journal.specs.Journals.{before_gate, begun_part}
 use Rattle.result_journal.specs.Begins.{BeginsAs}
 use Rattle.result_journal.specs.declared.opening.Opening.{Opening}
 use Rattle.result_journal.specs.declared.opening.OpenFault.{OpenFault}
@@ -24,18 +25,24 @@ pub record IsBehind (part : Part) (given : List (List ℕ)) (place size : ℕ) :
 
 -- The opening has given these bodies. Where it has answered that there is no other, the gate behind them is closed.
 pub record HasGiven {D : Type 0} (told : D → Option Told) (opening : Opening D) (given : List (List ℕ)) : Type 0 where
+  pub part : opening.part ≤ 1
   pub behind_head : 8 ≤ opening.place
   pub inside : opening.place < opening.size
-  pub ahead : IsAheadOf (told opening.disk) 0 opening.ahead
-  pub on_disk : (t : Told) → told opening.disk ≡ Some t → IsBehind t.now.first given opening.place opening.size
-  pub when_ended : opening.is_ended ≡ true → (t : Told) → told opening.disk ≡ Some t →
-      slice_index t.now.first.bytes opening.place ≢ 1
+  pub ahead : IsAheadOf (told opening.disk) opening.part opening.ahead
+  pub on_disk : WhereTold (told opening.disk) opening.part
+      (λ p. IsBehind p given opening.place opening.size)
+  pub when_ended : opening.is_ended ≡ true →
+      WhereTold (told opening.disk) opening.part (λ p. slice_index p.bytes opening.place ≢ 1)
 
 abbrev pub HasGivenSome : {D : Type 0} → (D → Option Told) → Opening D → Type 0
 HasGivenSome told opening = (given : List (List ℕ)) × HasGiven told opening given
 
 abbrev pub opened_disk : {D : Type 0} → Opening D → D
 opened_disk opening = opening.disk
+
+-- The part of the disk that is opened.
+abbrev pub opened_part : {D : Type 0} → Opening D → ℕ
+opened_part opening = opening.part
 
 -- The place of the gate behind the records that were given.
 abbrev pub next_gate : {D : Type 0} → Opening D → ℕ
@@ -48,21 +55,30 @@ is_ended opening = opening.is_ended
 abbrev pub ReadsAlike : List ℕ → List ℕ → Type 0
 ReadsAlike one other = (reading : Reading) → Reads one reading → Reads other reading
 
--- The image is one that a crash might have left before, or it reads as the disk did.
+-- The image is one that a crash might have left before, or it reads as the part did.
+abbrev pub PartLeftBeforeOrAlike : ℕ → Option Told → Image → Type 0
+PartLeftBeforeOrAlike part told image = (t : Told) → told ≡ Some t →
+    MayLeave t.now image ⊎ ReadsAlike (part_of t.now part).bytes (image_of image part)
+
 abbrev pub LeftBeforeOrAlike : Option Told → Image → Type 0
-LeftBeforeOrAlike told image = (t : Told) → told ≡ Some t →
-    MayLeave t.now image ⊎ ReadsAlike t.now.first.bytes image.first
+LeftBeforeOrAlike = PartLeftBeforeOrAlike begun_part
 
 -- From the moment after the old one on, which is that of a first sync, each image reads as the part
 -- did.
+abbrev pub PartAlikeOnceSynced : ℕ → Option Told → Option Told → Type 0
+PartAlikeOnceSynced part old new = (t u : Told) → old ≡ Some t → new ≡ Some u → (image : Image) →
+    LeftSince (suc (moment t)) u image → ReadsAlike (part_of t.now part).bytes (image_of image part)
+
 abbrev pub AlikeOnceSynced : Option Told → Option Told → Type 0
-AlikeOnceSynced old new = (t u : Told) → old ≡ Some t → new ≡ Some u → (image : Image) →
-    LeftSince (suc (moment t)) u image → ReadsAlike t.now.first.bytes image.first
+AlikeOnceSynced = PartAlikeOnceSynced begun_part
 
 -- What was more than the nine bytes that an opening may begin anew is as it was.
+abbrev pub PartStaysWhereLong : ℕ → Option Told → Option Told → Type 0
+PartStaysWhereLong part old new = (t u : Told) → old ≡ Some t → new ≡ Some u →
+    9 < length (part_of t.now part).bytes → (part_of u.now part).bytes ≡ (part_of t.now part).bytes
+
 abbrev pub LongPartStays : Option Told → Option Told → Type 0
-LongPartStays old new = (t u : Told) → old ≡ Some t → new ≡ Some u →
-    9 < length t.now.first.bytes → u.now.first.bytes ≡ t.now.first.bytes
+LongPartStays = PartStaysWhereLong begun_part
 
 -- The bytes show this fault, where it is one of them.
 abbrev pub Shows : List ℕ → OpenFault → Type 0
@@ -72,8 +88,8 @@ Shows bytes (NewerVersion found) = Reads bytes (Newer found)
 Shows bytes DiskFailed = Unit {0}
 Shows bytes Memory = Unit {0}
 
-abbrev pub ShownWhereTold : Option Told → OpenFault → Type 0
-ShownWhereTold told fault = (t : Told) → told ≡ Some t → Shows t.now.first.bytes fault
+abbrev pub ShownWhereTold : ℕ → Option Told → OpenFault → Type 0
+ShownWhereTold part told fault = WhereTold told part (λ p. Shows p.bytes fault)
 
 -- The count of faults rose where a call on the disk failed, and stays at every other answer.
 abbrev pub FaultCause : ℕ → OpenFault → ℕ → Type 0
@@ -127,6 +143,10 @@ IsNoFaultOfBytes (NotAJournal at) = ⊥
 IsNoFaultOfBytes (Damaged at byte) = ⊥
 IsNoFaultOfBytes (NewerVersion found) = ⊥
 
--- What part 0 holds is begun from what it held.
+-- What the part holds is begun from what it held.
+abbrev pub PartOpensAs : ℕ → Option Told → Option Told → Type 0
+PartOpensAs part old new = (t u : Told) → old ≡ Some t → new ≡ Some u →
+    BeginsAs (part_of t.now part).bytes (part_of u.now part).bytes
+
 abbrev pub OpensAs : Option Told → Option Told → Type 0
-OpensAs old new = (t u : Told) → old ≡ Some t → new ≡ Some u → BeginsAs t.now.first.bytes u.now.first.bytes
+OpensAs = PartOpensAs begun_part

@@ -3,12 +3,13 @@ ghost use Rattle.std.specs.Prelude.{◌≡◌, ◌⊎◌, ℕ, ◌+◌, ◌^◌,
 ghost use Rattle.std.specs.Prelude.{IfOk, IfErr, OnOk, OnErr, MatchBool};
 ghost use Rattle.result_journal.specs.Grammar.{framed};
 ghost use Rattle.result_journal.specs.Full.{IsFullFor};
-ghost use Rattle.result_journal.specs.Steps.{IsStaged, OtherStays};
+ghost use Rattle.result_journal.specs.Steps.{IsStaged, PartStays};
 ghost use Rattle.fault_counts.specs.Causes.{HasCause};
+ghost use Rattle.disks.specs.Parts.{other_part};
 ghost use Rattle.disks.specs.Moments.{Told, AtEachMoment};
-ghost use Rattle.result_journal.specs.Journals.{ReadsAs, BeforeOrAfter, Leaves, StandsFor, StandsForSome, SameButDisk};
-ghost use Rattle.result_journal.specs.Journals.{TakesMoments, disk_of, end_of, is_settled, is_settled_at, is_prepared};
-ghost use Rattle.result_journal.specs.Journals.{prepared, IsPrepared};
+ghost use Rattle.result_journal.specs.Journals.{PartReadsAs, PartBeforeOrAfter, Leaves, StandsFor, StandsForSome};
+ghost use Rattle.result_journal.specs.Journals.{SameButDisk, TakesMoments, disk_of, end_of, is_settled, is_settled_at};
+ghost use Rattle.result_journal.specs.Journals.{prepared, IsPrepared, is_prepared, journal_part};
 
 use crate::DiskFailed;
 use crate::write_through::write_through;
@@ -74,10 +75,11 @@ impl Standing {
     }
 }
 
-/// A journal of commands on part 0 of a disk.
+/// A journal of commands on one part of a disk.
 #[derive(Drop)]
 pub struct Journal<D: Disk> {
     pub(crate) disk: D,
+    pub(crate) part: u8,
     pub(crate) end: u64,
     pub(crate) staged: Vec<u8>,
     pub(crate) is_prepared: bool,
@@ -89,8 +91,10 @@ impl<D: Disk> Journal<D> {
     pub fn is_settled(&self) -> bool
         ensures value { result ≡ is_settled self.now }
         ensures leaves { (commands : List (List ℕ)) → StandsFor D.told self.now commands →
-            MatchBool result (Leaves (D.told (disk_of self.now)) (ReadsAs commands))
-            (Leaves (D.told (disk_of self.now)) (BeforeOrAfter commands (prepared self.now))) }
+            MatchBool result
+            (Leaves (D.told (disk_of self.now)) (PartReadsAs (journal_part self.now) commands))
+            (Leaves (D.told (disk_of self.now))
+            (PartBeforeOrAfter (journal_part self.now) commands (prepared self.now))) }
     {
         self.standing.nothing_is_left()
     }
@@ -109,6 +113,7 @@ impl<D: Disk> Journal<D> {
         ensures full { IfErr result (IsFullFor (end_of self.old) (5 + length command.now)) }
         ensures err { OnErr result (self.new ≡ self.old) }
         ensures disk { disk_of self.new ≡ disk_of self.old }
+        ensures part { journal_part self.new ≡ journal_part self.old }
         ensures end { end_of self.new ≡ end_of self.old }
         ensures still_settled { is_settled self.new ≡ true }
         ensures commands { (commands : List (List ℕ)) →
@@ -138,12 +143,13 @@ impl<D: Disk> Journal<D> {
 
         ensures any_moment { (commands : List (List ℕ)) → StandsFor D.told self.old commands →
             AtEachMoment (D.told (disk_of self.old)) (D.told (disk_of self.new))
-            (BeforeOrAfter commands (prepared self.old)) }
+            (PartBeforeOrAfter (journal_part self.old) commands (prepared self.old)) }
 
         // At `Ok` a crash leaves the commands with the new one, and nothing else.
         ensures acknowledged { OnOk result ((commands : List (List ℕ)) →
             StandsFor D.told self.old commands →
-            Leaves (D.told (disk_of self.new)) (ReadsAs (commands ++ prepared self.old ∷ []))) }
+            Leaves (D.told (disk_of self.new))
+            (PartReadsAs (journal_part self.old) (commands ++ prepared self.old ∷ []))) }
         ensures ok { OnOk result ((commands : List (List ℕ)) → StandsFor D.told self.old commands →
             StandsFor D.told self.new (commands ++ prepared self.old ∷ [])) }
         ensures ok_settled { OnOk result (is_settled self.new ≡ true) }
@@ -158,7 +164,9 @@ impl<D: Disk> Journal<D> {
             StandsFor D.told self.new commands) }
         ensures err_same { OnErr result (SameButDisk self.old self.new) }
         ensures still { StandsForSome D.told self.new }
-        ensures other { OtherStays (D.told (disk_of self.old)) (D.told (disk_of self.new)) }
+        ensures part { journal_part self.new ≡ journal_part self.old }
+        ensures other { PartStays (other_part (journal_part self.old))
+            (D.told (disk_of self.old)) (D.told (disk_of self.new)) }
 
         ensures cause { HasCause (D.faults (disk_of self.old))
             (D.faults (disk_of self.new)) result }
@@ -175,7 +183,7 @@ impl<D: Disk> Journal<D> {
         requires settled { is_settled self.old ≡ true }
         ensures any_moment { (commands : List (List ℕ)) → StandsFor D.told self.old commands →
             AtEachMoment (D.told (disk_of self.old)) (D.told (disk_of self.new))
-            (ReadsAs commands) }
+            (PartReadsAs (journal_part self.old) commands) }
         ensures stands { (commands : List (List ℕ)) → StandsFor D.told self.old commands →
             StandsFor D.told self.new commands }
         ensures staged { OnOk result ((commands : List (List ℕ)) →
@@ -184,11 +192,12 @@ impl<D: Disk> Journal<D> {
         ensures calls { OnOk result (TakesMoments 2 (D.told (disk_of self.old))
             (D.told (disk_of self.new))) }
         ensures same { self.new ≡ record self.old { disk = self.new.disk } }
-        ensures other { OtherStays (D.told (disk_of self.old)) (D.told (disk_of self.new)) }
+        ensures other { PartStays (other_part (journal_part self.old))
+            (D.told (disk_of self.old)) (D.told (disk_of self.new)) }
         ensures cause { HasCause (D.faults (disk_of self.old))
             (D.faults (disk_of self.new)) result }
     {
-        write_through(&mut self.disk, self.end + 1, &self.staged)
+        write_through(&mut self.disk, self.part, self.end + 1, &self.staged)
     }
 
     // Opens the gate before the record that stands behind it, and syncs.
@@ -200,7 +209,7 @@ impl<D: Disk> Journal<D> {
         ensures any_moment { (commands : List (List ℕ)) → StandsFor D.told self.old commands →
             IsStaged D.told self.old commands →
             AtEachMoment (D.told (disk_of self.old)) (D.told (disk_of self.new))
-            (BeforeOrAfter commands (prepared self.old)) }
+            (PartBeforeOrAfter (journal_part self.old) commands (prepared self.old)) }
         ensures ok { OnOk result ((commands : List (List ℕ)) → StandsFor D.told self.old commands →
             IsStaged D.told self.old commands →
             StandsFor D.told self.new (commands ++ prepared self.old ∷ [])) }
@@ -212,14 +221,16 @@ impl<D: Disk> Journal<D> {
         ensures err { OnErr result ((commands : List (List ℕ)) →
             StandsFor D.told self.old commands →
             IsStaged D.told self.old commands → StandsFor D.told self.new commands) }
+        ensures part { journal_part self.new ≡ journal_part self.old }
         ensures err_same { OnErr result (self.new ≡
             record self.old { disk = self.new.disk; standing = Standing.GateMayBeOpen }) }
-        ensures other { OtherStays (D.told (disk_of self.old)) (D.told (disk_of self.new)) }
+        ensures other { PartStays (other_part (journal_part self.old))
+            (D.told (disk_of self.old)) (D.told (disk_of self.new)) }
         ensures cause { HasCause (D.faults (disk_of self.old))
             (D.faults (disk_of self.new)) result }
     {
         self.standing = Standing::GateMayBeOpen;
-        write_through(&mut self.disk, self.end, &[OPEN])?;
+        write_through(&mut self.disk, self.part, self.end, &[OPEN])?;
         self.standing = Standing::Settled;
         self.is_prepared = false;
         self.end += self.staged.len() as u64;
@@ -234,12 +245,12 @@ impl<D: Disk> Journal<D> {
 
         ensures any_moment { (commands : List (List ℕ)) → StandsFor D.told self.old commands →
             AtEachMoment (D.told (disk_of self.old)) (D.told (disk_of self.new))
-            (BeforeOrAfter commands (prepared self.old)) }
+            (PartBeforeOrAfter (journal_part self.old) commands (prepared self.old)) }
 
         // At `Ok` a crash leaves the commands without that one.
         ensures settled { OnOk result ((commands : List (List ℕ)) →
             StandsFor D.told self.old commands →
-            Leaves (D.told (disk_of self.new)) (ReadsAs commands)) }
+            Leaves (D.told (disk_of self.new)) (PartReadsAs (journal_part self.old) commands)) }
         ensures commands { (commands : List (List ℕ)) → StandsFor D.told self.old commands →
             StandsFor D.told self.new commands }
         ensures still { StandsForSome D.told self.new }
@@ -248,12 +259,13 @@ impl<D: Disk> Journal<D> {
             ≡ false)) }
         ensures same { SameButDisk self.old self.new }
         ensures unmoved { is_settled self.old ≡ true → self.new ≡ self.old }
-        ensures other { OtherStays (D.told (disk_of self.old)) (D.told (disk_of self.new)) }
+        ensures other { PartStays (other_part (journal_part self.old))
+            (D.told (disk_of self.old)) (D.told (disk_of self.new)) }
         ensures cause { HasCause (D.faults (disk_of self.old))
             (D.faults (disk_of self.new)) result }
     {
         if !self.is_settled() {
-            write_through(&mut self.disk, self.end, &[CLOSED])?;
+            write_through(&mut self.disk, self.part, self.end, &[CLOSED])?;
             self.standing = Standing::Settled;
         }
         Ok(())
@@ -272,6 +284,7 @@ impl<D: Disk> Journal<D> {
     {
         let Journal {
             disk,
+            part: _,
             end: _,
             staged: _,
             is_prepared: _,

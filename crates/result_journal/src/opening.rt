@@ -2,16 +2,19 @@
 ghost use Rattle.std.specs.Prelude.{◌≡◌, ℕ, ◌+◌, ◌^◌, ◌<◌, ◌≤◌, ◌↔◌, IsTrue, List, [], ◌∷◌, ◌++◌, length, true, false};
 ghost use Rattle.std.specs.Prelude.{None, Some, take, drop, IfOk, IfErr, OnOk, OnErr, MatchOption, MatchResult, ⊤};
 ghost use Rattle.std.specs.Int.{w32, to_le_bytes, from_le_bytes};
+ghost use Rattle.disks.specs.Parts.{other_part};
 ghost use Rattle.disks.specs.Moments.{Told, AtEachMoment};
 ghost use Rattle.disks.specs.Calls.{WhereTold};
 ghost use Rattle.disks.specs.Aheads.{IsAheadOf, HoldsNothing};
 ghost use Rattle.result_journal.specs.Grammar.{Reads, Bodies, IsBody};
-ghost use Rattle.result_journal.specs.Journals.{StandsFor, disk_of, end_of, is_settled, is_prepared};
-ghost use Rattle.result_journal.specs.Steps.{OtherStays};
+ghost use Rattle.result_journal.specs.Journals.{StandsFor, begun_part, disk_of, end_of, is_settled, is_prepared};
+ghost use Rattle.result_journal.specs.Journals.{journal_part};
+ghost use Rattle.result_journal.specs.Steps.{OtherStays, PartStays};
 ghost use Rattle.result_journal.specs.Openings.{HasGiven, HasGivenSome, IsBehind, OpensAs, FaultCause, opened_disk};
 ghost use Rattle.result_journal.specs.Openings.{next_gate, is_ended, LeftBeforeOrAlike, AlikeOnceSynced, LongPartStays};
 ghost use Rattle.result_journal.specs.Openings.{ShownWhereTold, CountsOpening, FindsLength, IfFits, BrokenFault};
-ghost use Rattle.result_journal.specs.Openings.{IsNoFaultOfBytes};
+ghost use Rattle.result_journal.specs.Openings.{IsNoFaultOfBytes, opened_part, PartOpensAs, PartStaysWhereLong};
+ghost use Rattle.result_journal.specs.Openings.{PartAlikeOnceSynced, PartLeftBeforeOrAlike};
 
 use crate::begin::{EMPTY_SIZE, check_head, is_empty_journal, write_empty_journal};
 use crate::journal::{Journal, Standing};
@@ -58,12 +61,16 @@ impl From<AllocError> for OpenFault {
 #[derive(Drop)]
 pub struct Opening<D: Disk> {
     pub(crate) disk: D,
+    pub(crate) part: u8,
     pub(crate) size: u64,
     pub(crate) place: u64,
     pub(crate) is_ended: bool,
     pub(crate) ahead: ReadAhead,
     staged: Vec<u8>,
 }
+
+/// The part on which a journal is begun.
+const BEGUN_PART: u8 = 0;
 
 /// The place behind the head.
 const FIRST_GATE: u64 = 8;
@@ -83,7 +90,8 @@ impl<D: Disk> Opening<D> {
         ensures begins { IfOk result (λ o. OpensAs (D.told disk) (D.told (opened_disk o))) }
         ensures going { IfOk result (λ o. is_ended o ≡ false) }
         ensures place { IfOk result (λ o. next_gate o ≡ 8) }
-        ensures shown { IfErr result (λ e. ShownWhereTold (D.told disk) e.0) }
+        ensures part { IfOk result (λ o. opened_part o ≡ begun_part) }
+        ensures shown { IfErr result (λ e. ShownWhereTold begun_part (D.told disk) e.0) }
 
         // A part that is refused stays, and so does the other part, whatever is answered.
         ensures kept { IfErr result (λ e. LongPartStays (D.told disk) (D.told e.1)) }
@@ -104,9 +112,10 @@ impl<D: Disk> Opening<D> {
         let Ok(mut ahead) = ReadAhead::new(alloc) else {
             return Err((OpenFault::Memory, disk));
         };
-        match begin_part(&mut disk, &mut ahead) {
+        match begin_part(&mut disk, BEGUN_PART, &mut ahead) {
             Ok(size) => Ok(Opening {
                 disk,
+                part: BEGUN_PART,
                 size,
                 place: FIRST_GATE,
                 is_ended: false,
@@ -126,10 +135,12 @@ impl<D: Disk> Opening<D> {
         ensures settled { is_settled result ≡ true }
         ensures prepared { is_prepared result ≡ false }
         ensures end { end_of result ≡ next_gate self }
+        ensures part { journal_part result ≡ opened_part self }
         ensures disk { disk_of result ≡ opened_disk self }
     {
         let Opening {
             disk,
+            part,
             size: _,
             place,
             is_ended: _,
@@ -138,6 +149,7 @@ impl<D: Disk> Opening<D> {
         } = self;
         Journal {
             disk,
+            part,
             end: place,
             staged,
             is_prepared: false,
@@ -151,6 +163,7 @@ impl<D: Disk> Opening<D> {
     {
         let Opening {
             disk,
+            part: _,
             size: _,
             place: _,
             is_ended: _,
@@ -166,6 +179,7 @@ impl<D: Disk> Opening<D> {
         ensures given { HasGiven D.told self.new [] }
         ensures place { next_gate self.new ≡ 8 }
         ensures going { is_ended self.new ≡ false }
+        ensures part { opened_part self.new ≡ opened_part self.old }
         ensures disk { opened_disk self.new ≡ opened_disk self.old }
     {
         self.place = FIRST_GATE;
@@ -197,12 +211,13 @@ impl<D: Disk> Opening<D> {
         ensures keeps { IfOk result (λ found. MatchOption found ((given : List (List ℕ)) →
             HasGiven D.told self.old given → HasGiven D.told self.new given) (λ _. ⊤)) }
         ensures all { IfOk result (λ found. MatchOption found ((given : List (List ℕ)) →
-            HasGiven D.told self.old given → (t : Told) → D.told (opened_disk self.old) ≡ Some t →
-            Reads t.now.first.bytes (Bodies given)) (λ _. ⊤)) }
+            HasGiven D.told self.old given → WhereTold (D.told (opened_disk self.old))
+            (opened_part self.old) (λ p. Reads p.bytes (Bodies given))) (λ _. ⊤)) }
         ensures none { IfOk result (λ found. MatchOption found (into.new.items ≡ []) (λ _. ⊤)) }
 
         // or a fault, which the bytes show.
-        ensures shown { IfErr result (ShownWhereTold (D.told (opened_disk self.old))) }
+        ensures shown { IfErr result (ShownWhereTold (opened_part self.old)
+            (D.told (opened_disk self.old))) }
         ensures err { OnErr result (into.new.items ≡ []) }
         ensures err_keeps { OnErr result ((given : List (List ℕ)) →
             HasGiven D.told self.old given → HasGiven D.told self.new given) }
@@ -210,6 +225,7 @@ impl<D: Disk> Opening<D> {
         ensures still { HasGivenSome D.told self.new }
 
         // The disk isn't changed.
+        ensures part { opened_part self.new ≡ opened_part self.old }
         ensures told { D.told (opened_disk self.new) ≡ D.told (opened_disk self.old) }
         ensures cause { CountsOpening (D.faults (opened_disk self.old)) result
             (D.faults (opened_disk self.new)) }
@@ -229,15 +245,18 @@ impl<D: Disk> Opening<D> {
     // The length of the next body, or `None` at a closed gate.
     fn next_length(&mut self) -> Result<Option<usize>, OpenFault>
         requires inside { next_gate self.old < self.old.size }
-        requires ahead { IsAheadOf (D.told (opened_disk self.old)) 0 self.old.ahead }
-        ensures found { WhereTold (D.told (opened_disk self.old)) 0 (λ p. self.old.size
-            ≡ length p.bytes →
+        requires part { opened_part self.old ≤ 1 }
+        requires ahead { IsAheadOf (D.told (opened_disk self.old)) (opened_part self.old)
+            self.old.ahead }
+        ensures found { WhereTold (D.told (opened_disk self.old)) (opened_part self.old) (λ p.
+            self.old.size ≡ length p.bytes →
             MatchResult result (FindsLength p.bytes (next_gate self.old))
             (BrokenFault p.bytes (next_gate self.old))) }
         ensures inside { IfOk result (IfFits (next_gate self.old) self.old.size) }
         ensures same { self.new ≡
             record self.old { disk = self.new.disk; ahead = self.new.ahead } }
-        ensures ahead { IsAheadOf (D.told (opened_disk self.old)) 0 self.new.ahead }
+        ensures ahead { IsAheadOf (D.told (opened_disk self.old)) (opened_part self.old)
+            self.new.ahead }
         ensures told { D.told (opened_disk self.new) ≡ D.told (opened_disk self.old) }
         ensures cause { CountsOpening (D.faults (opened_disk self.old)) result
             (D.faults (opened_disk self.new)) }
@@ -249,7 +268,7 @@ impl<D: Disk> Opening<D> {
         let mut header = [0u8; 5];
         let whole = self
             .ahead
-            .read_exact_at(&mut self.disk, 0, self.place, &mut header)?;
+            .read_exact_at(&mut self.disk, self.part, self.place, &mut header)?;
         if !whole {
             return Err(self.damaged(256));
         }
@@ -268,15 +287,18 @@ impl<D: Disk> Opening<D> {
         requires some { 0 < left }
         requires left { next_gate self.old + left ≡ self.old.size }
         requires few { left < 6 }
-        requires ahead { IsAheadOf (D.told (opened_disk self.old)) 0 self.old.ahead }
-        ensures found { WhereTold (D.told (opened_disk self.old)) 0 (λ p. self.old.size
-            ≡ length p.bytes →
+        requires part { opened_part self.old ≤ 1 }
+        requires ahead { IsAheadOf (D.told (opened_disk self.old)) (opened_part self.old)
+            self.old.ahead }
+        ensures found { WhereTold (D.told (opened_disk self.old)) (opened_part self.old) (λ p.
+            self.old.size ≡ length p.bytes →
             MatchResult result (FindsLength p.bytes (next_gate self.old))
             (BrokenFault p.bytes (next_gate self.old))) }
         ensures none { IfOk result (λ found. found ≡ None) }
         ensures same { self.new ≡
             record self.old { disk = self.new.disk; ahead = self.new.ahead } }
-        ensures ahead { IsAheadOf (D.told (opened_disk self.old)) 0 self.new.ahead }
+        ensures ahead { IsAheadOf (D.told (opened_disk self.old)) (opened_part self.old)
+            self.new.ahead }
         ensures told { D.told (opened_disk self.new) ≡ D.told (opened_disk self.old) }
         ensures cause { CountsOpening (D.faults (opened_disk self.old)) result
             (D.faults (opened_disk self.new)) }
@@ -284,7 +306,7 @@ impl<D: Disk> Opening<D> {
         let mut gate = [0u8; 1];
         let whole = self
             .ahead
-            .read_exact_at(&mut self.disk, 0, self.place, &mut gate)?;
+            .read_exact_at(&mut self.disk, self.part, self.place, &mut gate)?;
         if !whole {
             return Err(self.damaged(256));
         }
@@ -297,7 +319,7 @@ impl<D: Disk> Opening<D> {
         let mut behind = [0u8; 1];
         let whole = self
             .ahead
-            .read_exact_at(&mut self.disk, 0, self.place + 1, &mut behind)?;
+            .read_exact_at(&mut self.disk, self.part, self.place + 1, &mut behind)?;
         if !whole {
             return Err(self.damaged(256));
         }
@@ -319,16 +341,19 @@ impl<D: Disk> Opening<D> {
     fn body(&mut self, alloc: Global, count: usize) -> Result<Vec<u8>, OpenFault>
         requires some { 0 < count }
         requires inside { next_gate self.old + 5 + count < self.old.size }
-        requires ahead { IsAheadOf (D.told (opened_disk self.old)) 0 self.old.ahead }
-        ensures body { WhereTold (D.told (opened_disk self.old)) 0 (λ p.
+        requires part { opened_part self.old ≤ 1 }
+        requires ahead { IsAheadOf (D.told (opened_disk self.old)) (opened_part self.old)
+            self.old.ahead }
+        ensures body { WhereTold (D.told (opened_disk self.old)) (opened_part self.old) (λ p.
             IfOk result (λ body. body.items ≡ take count (drop (next_gate self.old + 5) p.bytes))) }
         ensures length { IfOk result (λ body. length body.items ≡ count) }
-        ensures fault { WhereTold (D.told (opened_disk self.old)) 0 (λ p. self.old.size
-            ≡ length p.bytes →
+        ensures fault { WhereTold (D.told (opened_disk self.old)) (opened_part self.old) (λ p.
+            self.old.size ≡ length p.bytes →
             IfErr result IsNoFaultOfBytes) }
         ensures same { self.new ≡
             record self.old { disk = self.new.disk; ahead = self.new.ahead } }
-        ensures ahead { IsAheadOf (D.told (opened_disk self.old)) 0 self.new.ahead }
+        ensures ahead { IsAheadOf (D.told (opened_disk self.old)) (opened_part self.old)
+            self.new.ahead }
         ensures told { D.told (opened_disk self.new) ≡ D.told (opened_disk self.old) }
         ensures cause { CountsOpening (D.faults (opened_disk self.old)) result
             (D.faults (opened_disk self.new)) }
@@ -336,7 +361,7 @@ impl<D: Disk> Opening<D> {
         let mut body = vec![in alloc; 0u8; count]?;
         let whole = self
             .ahead
-            .read_exact_at(&mut self.disk, 0, self.place + 5, &mut body)?;
+            .read_exact_at(&mut self.disk, self.part, self.place + 5, &mut body)?;
         if !whole {
             return Err(self.damaged(256));
         }
@@ -344,30 +369,31 @@ impl<D: Disk> Opening<D> {
     }
 }
 
-// Syncs part 0 and judges its head, or begins it anew. Answers its size.
-fn begin_part<D: Disk>(disk: &mut D, ahead: &mut ReadAhead) -> Result<u64, OpenFault>
-    requires { HoldsNothing ahead.old }
-    ensures ahead { OnOk result (IsAheadOf (D.told disk.new) 0 ahead.new) }
+// Syncs a part and judges its head, or begins it anew. Answers its size.
+fn begin_part<D: Disk>(disk: &mut D, part: u8, ahead: &mut ReadAhead) -> Result<u64, OpenFault>
+    requires part { part ≤ 1 }
+    requires ahead { HoldsNothing ahead.old }
+    ensures ahead { OnOk result (IsAheadOf (D.told disk.new) part ahead.new) }
     ensures size { IfOk result (λ size. 9 ≤ size) }
-    ensures begun { IfOk result (λ size. (t : Told) → D.told disk.new ≡ Some t →
-        IsBehind t.now.first [] 8 size) }
-    ensures begins { OnOk result (OpensAs (D.told disk.old) (D.told disk.new)) }
-    ensures shown { IfErr result (ShownWhereTold (D.told disk.old)) }
-    ensures kept { OnErr result (LongPartStays (D.told disk.old) (D.told disk.new)) }
-    ensures other { OtherStays (D.told disk.old) (D.told disk.new) }
-    ensures synced { AlikeOnceSynced (D.told disk.old) (D.told disk.new) }
-    ensures any_moment { AtEachMoment (D.told disk.old) (D.told disk.new) (LeftBeforeOrAlike
-        (D.told disk.old)) }
+    ensures begun { IfOk result (λ size. WhereTold (D.told disk.new) part
+        (λ p. IsBehind p [] 8 size)) }
+    ensures begins { OnOk result (PartOpensAs part (D.told disk.old) (D.told disk.new)) }
+    ensures shown { IfErr result (ShownWhereTold part (D.told disk.old)) }
+    ensures kept { OnErr result (PartStaysWhereLong part (D.told disk.old) (D.told disk.new)) }
+    ensures other { PartStays (other_part part) (D.told disk.old) (D.told disk.new) }
+    ensures synced { PartAlikeOnceSynced part (D.told disk.old) (D.told disk.new) }
+    ensures any_moment { AtEachMoment (D.told disk.old) (D.told disk.new)
+        (PartLeftBeforeOrAlike part (D.told disk.old)) }
     ensures cause { CountsOpening (D.faults disk.old) result (D.faults disk.new) }
 {
-    disk.sync(0)?;
-    let size = disk.len(0)?;
+    disk.sync(part)?;
+    let size = disk.len(part)?;
     if size > EMPTY_SIZE {
-        check_head(disk, ahead)?;
+        check_head(disk, part, ahead)?;
         return Ok(size);
     }
-    if !is_empty_journal(disk, ahead, size)? {
-        write_empty_journal(disk)?;
+    if !is_empty_journal(disk, part, ahead, size)? {
+        write_empty_journal(disk, part)?;
         ahead.forget();
     }
     Ok(EMPTY_SIZE)

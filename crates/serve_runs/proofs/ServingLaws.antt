@@ -5,12 +5,12 @@ use Rattle.policy_tables.specs.declared.tables.PolicyTables.{PolicyTables}
 use Rattle.outside.specs.Ends.{Outgoing}
 use Rattle.result_journal.specs.Journals.{disk_of}
 use Rattle.result_journal.specs.declared.journal.Journal.{Journal}
-use Rattle.record_desk.specs.Standing.{HasRecorded}
-use Rattle.record_desk.proofs.StandingLaws.{served_leaves}
-use Rattle.service_core.specs.History.{Entry}
-use Rattle.service_core.specs.Service.{service_of}
+use Rattle.served_desk.specs.RecordDesk.Standing.{HasRecorded}
+use Rattle.served_desk.proofs.RecordDesk.StandingLaws.{served_leaves}
+use Rattle.served_desk.specs.ServiceCore.History.{Entry}
+use Rattle.served_desk.specs.ServiceCore.Service.{service_of}
 use Rattle.service_effects.specs.Service.{ServiceWorld}
-use Rattle.service_machine.specs.Machines.{Plays}
+use Rattle.served_desk.specs.ServiceMachine.Machines.{Plays}
 use Rattle.serve_runs.specs.Runs.{IsServedHistory, premises_of}
 
 pub history_of : {A D T : Type 0} (told : D → Option Told) (faults : D → ℕ) (tells : T → List ℤ → Type 0) (tables : PolicyTables) (opened world : ServiceWorld)

@@ -13,7 +13,7 @@ use Rattle.outside.specs.declared.whole.WriteEnd.{WriteEnd}
 use Rattle.outside.specs.declared.whole.WriteEnd.TheVariants as write_ends
 use Rattle.policy_tables.specs.declared.tables.PolicyTables.{PolicyTables}
 use Rattle.served_desk.specs.Posts.{AreCallsOf, EachFrom, Post, ServesDoors}
-use Rattle.service_core.specs.History.{Entry}
+use Rattle.served_desk.specs.ServiceCore.History.{Entry}
 use Rattle.service_effects.specs.Service.{ServiceWorld}
 use Rattle.serve_runs.specs.Endings.{serve_status, served_text, write_status}
 use Rattle.serve_runs.specs.Runs.{IsServing, Premises, ServesAll, ServesNone}

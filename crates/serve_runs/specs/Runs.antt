@@ -8,13 +8,13 @@ use Rattle.outside.specs.Ends.{Ends, Outgoing}
 use Rattle.outside.specs.Whole.{WritesWhole}
 use Rattle.outside.specs.declared.whole.WriteEnd.{WriteEnd}
 use Rattle.policy_tables.specs.declared.tables.PolicyTables.{PolicyTables}
-use Rattle.record_desk.specs.Standing.{AtEachCall, GoesThrough, HasLast, point_at}
+use Rattle.served_desk.specs.RecordDesk.Standing.{AtEachCall, GoesThrough, HasLast, point_at}
 use Rattle.result_journal.specs.Journals.{Leaves}
 use Rattle.served_desk.specs.Posts.{ServesDoors}
-use Rattle.service_core.specs.History.{Entry}
-use Rattle.service_core.specs.Service.{Service, service_of}
+use Rattle.served_desk.specs.ServiceCore.History.{Entry}
+use Rattle.served_desk.specs.ServiceCore.Service.{Service, service_of}
 use Rattle.service_effects.specs.Service.{ServiceWorld}
-use Rattle.service_machine.specs.Machines.{Plays}
+use Rattle.served_desk.specs.ServiceMachine.Machines.{Plays}
 use Rattle.serve_runs.specs.Endings.{served_text}
 use Rattle.serve_runs.specs.declared.ending.ServeEnding.{ServeEnding}
 use Rattle.serve_runs.specs.declared.ending.ServeEnding.TheVariants.{Unserved, Served}

@@ -9,7 +9,7 @@ use Rattle.fault_counts.specs.Causes.{Rose}
 use Rattle.outside.specs.Bytes.{Took}
 use Rattle.outside.specs.Ends.{Ends}
 use Rattle.served_desk.specs.Posts.{ServesDoors}
-use Rattle.service_core.specs.History.{Entry}
+use Rattle.served_desk.specs.ServiceCore.History.{Entry}
 use Rattle.serve_runs.specs.Endings.{served_text}
 use Rattle.serve_runs.specs.Runs.{Premises}
 

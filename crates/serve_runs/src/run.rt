@@ -1,8 +1,8 @@
 //! A run of the service.
 ghost use Rattle.std.specs.Prelude.{◌≡◌, ◌≤◌, vec_len};
 ghost use Rattle.result_journal.specs.Journals.{disk_of};
-ghost use Rattle.service_core.specs.CoreState.{world_in};
-ghost use Rattle.service_desk.specs.Shelves.{IsOpened};
+ghost use Rattle.served_desk.specs.ServiceCore.CoreState.{world_in};
+ghost use Rattle.served_desk.specs.ServiceDesk.Shelves.{IsOpened};
 ghost use Rattle.serve_runs.specs.Endings.{serve_status};
 ghost use Rattle.serve_runs.specs.Runs.{IsServing, premises_of};
 ghost use Rattle.serve_runs.specs.Statuses.{ServeSays};
@@ -13,8 +13,8 @@ use doors::Door;
 use journal_book::Book;
 use outside::{Clock, Sink, put_whole};
 use permissions::Policy;
+use served_desk::service_machine::ServiceMachine;
 use served_desk::{Office, serve_office};
-use service_machine::ServiceMachine;
 use std::alloc::Global;
 use std::sync::Wait;
 use std::thread::Threads;

@@ -6,14 +6,14 @@ use Rattle.dialers.specs.Dials.{Dials}
 use Rattle.disks.specs.Moments.{Told as DiskTold}
 use Rattle.policy_tables.specs.declared.tables.PolicyTables.{PolicyTables}
 use Rattle.result_journal.specs.declared.journal.Journal.{Journal}
-use Rattle.service_effects.specs.Service.{ServiceWorld}
-use Rattle.service_core.specs.CoreState.{world_in}
-use Rattle.service_core.specs.History.{Entry}
-use Rattle.service_core.specs.Service.{service_of}
-use Rattle.service_machine.specs.Machines.{Plays}
-use Rattle.request_demands.specs.Settings.{Settings}
-use Rattle.record_desk.specs.Standing.{HasRecorded}
-use Rattle.record_desk.proofs.StandingLaws.{recorded_opened}
+use Rattle.service_desk.specs.ServiceEffects.Service.{ServiceWorld}
+use Rattle.service_desk.specs.ServiceCore.CoreState.{world_in}
+use Rattle.service_desk.specs.ServiceCore.History.{Entry}
+use Rattle.service_desk.specs.ServiceCore.Service.{service_of}
+use Rattle.service_desk.specs.ServiceMachine.Machines.{Plays}
+use Rattle.service_desk.specs.RequestDemands.Settings.{Settings}
+use Rattle.service_desk.specs.RecordDesk.Standing.{HasRecorded}
+use Rattle.service_desk.proofs.RecordDesk.StandingLaws.{recorded_opened}
 use Rattle.door_workers.specs.Tallies.{nothing_counted}
 use Rattle.door_workers.specs.declared.tally.Tally.{Tally}
 use Rattle.service_desk.specs.Shelves.{IsOpened, Led, service_on}

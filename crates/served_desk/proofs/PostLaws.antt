@@ -7,9 +7,9 @@ use Rattle.std.proofs.lemmas.List.{length-map}
 use Rattle.atomic_table.specs.Seated.{TableId}
 use Rattle.outside.specs.Ends.{Ends}
 use Rattle.dialers.specs.Dials.{Dials}
-use Rattle.service_core.specs.History.{Entry}
+use Rattle.service_desk.specs.ServiceCore.History.{Entry}
 use Rattle.tellers.specs.Exchange.{Exchange}
-use Rattle.record_desk.specs.Standing.{exchange_of}
+use Rattle.service_desk.specs.RecordDesk.Standing.{exchange_of}
 use Rattle.turnstile.specs.declared.board.Known.{Known}
 use Rattle.turnstile.specs.Seats.{IsWhole, Seated, first_known}
 use Rattle.door_workers.specs.Visits.{exchanges_on}

@@ -3,7 +3,7 @@ use Rattle.std.proofs.Common.{◌≡◌, ◌≢◌, ℕ, suc, ◌+◌, ◌-◌, 
 use Rattle.std.specs.List.{AllByRecursion}
 use Rattle.std.proofs.lemmas.List.{length-map, map-append}
 use Rattle.atomic_table.specs.Seated.{TableId}
-use Rattle.service_core.specs.History.{Entry}
+use Rattle.service_desk.specs.ServiceCore.History.{Entry}
 use Rattle.turnstile.specs.declared.board.Known.{Known}
 use Rattle.turnstile.specs.Histories.{AtMost, Begins, NoneOf, times}
 use Rattle.turnstile.specs.Seats.{Agrees, IsWhole, Seated, first_known, joined, names, split_left, split_right}

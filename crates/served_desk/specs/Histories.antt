@@ -2,11 +2,11 @@
 use Rattle.std.specs.Prelude.{ℕ, ℤ, List, Option}
 use Rattle.disks.specs.Moments.{Told as DiskTold}
 use Rattle.result_journal.specs.declared.journal.Journal.{Journal}
-use Rattle.service_effects.specs.Service.{ServiceWorld}
-use Rattle.service_core.specs.History.{Entry}
-use Rattle.service_core.specs.Service.{service_of}
-use Rattle.service_machine.specs.Machines.{Plays}
-use Rattle.record_desk.specs.Standing.{HasRecorded}
+use Rattle.service_desk.specs.ServiceEffects.Service.{ServiceWorld}
+use Rattle.service_desk.specs.ServiceCore.History.{Entry}
+use Rattle.service_desk.specs.ServiceCore.Service.{service_of}
+use Rattle.service_desk.specs.ServiceMachine.Machines.{Plays}
+use Rattle.service_desk.specs.RecordDesk.Standing.{HasRecorded}
 use Rattle.service_desk.specs.Shelves.{service_on}
 use Rattle.service_desk.specs.declared.shelf.Shelf.{Shelf}
 

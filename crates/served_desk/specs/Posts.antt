@@ -8,8 +8,8 @@ use Rattle.door_workers.specs.Tallies.{up_to_most}
 use Rattle.door_workers.specs.Work.{ServesDoor}
 use Rattle.door_workers.specs.declared.tally.Tally.{Tally}
 use Rattle.tellers.specs.Exchange.{Exchange}
-use Rattle.service_core.specs.History.{Entry}
-use Rattle.record_desk.specs.Standing.{exchange_of}
+use Rattle.service_desk.specs.ServiceCore.History.{Entry}
+use Rattle.service_desk.specs.RecordDesk.Standing.{exchange_of}
 use Rattle.service_desk.specs.Turns.{HasCalls, is_spent}
 
 -- Each of a list fits its number; the first one has this number.

@@ -2,7 +2,7 @@
 use Rattle.std.specs.Prelude.{◌≡◌, ℕ, zero, suc, ◌-◌, ◌≤◌, List, [], ◌∷◌}
 use Rattle.std.specs.List.{AllByRecursion}
 use Rattle.atomic_table.specs.Seated.{TableId}
-use Rattle.service_core.specs.History.{Entry}
+use Rattle.service_desk.specs.ServiceCore.History.{Entry}
 use Rattle.turnstile.specs.Histories.{Begins}
 use Rattle.turnstile.specs.Seats.{Seated, names}
 use Rattle.turnstile.specs.declared.board.Known.{Known}

@@ -2,11 +2,11 @@
 ghost use Rattle.std.specs.Prelude.{◌≡◌, ◌<◌, ◌≤◌, [], None, List, All, map, vec_len, vec_capacity};
 ghost use Rattle.std.specs.Prelude.{IfOk, IfErr, IfSome, IfNone};
 ghost use Rattle.std.specs.List.{AllZip};
-ghost use Rattle.service_core.specs.CoreState.{world_in};
-ghost use Rattle.service_core.specs.History.{Entry};
-ghost use Rattle.service_core.specs.Service.{service_of};
-ghost use Rattle.service_machine.specs.Machines.{Plays};
-ghost use Rattle.record_desk.specs.Standing.{HasRecorded};
+ghost use Rattle.service_desk.specs.ServiceCore.CoreState.{world_in};
+ghost use Rattle.service_desk.specs.ServiceCore.History.{Entry};
+ghost use Rattle.service_desk.specs.ServiceCore.Service.{service_of};
+ghost use Rattle.service_desk.specs.ServiceMachine.Machines.{Plays};
+ghost use Rattle.service_desk.specs.RecordDesk.Standing.{HasRecorded};
 ghost use Rattle.turnstile.specs.Seats.{IsWhole, first_known};
 ghost use Rattle.door_workers.specs.Workers.{IsWorked, worker_of};
 ghost use Rattle.door_workers.specs.declared.worker.Worked.{Worked};

@@ -7,12 +7,12 @@ use Rattle.call_forms.specs.declared.forms.Answer.{Answer}
 use Rattle.call_forms.specs.declared.forms.Standin.TheVariants.{Memory, Spent, Unavailable}
 use Rattle.call_forms.specs.declared.forms.Told.{Told}
 use Rattle.call_forms.specs.declared.forms.Told.TheVariants.{Made, Standin as Instead}
-use Rattle.request_demands.specs.Settings.{Settings}
-use Rattle.service_effects.specs.Service.{ServiceWorld}
-use Rattle.service_core.specs.History.{Entry, IsLegal, Leads, Serves, Tells, entry_at}
-use Rattle.service_core.specs.Step.{Step}
-use Rattle.service_core.proofs.HistoryLaws.{timed_is_legal}
-use Rattle.service_machine.specs.Machines.{Plays}
+use Rattle.record_desk.specs.RequestDemands.Settings.{Settings}
+use Rattle.record_desk.specs.ServiceEffects.Service.{ServiceWorld}
+use Rattle.record_desk.specs.ServiceCore.History.{Entry, IsLegal, Leads, Serves, Tells, entry_at}
+use Rattle.record_desk.specs.ServiceCore.Step.{Step}
+use Rattle.record_desk.proofs.ServiceCore.HistoryLaws.{timed_is_legal}
+use Rattle.record_desk.specs.ServiceMachine.Machines.{Plays}
 use Rattle.tellers.specs.Exchange.{Exchange}
 use Rattle.record_desk.specs.Standing.{IsTried, RoseIf, exchange_of}
 use Rattle.record_desk.specs.Recording.{KeepsBook, TriesAtMost}

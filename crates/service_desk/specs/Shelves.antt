@@ -7,13 +7,13 @@ use Rattle.journal_book.specs.Books.{Stands}
 use Rattle.call_forms.specs.declared.forms.Answer.{Answer}
 use Rattle.call_forms.specs.declared.forms.Standin.TheVariants.{Memory}
 use Rattle.call_forms.specs.declared.forms.Told.TheVariants.{Made, Standin as Instead}
-use Rattle.request_demands.specs.Settings.{Settings}
-use Rattle.service_effects.specs.Service.{ServiceWorld, empty_service}
-use Rattle.service_core.specs.CoreState.{world_in}
-use Rattle.service_core.specs.History.{Entry, IsLegal, Leads}
-use Rattle.service_core.specs.Service.{Service, service_of}
-use Rattle.service_core.specs.Step.{Step}
-use Rattle.service_machine.specs.Machines.{Plays}
+use Rattle.record_desk.specs.RequestDemands.Settings.{Settings}
+use Rattle.record_desk.specs.ServiceEffects.Service.{ServiceWorld, empty_service}
+use Rattle.record_desk.specs.ServiceCore.CoreState.{world_in}
+use Rattle.record_desk.specs.ServiceCore.History.{Entry, IsLegal, Leads}
+use Rattle.record_desk.specs.ServiceCore.Service.{Service, service_of}
+use Rattle.record_desk.specs.ServiceCore.Step.{Step}
+use Rattle.record_desk.specs.ServiceMachine.Machines.{Plays}
 use Rattle.record_desk.specs.Standing.{HasRecorded}
 use Rattle.service_desk.specs.declared.shelf.Shelf.{Shelf}
 

@@ -1,7 +1,7 @@
 //! The desk: many callers take turns with one book.
 ghost use Rattle.std.specs.Prelude.{◌≡◌, ◌≢◌, ◌<◌, List, IfOk, IfErr, length};
-ghost use Rattle.service_core.specs.CoreState.{world_in};
-ghost use Rattle.service_core.specs.History.{Entry};
+ghost use Rattle.record_desk.specs.ServiceCore.CoreState.{world_in};
+ghost use Rattle.record_desk.specs.ServiceCore.History.{Entry};
 ghost use Rattle.record_desk.specs.Standing.{exchange_of};
 ghost use Rattle.turnstile.specs.Seats.{Agrees, IsWhole, SameSeat, first_known, joined, split_left, split_right};
 ghost use Rattle.service_desk.specs.Shelves.{GoesOn, IsOpened, Led};
@@ -15,7 +15,7 @@ use journal_book::Book;
 use outside::Clock;
 use permissions::Policy;
 use record_desk::Inquiry;
-use service_machine::ServiceMachine;
+use record_desk::service_machine::ServiceMachine;
 use std::alloc::Global;
 use std::marker::Model;
 use std::snapshot::Snapshot;

@@ -8,4 +8,5 @@ mod shelf;
 
 pub use clerk::Clerk;
 pub use desk::Desk;
+pub use record_desk::{self, service_core, service_machine};
 pub use shelf::{Line, Shelf};

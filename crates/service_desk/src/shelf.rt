@@ -1,6 +1,6 @@
 //! What is handed from caller to caller: a book of the service, and its clock.
 ghost use Rattle.std.specs.Prelude.{◌≡◌};
-ghost use Rattle.request_demands.specs.Understood.{IsUnderstood};
+ghost use Rattle.record_desk.specs.RequestDemands.Understood.{IsUnderstood};
 
 use call_forms::{Asked, Told};
 use disks::Disk;
@@ -8,8 +8,8 @@ use journal_book::Book;
 use names_realms::Moment;
 use outside::Clock;
 use permissions::Policy;
+use record_desk::service_machine::ServiceMachine;
 use record_desk::{Inquiry, serve};
-use service_machine::ServiceMachine;
 use std::alloc::Global;
 use std::marker::Model;
 use std::snapshot::Snapshot;
@@ -26,7 +26,7 @@ pub struct Line {
 }
 
 impl Model for Line {
-    ghost use Rattle.service_core.specs.History.{Entry};
+    ghost use Rattle.record_desk.specs.ServiceCore.History.{Entry};
 
     ghost Value = { Entry };
 
@@ -81,7 +81,7 @@ pub(crate) struct Request<'r> {
 
 impl<D: Disk, C: Clock> Call<Shelf<D, C>> for Request<'_> {
     ghost use Rattle.std.specs.Prelude.{◌≡◌, IfOk};
-    ghost use Rattle.request_demands.specs.Understood.{IsUnderstood};
+    ghost use Rattle.record_desk.specs.RequestDemands.Understood.{IsUnderstood};
     ghost use Rattle.service_desk.specs.Shelves.{OpensShelf};
 
     type Answer = Told;

@@ -1,5 +1,5 @@
-use Rattle.std.proofs.Common.{◌≡◌, ℕ, List, ap, subst}
-use Rattle.result_journal.specs.Grammar.{Reading, Bodies}
+use Rattle.std.proofs.Common.{◌≡◌, ℕ, List, subst}
+use Rattle.result_journal.specs.Grammar.{Bodies}
 use Rattle.result_journal.proofs.ReadingLaws.{no_other_reading}
 use Rattle.journal_book.specs.Worlds.{Leads}
 use Rattle.journal_book.proofs.WorldLaws.{one_end, same_bodies}

@@ -1,7 +1,7 @@
 use Rattle.std.proofs.Common.{◌≡◌, [], sym, ap, ◌∙◌}
 use Rattle.result_journal.specs.Journals.{disk_of}
-use Rattle.service_core.specs.CoreState.{world_in}
-use Rattle.service_core.specs.Service.{service_of}
+use Rattle.serve_runs.specs.ServiceCore.CoreState.{world_in}
+use Rattle.serve_runs.specs.ServiceCore.Service.{service_of}
 use Rattle.http_workers.proofs.FramingLaws.{asked_so}
 use Rattle.rdb_program.specs.Run.{disk_end}
 use Rattle.rdb_program.proofs.RunLaws.{begun, history_from, unopened_run}

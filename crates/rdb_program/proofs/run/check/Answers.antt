@@ -1,6 +1,6 @@
 use Rattle.std.proofs.Common.{subst}
 use Rattle.outside.specs.Whole.{WritesWhole}
-use Rattle.service_core.specs.CoreState.{world_in}
+use Rattle.serve_runs.specs.ServiceCore.CoreState.{world_in}
 use Rattle.rdb_program.proofs.RunLaws.{counted_run}
 use Rattle.rdb_program.proofs.run.check.Goals as goal
 

@@ -2,8 +2,8 @@ use Rattle.std.proofs.Common.{subst}
 use Rattle.result_journal.specs.Journals.{disk_of}
 use Rattle.journal_book.specs.Books.{IsOpenFault}
 use Rattle.service_effects.specs.Service.{ServiceWorld}
-use Rattle.service_core.specs.CoreState.{world_in}
-use Rattle.service_machine.specs.Machines.{Plays}
+use Rattle.serve_runs.specs.ServiceCore.CoreState.{world_in}
+use Rattle.serve_runs.specs.ServiceMachine.Machines.{Plays}
 use Rattle.rdb_program.specs.Run.{disk_end}
 use Rattle.rdb_program.proofs.RunLaws.{opens_from}
 use Rattle.rdb_program.proofs.run.open_journal.Goals as goal

@@ -1,6 +1,6 @@
 use Rattle.std.proofs.Common.{ℕ, List, [], refl, sym, ap, subst, ◌∙◌}
 use Rattle.outside.specs.Whole.{WritesWhole}
-use Rattle.service_core.specs.CoreState.{world_in}
+use Rattle.served_desk.specs.ServiceCore.CoreState.{world_in}
 use Rattle.served_desk.specs.Posts.{ServesDoors}
 use Rattle.serve_runs.proofs.ServingLaws.{history_of}
 use Rattle.serve_runs.proofs.run.serve_told.Goals as goal

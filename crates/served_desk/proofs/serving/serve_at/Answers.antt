@@ -1,4 +1,4 @@
-use Rattle.service_core.specs.CoreState.{world_in}
+use Rattle.service_desk.specs.ServiceCore.CoreState.{world_in}
 use Rattle.served_desk.proofs.OfficeLaws.{nothing_went, went_through}
 use Rattle.served_desk.proofs.serving.serve_at.Goals as goal
 

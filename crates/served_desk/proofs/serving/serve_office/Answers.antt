@@ -1,7 +1,7 @@
 use Rattle.std.proofs.Common.{◌≡◌, [], arith, refl, ap}
 use Rattle.std.proofs.lemmas.Grind.{common_steps}
 use Rattle.std.proofs.lemmas.Result.{IfOk-weaker}
-use Rattle.service_core.specs.CoreState.{world_in}
+use Rattle.service_desk.specs.ServiceCore.CoreState.{world_in}
 use Rattle.served_desk.proofs.OfficeLaws.{from_start, no_doors, nothing_recorded}
 use Rattle.served_desk.proofs.serving.serve_office.Goals as goal
 

@@ -1,9 +1,21 @@
-use Rattle.std.proofs.Common.{◌≡◌, Option, sym, ap, ◌∙◌}
-use Rattle.disks.specs.Moments.{Told}
+use Rattle.std.proofs.Common.{true≢false, sym, ap, ◌∙◌}
 use Rattle.result_journal.specs.Journals.{disk_of}
 use Rattle.result_journal.specs.Openings.{LeftBeforeOrAlike, opened_disk}
 use Rattle.journal_book.proofs.OpenLaws.{alike_as, long_stays, opened_world}
 use Rattle.journal_book.proofs.book.Book.open.Goals as goal
+
+pub returns-in-Ok-clause-stands : goal.returns-in-Ok-clause-stands
+returns-in-Ok-clause-stands g c =
+    let all = c.in-Ok.ensures.ok in (
+      all.commands,
+      record {
+        part = c.ready.ensures.part ∙ all.played.part;
+        on_disk = c.ready.ensures.stands all.commands all.played.given;
+        leads = all.played.leads;
+        place = c.ready.ensures.end ∙ all.played.place;
+        failed = λ unsettled. absurd (true≢false (sym c.ready.ensures.settled ∙ unsettled));
+      },
+    )
 
 pub returns-in-Ok-clause-world : goal.returns-in-Ok-clause-world
 returns-in-Ok-clause-world g c =

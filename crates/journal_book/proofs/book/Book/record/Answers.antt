@@ -1,6 +1,7 @@
-use Rattle.std.proofs.Common.{◌⊎◌, inl, inr, ⊎_elim, false, List, [], ◌∷◌, ◌++◌}
-use Rattle.disks.proofs.MomentLaws.{at_both}
-use Rattle.result_journal.specs.Journals.{disk_of, is_settled, prepared}
+use Rattle.std.proofs.Common.{inl, false, [], ◌∷◌, ◌++◌}
+use Rattle.disks.specs.Parts.{other_part}
+use Rattle.disks.specs.MomentLaws.{at_both}
+use Rattle.result_journal.specs.Journals.{begun_part, disk_of, is_settled, prepared}
 use Rattle.result_journal.proofs.OtherLaws.{other_both}
 use Rattle.journal_book.specs.Worlds.{HasSettled}
 use Rattle.journal_book.specs.Books.{HasEither}
@@ -31,12 +32,12 @@ returns-clause-any_moment g c = λ first commands stands.
 
 pub returns-in_err-append-clause-other : goal.returns-in_err-append-clause-other
 returns-in_err-append-clause-other g c =
-    other_both (g.D.Disk.told (disk_of c.args.self.now.journal)) (g.D.Disk.told (disk_of c.settle.new.journal)) (g.D.Disk.told (disk_of c.append.new.journal))
+    other_both (other_part begun_part) (g.D.Disk.told (disk_of c.args.self.now.journal)) (g.D.Disk.told (disk_of c.settle.new.journal)) (g.D.Disk.told (disk_of c.append.new.journal))
     c.settle.ensures.other c.append.ensures.other
 
 pub returns-clause-other : goal.returns-clause-other
 returns-clause-other g c =
-    other_both (g.D.Disk.told (disk_of c.args.self.now.journal)) (g.D.Disk.told (disk_of c.settle.new.journal)) (g.D.Disk.told (disk_of c.append.new.journal))
+    other_both (other_part begun_part) (g.D.Disk.told (disk_of c.args.self.now.journal)) (g.D.Disk.told (disk_of c.settle.new.journal)) (g.D.Disk.told (disk_of c.append.new.journal))
     c.settle.ensures.other c.append.ensures.other
 
 pub returns-clause-ok : goal.returns-clause-ok

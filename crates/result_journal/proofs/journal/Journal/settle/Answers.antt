@@ -1,12 +1,17 @@
 use Rattle.std.proofs.Common.{◌≡◌, refl, rules, false}
+use Rattle.disks.specs.Parts.{image_of, other_part, part_of}
+use Rattle.disks.specs.PartLaws.{image_of_part}
 use Rattle.result_journal.proofs.StandLaws.{at_rest_reads}
 use Rattle.result_journal.proofs.JournalLaws.{rest_of, gate_of, open_long, settle_moments, gate_failed, settle_done, still_moments, settle_stands, unsettled_stands}
 use Rattle.result_journal.specs.Journals.{is_settled}
 use Rattle.result_journal.proofs.OtherLaws.{other_same}
 use Rattle.result_journal.proofs.journal.Journal.settle.Goals as goal
 
-pub write_through-requires : goal.write_through-requires
-write_through-requires g c =
+pub write_through-requires-clause-part : goal.write_through-requires-clause-part
+write_through-requires-clause-part g c = c.requires.1.part
+
+pub write_through-requires-clause-at : goal.write_through-requires-clause-at
+write_through-requires-clause-at g c =
     let image = g.met.D.Disk.reads_as_image c.args.self.now.disk in
     open_long g.D.Disk.told c.args.self.now c.requires.0 c.requires.1 image
     (gate_of g.D.Disk.told c.args.self.now c.requires.0 c.requires.1 image (search rules))
@@ -37,10 +42,11 @@ returns-in_err-write_through-clause-commands g c = λ commands stands.
 pub returns-in_ok-write_through-clause-settled : goal.returns-in_ok-write_through-clause-settled
 returns-in_ok-write_through-clause-settled g c = λ commands stands t is image may.
     let as_image = g.met.D.Disk.reads_as_image c.args.self.now.disk in
-    at_rest_reads t.now.first commands c.args.self.now.end image.first
+    at_rest_reads (part_of t.now c.args.self.now.part) commands c.args.self.now.end (image_of image c.args.self.now.part)
     (settle_done g.D.Disk.told c.args.self.now commands stands as_image
     (gate_of g.D.Disk.told c.args.self.now commands stands as_image (search rules)) _
-    (g.D.Disk.told c.write_through.new.disk) c.in_ok-write_through.ensures.writes t is) may.first
+    (g.D.Disk.told c.write_through.new.disk) c.in_ok-write_through.ensures.writes t is)
+    (image_of_part t.now c.args.self.now.part image may)
 
 pub returns-in_ok-write_through-clause-commands : goal.returns-in_ok-write_through-clause-commands
 returns-in_ok-write_through-clause-commands g c = λ commands stands.
@@ -56,9 +62,10 @@ returns-else-not-is_settled-clause-any_moment g c = λ commands stands.
 
 pub returns-else-not-is_settled-clause-settled : goal.returns-else-not-is_settled-clause-settled
 returns-else-not-is_settled-clause-settled g c = λ commands stands t is image may.
-    at_rest_reads t.now.first commands c.args.self.now.end image.first
+    at_rest_reads (part_of t.now c.args.self.now.part) commands c.args.self.now.end (image_of image c.args.self.now.part)
     (rest_of g.D.Disk.told c.args.self.now commands stands (g.met.D.Disk.reads_as_image c.args.self.now.disk)
-    (search rules) t is) may.first
+    (search rules) t is)
+    (image_of_part t.now c.args.self.now.part image may)
 
 pub returns-in_err-write_through-clause-still : goal.returns-in_err-write_through-clause-still
 returns-in_err-write_through-clause-still g c =
@@ -83,4 +90,4 @@ returns-in_ok-write_through-clause-still g c =
 
 pub returns-else-not-is_settled-clause-other : goal.returns-else-not-is_settled-clause-other
 returns-else-not-is_settled-clause-other g c =
-    other_same (g.D.Disk.told c.args.self.now.disk) (g.D.Disk.told c.args.self.now.disk) refl
+    other_same (other_part c.args.self.now.part) (g.D.Disk.told c.args.self.now.disk) (g.D.Disk.told c.args.self.now.disk) refl

@@ -1,8 +1,11 @@
 use Rattle.result_journal.proofs.JournalLaws.{stage_long, stage_moments, stage_stands, stage_staged_on}
 use Rattle.result_journal.proofs.journal.Journal.stage.Goals as goal
 
-pub write_through-requires : goal.write_through-requires
-write_through-requires g c = stage_long g.D.Disk.told c.args.self.now c.requires.stands.0 c.requires.stands.1
+pub write_through-requires-clause-part : goal.write_through-requires-clause-part
+write_through-requires-clause-part g c = c.requires.stands.1.part
+
+pub write_through-requires-clause-at : goal.write_through-requires-clause-at
+write_through-requires-clause-at g c = stage_long g.D.Disk.told c.args.self.now c.requires.stands.0 c.requires.stands.1
     (g.met.D.Disk.reads_as_image c.args.self.now.disk) c.requires.settled
 
 pub returns-clause-any_moment : goal.returns-clause-any_moment

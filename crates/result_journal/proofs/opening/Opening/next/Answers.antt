@@ -5,7 +5,7 @@ use Rattle.result_journal.proofs.opening.Opening.next.Goals as goal
 
 pub returns-in_err-count-clause-shown : goal.returns-in_err-count-clause-shown
 returns-in_err-count-clause-shown g c =
-    shown_at (g.D.Disk.told c.args.self.now.disk) c.from_residual.result c.in_err-count.field-0.0 c.from_residual.ensures.1
+    shown_at c.args.self.now.part (g.D.Disk.told c.args.self.now.disk) c.from_residual.result c.in_err-count.field-0.0 c.from_residual.ensures.1
     (broken_shown g.D.Disk.told c.args.self.now c.requires.0 c.requires.1 c.in_err-count.field-0.0
     c.in_err-count.ensures.found)
 

@@ -1,11 +1,12 @@
 use Rattle.std.proofs.Common.{◌≡◌, Bool, true, length, get_or, refl, sym, ◌∙◌, subst, arith, rules}
+use Rattle.disks.specs.Parts.{part_of}
 use Rattle.disks.specs.Whole.{FillsRoom}
 use Rattle.result_journal.proofs.OpenLaws.{first_byte, four_bytes}
 use Rattle.result_journal.proofs.opening.Opening.next_length.Goals as goal
 
 pub returns-clause-found : goal.returns-clause-found
 returns-clause-found g c = λ t is size.
-    let bytes = t.now.first.bytes in
+    let bytes = (part_of t.now c.args.self.now.part).bytes in
     let place = c.args.self.now.place in
     let room = c.read_exact_at.new.room in
     let whole : c.in_ok-whole.whole ≡ true = search rules in

@@ -1,6 +1,6 @@
 use Rattle.std.proofs.Common.{◌≡◌, ℤ, ℕ, ◌+◌, FitsSigned, w64, to_z-of_z, refl, ap, arith}
-use Rattle.request_demands.specs.Settings.{Settings}
-use Rattle.service_core.specs.History.{entry_at}
+use Rattle.record_desk.specs.RequestDemands.Settings.{Settings}
+use Rattle.record_desk.specs.ServiceCore.History.{entry_at}
 use Rattle.record_desk.specs.Recording.{is_unavailable}
 use Rattle.service_desk.specs.Shelves.{service_on}
 use Rattle.service_desk.proofs.ShelfLaws.{stands_more}
