@@ -1,13 +1,13 @@
 -- The first rows of a batch, of which no two have the same key.
-use Rattle.std.proofs.Common.{◌≡◌, ◌⊎◌, ◌<◌, ◌≤◌, ◌+◌, ℕ, List, [], ◌∷◌, length, get_or, Contains, Some, Less, Equal, Greater, refl, sym, ap, ◌∙◌, subst, inl, inr, arith}
+use Rattle.std.proofs.Common.{◌≡◌, ◌<◌, ◌≤◌, ◌+◌, ℕ, List, [], ◌∷◌, length, get_or, Some, Less, Equal, Greater, refl, sym, ap, ◌∙◌, subst, inl, inr, arith}
 use Rattle.std.specs.List.{All, AllByRecursion, slice_get, insert}
 use Rattle.std.proofs.lemmas.List.Elements.{All-from_recursion}
 use Rattle.std.specs.List.Sorted.{IsPartitionPoint}
 use Rattle.std.proofs.lemmas.Bool.{cases_lt}
 use Rattle.std.proofs.lemmas.List.{get_or-map, length-map}
-use Rattle.std.proofs.lemmas.Option.{same_Some, slice_get-get_or, slice_get_within}
+use Rattle.std.proofs.lemmas.Option.{slice_get-get_or}
 use Rattle.test_results.specs.declared.result.TestResult.{TestResult}
-use Rattle.test_results.specs.Results.{Key, IsPlaceOf, key_of, keys_of}
+use Rattle.test_results.specs.Results.{key_of, keys_of}
 use Rattle.test_results.specs.Batches.{AreOnce, IsRepeat, given}
 use Rattle.test_results.specs.Orders.{IsFrontIndex, key_at, no_key, order_at}
 use Rattle.test_results.proofs.KeyLemmas.{front_added, front_found, front_free}

@@ -1,9 +1,8 @@
 -- Exonerations that come behind those of a table.
-use Rattle.std.proofs.Common.{◌≡◌, ◌≢◌, ◌⊎◌, ◌<◌, ◌≤◌, ◌+◌, ℕ, zero, suc, List, [], ◌∷◌, ◌++◌, length, map, get_or, set, take, drop, Some, None, refl, sym, ap, ◌∙◌, subst, inl, inr, arith, append_assoc}
-use Rattle.std.specs.List.{slice_get, insert}
+use Rattle.std.proofs.Common.{◌≡◌, ◌≢◌, ◌<◌, ◌≤◌, ◌+◌, ℕ, zero, suc, List, [], ◌∷◌, ◌++◌, length, map, get_or, set, take, drop, Some, refl, sym, ap, ◌∙◌, subst, inl, inr, arith, append_assoc}
+use Rattle.std.specs.List.{slice_get}
 use Rattle.std.proofs.lemmas.Bool.{cases_eq}
 use Rattle.std.proofs.lemmas.List.{length-map, length-append, length_push, map_push, append-nil, take_at, take-append-le}
-use Rattle.std.proofs.lemmas.List.Edits.{insert_end}
 use Rattle.std.proofs.lemmas.Option.{slice_get_within}
 use Rattle.test_results.specs.declared.exoneration.TestExoneration.{TestExoneration}
 use Rattle.test_results.specs.Exonerations.{CanAdd, IsIndexed, IsPlaced, IsTable, given, places_in}
@@ -52,11 +51,10 @@ placed_push rows row placed new at r e =
 -- a row more, with its place in the list of its holder
 pub indexed_push : (rows : List TestExoneration) (row : TestExoneration) (arrived arrived_ : List (List ℕ))
     → IsIndexed rows arrived → length (places_in rows row.holder) < 100_000 → IsPlaced rows row
-    → get_or arrived_ row.holder [] ≡ insert (get_or arrived row.holder []) (length (get_or arrived row.holder [])) (length rows)
+    → get_or arrived_ row.holder [] ≡ get_or arrived row.holder [] ++ length rows ∷ []
     → ((h : ℕ) → h ≢ row.holder → get_or arrived_ h [] ≡ get_or arrived h [])
     → IsIndexed (rows ++ row ∷ []) arrived_
 indexed_push rows row arrived arrived_ index below placed own others =
-    let held = get_or arrived row.holder [] in
     record {
       table = record {
         few = λ holder. few_push rows row holder index.table.few below;
@@ -64,7 +62,7 @@ indexed_push rows row arrived arrived_ index below placed own others =
       };
       places = λ h. elim (cases_eq h row.holder) [
         | inl same ↦ subst (λ k. get_or arrived_ k [] ≡ places_in (rows ++ row ∷ []) k) (sym same)
-            (own ∙ insert_end held (length rows) ∙ ap (λ ps. ps ++ length rows ∷ []) (index.places row.holder) ∙ sym (places_push_own rows row))
+            (own ∙ ap (λ ps. ps ++ length rows ∷ []) (index.places row.holder) ∙ sym (places_push_own rows row))
         | inr other ↦ others h other ∙ index.places h ∙ sym (places_push_other rows row h (λ e. other (sym e)))
       ];
     }

@@ -1,5 +1,5 @@
 -- Places in the order of their keys.
-use Rattle.std.proofs.Common.{◌≡◌, ◌≢◌, ◌⊎◌, ◌<◌, ◌≤◌, ◌+◌, ℕ, suc, List, [], ◌∷◌, ◌++◌, length, get_or, Contains, Some, None, Less, Equal, Greater, refl, sym, ap, ◌∙◌, subst, inl, inr, arith}
+use Rattle.std.proofs.Common.{◌≡◌, ◌<◌, ◌≤◌, ◌+◌, ℕ, List, [], length, get_or, Contains, Some, Less, Equal, Greater, refl, sym, ap, ◌∙◌, subst, inl, inr, arith}
 use Rattle.std.specs.Cmp.{IsTotalOrder}
 use Rattle.std.specs.Cmp.Lexicographic.{slice_cmp, nat_list_cmp_total}
 use Rattle.std.specs.List.{slice_get, insert}
@@ -7,13 +7,11 @@ use Rattle.std.specs.List.Sorted.{IsPartitionPoint}
 use Rattle.std.specs.Ordering.{nat_cmp, ordering_then}
 use Rattle.std.proofs.lemmas.Bool.{cases_lt}
 use Rattle.std.proofs.lemmas.Cmp.{then_total, on_total, nat_cmp_total, tied_itself}
-use Rattle.std.proofs.lemmas.List.{get_or_append_left, get_or_push, get_or_default, length_push}
 use Rattle.std.proofs.lemmas.List.Edits.{length-insert}
-use Rattle.std.proofs.lemmas.List.Elements.{Contains-get_or}
-use Rattle.std.proofs.lemmas.Option.{get_or_from_slice_get, slice_get-get_or, slice_get_within}
+use Rattle.std.proofs.lemmas.Option.{get_or_from_slice_get, slice_get-get_or}
 use Rattle.test_results.specs.Results.{Key}
-use Rattle.test_results.specs.Orders.{IsRising, IsKeyIndex, IsFrontIndex, key_order, key_at, no_key, order_at, places_order}
-use Rattle.test_results.proofs.OrderLemmas.{nat_equal, none_equal, one_more_insert, rising_agree, rising_insert, same_text, then_equal}
+use Rattle.test_results.specs.Orders.{IsFrontIndex, key_order, key_at, no_key, order_at, places_order}
+use Rattle.test_results.proofs.OrderLemmas.{nat_equal, none_equal, one_more_insert, rising_insert, same_text, then_equal}
 
 pub key_order_total : IsTotalOrder key_order
 key_order_total =
@@ -41,94 +39,6 @@ same_key a b e =
 
 equal_key : (a b : Key) → a ≡ b → key_order a b ≡ Equal
 equal_key a b e = subst (λ k. key_order k b ≡ Equal) (sym e) (tied_itself key_order_total b)
-
--- the key at a place of a list with one more
-old_key : (keys : List Key) (key : Key) (p : ℕ) → p < length keys → key_at (keys ++ key ∷ []) p ≡ key_at keys p
-old_key keys key p within = get_or_append_left keys (key ∷ []) no_key p within
-
-new_key : (keys : List Key) (key : Key) → key_at (keys ++ key ∷ []) (length keys) ≡ key
-new_key keys key = get_or_push keys key no_key (length keys) refl
-
-order_with_new : (keys : List Key) (key : Key) (p : ℕ) → p < length keys → places_order (keys ++ key ∷ []) p (length keys) ≡ order_at keys key p
-order_with_new keys key p within =
-    ap (λ k. key_order k (key_at (keys ++ key ∷ []) (length keys))) (old_key keys key p within)
-    ∙ ap (λ k. key_order (key_at keys p) k) (new_key keys key)
-
-rising_kept : (keys : List Key) (key : Key) (places : List ℕ) → ((p : ℕ) → Contains places p → p < length keys)
-    → IsRising (places_order keys) places → IsRising (places_order (keys ++ key ∷ [])) places
-rising_kept keys key places below h =
-    let new = keys ++ key ∷ [] in
-    rising_agree (places_order keys) (places_order new) places (λ a b p q e.
-    ap (λ k. key_order k (key_at new b)) (old_key keys key a (below a p)) ∙ ap (λ k. key_order (key_at keys a) k) (old_key keys key b (below b q)) ∙ e) h
-
--- A holder's index.
-
-pub found_at : (keys : List Key) (holder : ℕ) (places : List ℕ) (key : Key) (i place : ℕ) → IsKeyIndex keys holder places → i < length places
-    → ((d : ℕ) → order_at keys key (get_or places i d) ≡ Equal) → place ≡ get_or places i place → slice_get keys place ≡ Some key
-found_at keys holder places key i place index within equal is =
-    let held : Contains places place = (i, within, sym is) in
-    let below = ((index.all place).0 held).0 in
-    slice_get-get_or keys place no_key below
-    ∙ ap Some (same_key (key_at keys place) key (subst (λ p. order_at keys key p ≡ Equal) (sym is) (equal place)))
-
-pub not_found : (keys : List Key) (holder : ℕ) (places : List ℕ) (key : Key) (i : ℕ) → IsKeyIndex keys holder places → key.holder ≡ holder
-    → i ≤ length places → IsPartitionPoint (λ y. order_at keys key y ≡ Less) (λ y. order_at keys key y ≡ Greater) places i → ¬ Contains keys key
-not_found keys holder places key i index own within parts held =
-    let is : key_at keys held.0 ≡ key = get_or_default keys held.0 no_key key held.1 ∙ held.2 in
-    none_equal (order_at keys key) places i within parts held.0 ((index.all held.0).1 (held.1, ap (λ (k : Key). k.holder) is ∙ own))
-    (equal_key (key_at keys held.0) key is)
-
-pub key_none : (holder : ℕ) → IsKeyIndex [] holder []
-key_none holder = record {
-  rising = tt;
-  all = λ place. (λ held. absurd (omega (arith, held.1)), λ both. absurd (omega (arith, both.0)));
-}
-
--- a key more, of this holder
-pub key_added : (keys : List Key) (holder : ℕ) (places : List ℕ) (key : Key) (i : ℕ) → IsKeyIndex keys holder places → key.holder ≡ holder
-    → i ≤ length places → IsPartitionPoint (λ y. order_at keys key y ≡ Less) (λ y. order_at keys key y ≡ Greater) places i
-    → IsKeyIndex (keys ++ key ∷ []) holder (insert places i (length keys))
-key_added keys holder places key i index own within parts =
-    let new = keys ++ key ∷ [] in
-    let n = length keys in
-    let below : (p : ℕ) → Contains places p → p < length keys = λ p held. ((index.all p).0 held).0 in
-    let at : (k d : ℕ) → k < length places → get_or places k d < length keys = λ k d lt. below (get_or places k d) (Contains-get_or places k d lt) in
-    record {
-      rising = rising_insert (places_order_total new) places i n (rising_kept keys key places below index.rising) within (
-        λ k d low high. order_with_new keys key (get_or places k d) (at k d (omega arith)) ∙ parts.0 k d low high,
-        λ k d low high. order_with_new keys key (get_or places k d) (at k d high) ∙ parts.1 k d low high,
-      );
-      all = λ p. (
-        λ held. elim ((one_more_insert places i n p).0 held) [
-          | inl old ↦ let both = (index.all p).0 old in
-              (omega (arith, length_push keys key, both.0), ap (λ (k : Key). k.holder) (old_key keys key p both.0) ∙ both.1)
-          | inr e ↦ (omega (arith, length_push keys key), ap (λ (k : Key). k.holder) (ap (key_at new) e ∙ new_key keys key) ∙ own)
-        ],
-        λ both. (one_more_insert places i n p).1 (elim (cases_lt p n) [
-          | inl old ↦ inl ((index.all p).1 (old, ap (λ (k : Key). k.holder) (sym (old_key keys key p old)) ∙ both.1))
-          | inr ge ↦ inr (omega (arith, length_push keys key, both.0))
-        ]),
-      );
-    }
-
--- a key more, of another holder
-pub key_kept : (keys : List Key) (holder : ℕ) (places : List ℕ) (key : Key) → IsKeyIndex keys holder places → key.holder ≢ holder
-    → IsKeyIndex (keys ++ key ∷ []) holder places
-key_kept keys holder places key index other =
-    let new = keys ++ key ∷ [] in
-    let n = length keys in
-    record {
-      rising = rising_kept keys key places (λ p held. ((index.all p).0 held).0) index.rising;
-      all = λ p. (
-        λ held. let both = (index.all p).0 held in
-            (omega (arith, length_push keys key, both.0), ap (λ (k : Key). k.holder) (old_key keys key p both.0) ∙ both.1),
-        λ both. elim (cases_lt p n) [
-          | inl old ↦ (index.all p).1 (old, ap (λ (k : Key). k.holder) (sym (old_key keys key p old)) ∙ both.1)
-          | inr ge ↦ let e : p ≡ n = omega (arith, length_push keys key, both.0) in
-              absurd (other (ap (λ (k : Key). k.holder) (sym (ap (key_at new) e ∙ new_key keys key)) ∙ both.1))
-        ],
-      );
-    }
 
 -- The index of the first rows of a batch.
 

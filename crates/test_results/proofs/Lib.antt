@@ -1,4 +1,5 @@
 pub mod BatchLemmas
+pub mod ChainLemmas
 pub mod ExonerationLemmas
 pub mod FaultLemmas
 pub mod KeyLemmas

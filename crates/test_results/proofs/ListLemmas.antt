@@ -1,7 +1,6 @@
 -- Lists of places, and the room in them.
-use Rattle.std.proofs.Common.{◌≡◌, ◌≢◌, ◌<◌, ◌≤◌, ◌+◌, ◌-◌, ℕ, zero, suc, List, [], ◌∷◌, ◌++◌, length, map, get_or, set, min, Result, Ok, Err, refl, sym, ap, ◌∙◌, subst, arith}
+use Rattle.std.proofs.Common.{◌≡◌, ◌≢◌, ◌<◌, ◌≤◌, ◌+◌, ℕ, zero, suc, List, [], ◌∷◌, ◌++◌, length, map, get_or, set, min, Result, Ok, Err, refl, sym, ap, ◌∙◌, subst, arith}
 use Rattle.std.specs.Result.{OnOk}
-use Rattle.test_results.specs.Orders.{least_rooms}
 
 -- the least value past the end is no more than any
 pub zero_past_end : {X : Type 0} (f : X → ℕ) (xs : List X) (x : X) (k : ℕ) → get_or (map f xs) k 0 ≤ get_or (map f (xs ++ x ∷ [])) k 0
@@ -32,12 +31,6 @@ pub room_within : {X : Type 0} (f : X → ℕ) (xs : List X) (k : ℕ) → 0 < g
 room_within f [] k room = absurd (omega arith)
 room_within f (y ∷ ys) zero room = omega arith
 room_within f (y ∷ ys) (suc k) room = let h = room_within f ys k room in omega arith
-
-pub least_room : (spare : ℕ) (rooms others : List ℕ) (k : ℕ) → get_or (least_rooms spare rooms others) k 0 ≡ min spare (min (get_or rooms k 0) (get_or others k 0))
-least_room spare [] others k = omega arith
-least_room spare (room ∷ rooms) [] k = omega arith
-least_room spare (room ∷ rooms) (other ∷ others) zero = refl
-least_room spare (room ∷ rooms) (other ∷ others) (suc k) = least_room spare rooms others k
 
 -- a value more, which is what a list has past its end
 pub past_mapped : {X Y : Type 0} (f : X → Y) (xs : List X) (x : X) (d : Y) → f x ≡ d → (k : ℕ) → get_or (map f (xs ++ x ∷ [])) k d ≡ get_or (map f xs) k d

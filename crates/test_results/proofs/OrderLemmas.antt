@@ -1,5 +1,5 @@
 -- Lists that are kept in order.
-use Rattle.std.proofs.Common.{◌≡◌, ◌≢◌, ◌⊎◌, ◌<◌, ◌≤◌, ◌+◌, ℕ, zero, suc, false, List, [], ◌∷◌, ◌++◌, length, take, drop, get_or, Contains, Result, Ok, Err, Ordering, refl, sym, ap, ◌∙◌, subst, inl, inr, arith, add-one}
+use Rattle.std.proofs.Common.{◌≡◌, ◌⊎◌, ◌<◌, ◌≤◌, ◌+◌, ℕ, zero, suc, false, List, [], ◌∷◌, ◌++◌, length, take, drop, get_or, Contains, Result, Ok, Err, Ordering, refl, sym, ap, ◌∙◌, subst, inl, inr, arith, add-one}
 use Rattle.std.specs.Cmp.{IsTotalOrder}
 use Rattle.std.specs.Cmp.Lexicographic.{slice_cmp, bytes_decides}
 use Rattle.std.specs.List.{AllByRecursion, AllWithin, insert}
@@ -117,20 +117,6 @@ none_equal order xs i within parts y held same =
       | inl lt ↦ not_equal (order (get_or xs held.0 y)) (parts.0 held.0 y (omega arith) lt) at
       | inr ge ↦ not_equal_greater (order (get_or xs held.0 y)) (parts.1 held.0 y ge held.1) at
     ]
-
--- orders that agree on what stands in the list
-every_agree : {X : Type 0} (P Q : X → Type 0) (xs : List X) → ((y : X) → Contains xs y → P y → Q y) → AllByRecursion P xs → AllByRecursion Q xs
-every_agree P Q [] f h = h
-every_agree P Q (x ∷ xs) f h =
-    (f x (zero, omega arith, refl) h.0, every_agree P Q xs (λ y held. f y (suc held.0, omega (arith, held.1), held.2)) h.1)
-
-pub rising_agree : {X : Type 0} (R S : X → X → Ordering) (xs : List X)
-    → ((a b : X) → Contains xs a → Contains xs b → R a b ≡ Less → S a b ≡ Less) → IsRising R xs → IsRising S xs
-rising_agree R S [] f h = h
-rising_agree R S (x ∷ xs) f h = (
-  every_agree (λ y. R x y ≡ Less) (λ y. S x y ≡ Less) xs (λ y held. f x y (zero, omega arith, refl) (suc held.0, omega (arith, held.1), held.2)) h.0,
-  rising_agree R S xs (λ a b p q. f a b (suc p.0, omega (arith, p.1), p.2) (suc q.0, omega (arith, q.1), q.2)) h.1,
-)
 
 pub then_equal : (o p : Ordering) → ordering_then o p ≡ Equal → (o ≡ Equal) × (p ≡ Equal)
 then_equal Less p e = let no : Less ≡ Equal = e in cc

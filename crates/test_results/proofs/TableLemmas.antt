@@ -1,18 +1,17 @@
 -- Rows that come behind those of a table.
-use Rattle.std.proofs.Common.{◌≡◌, ◌≢◌, ◌⊎◌, ◌<◌, ◌≤◌, ◌+◌, ℕ, zero, suc, List, [], ◌∷◌, ◌++◌, length, map, get_or, Contains, Some, None, Less, Greater, refl, sym, ap, ◌∙◌, subst, inl, inr, arith, append_assoc}
-use Rattle.std.specs.List.{All, AllByRecursion, slice_get, insert}
-use Rattle.std.specs.List.Sorted.{IsPartitionPoint}
+use Rattle.std.proofs.Common.{◌≡◌, ◌≢◌, ◌⊎◌, ◌<◌, ◌≤◌, ◌+◌, ℕ, zero, suc, List, [], ◌∷◌, ◌++◌, length, get_or, Contains, Some, None, refl, sym, ap, ◌∙◌, subst, inl, inr, arith, append_assoc}
+use Rattle.std.specs.List.{All, AllByRecursion, slice_get}
 use Rattle.std.proofs.lemmas.Bool.{cases_eq}
 use Rattle.std.proofs.lemmas.List.{length-map, length-append, length_push, map_push, append-nil}
-use Rattle.std.proofs.lemmas.List.Edits.{insert_end}
 use Rattle.std.proofs.lemmas.List.Elements.{recursion_from_All, Contains-append_cases}
 use Rattle.std.proofs.lemmas.Option.{get_or_from_slice_get, same_Some, slice_get-get_or, slice_get_within}
 use Rattle.test_results.specs.declared.result.TestResult.{TestResult}
-use Rattle.test_results.specs.Results.{Key, HasKey, HasUniqueKeys, IsPlaceOf, IsTable, holders_of, key_of, keys_of, places_in}
+use Rattle.test_results.specs.Results.{Key, HasKey, IsTable, holders_of, key_of, keys_of, places_in}
 use Rattle.test_results.specs.Places.{places_of}
 use Rattle.test_results.specs.Batches.{AreFree, AreOnce, CanAdd}
-use Rattle.test_results.specs.Orders.{IsIndexed, IsKeyIndex, order_at}
-use Rattle.test_results.proofs.KeyLemmas.{key_added, key_kept}
+use Rattle.test_results.specs.declared.key_places.KeyPlaces.{KeyPlaces}
+use Rattle.test_results.specs.Hashes.{IsChained}
+use Rattle.test_results.specs.Orders.{IsIndexed}
 use Rattle.test_results.proofs.PlaceLemmas.{places_own, places_others}
 
 -- what stands at a place of a list with one value more
@@ -78,37 +77,21 @@ table_push rows row table free below = record {
   few = λ holder. few_push rows row holder table.few below;
 }
 
--- a row more, with its place in both lists of its holder
-pub indexed_push : (rows : List TestResult) (row : TestResult) (arrived arrived_ named named_ : List (List ℕ)) (slot : ℕ)
-    → IsIndexed rows arrived named → ¬ HasKey rows (key_of row) → length (places_in rows row.holder) < 100_000
-    → get_or arrived_ row.holder [] ≡ insert (get_or arrived row.holder []) (length (get_or arrived row.holder [])) (length rows)
+-- a row more, with its place in the list of its holder, and with that of its key
+pub indexed_push : (rows : List TestResult) (row : TestResult) (arrived arrived_ : List (List ℕ)) (found found_ : KeyPlaces)
+    → IsIndexed rows arrived found → ¬ HasKey rows (key_of row) → length (places_in rows row.holder) < 100_000
+    → get_or arrived_ row.holder [] ≡ get_or arrived row.holder [] ++ length rows ∷ []
     → ((h : ℕ) → h ≢ row.holder → get_or arrived_ h [] ≡ get_or arrived h [])
-    → slot ≤ length (get_or named row.holder [])
-    → IsPartitionPoint (λ y. order_at (keys_of rows) (key_of row) y ≡ Less) (λ y. order_at (keys_of rows) (key_of row) y ≡ Greater) (get_or named row.holder []) slot
-    → get_or named_ row.holder [] ≡ insert (get_or named row.holder []) slot (length rows)
-    → ((h : ℕ) → h ≢ row.holder → get_or named_ h [] ≡ get_or named h [])
-    → IsIndexed (rows ++ row ∷ []) arrived_ named_
-indexed_push rows row arrived arrived_ named named_ slot index free below own others within parts own_ others_ =
-    let held = get_or arrived row.holder [] in
-    let list = get_or named row.holder [] in
-    let keys = keys_of rows in
-    record {
-      table = table_push rows row index.table free below;
-      places = λ h. elim (cases_eq h row.holder) [
-        | inl same ↦ subst (λ k. get_or arrived_ k [] ≡ places_in (rows ++ row ∷ []) k) (sym same)
-            (own ∙ insert_end held (length rows) ∙ ap (λ ps. ps ++ length rows ∷ []) (index.places row.holder) ∙ sym (places_push_own rows row))
-        | inr other ↦ others h other ∙ index.places h ∙ sym (places_push_other rows row h (λ e. other (sym e)))
-      ];
-      index = λ h. elim (cases_eq h row.holder) [
-        | inl same ↦ subst (λ k. IsKeyIndex (keys_of (rows ++ row ∷ [])) k (get_or named_ k [])) (sym same)
-            (subst (λ ks. IsKeyIndex ks row.holder (get_or named_ row.holder [])) (sym (keys_push rows row))
-            (subst (λ ps. IsKeyIndex (keys ++ key_of row ∷ []) row.holder ps) (ap (λ n. insert list slot n) (length-map rows key_of) ∙ sym own_)
-            (key_added keys row.holder list (key_of row) slot (index.index row.holder) refl within parts)))
-        | inr other ↦ subst (λ ks. IsKeyIndex ks h (get_or named_ h [])) (sym (keys_push rows row))
-            (subst (λ ps. IsKeyIndex (keys ++ key_of row ∷ []) h ps) (sym (others_ h other))
-            (key_kept keys h (get_or named h []) (key_of row) (index.index h) (λ e. other (sym e))))
-      ];
-    }
+    → IsChained (keys_of rows ++ key_of row ∷ []) found_ → IsIndexed (rows ++ row ∷ []) arrived_ found_
+indexed_push rows row arrived arrived_ found found_ index free below own others chained = record {
+  table = table_push rows row index.table free below;
+  places = λ h. elim (cases_eq h row.holder) [
+    | inl same ↦ subst (λ k. get_or arrived_ k [] ≡ places_in (rows ++ row ∷ []) k) (sym same)
+        (own ∙ ap (λ ps. ps ++ length rows ∷ []) (index.places row.holder) ∙ sym (places_push_own rows row))
+    | inr other ↦ others h other ∙ index.places h ∙ sym (places_push_other rows row h (λ e. other (sym e)))
+  ];
+  chained = subst (λ ks. IsChained ks found_) (sym (keys_push rows row)) chained;
+}
 
 -- A batch, row by row.
 

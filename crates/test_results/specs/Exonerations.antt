@@ -1,5 +1,5 @@
 -- Lists and batches of exonerations.
-use Rattle.std.specs.Prelude.{◌≡◌, ℕ, suc, ◌+◌, ◌<◌, ◌≤◌, List, [], ◌∷◌, Some, length, map, min, take, slice_get, slice_index_or}
+use Rattle.std.specs.Prelude.{◌≡◌, ℕ, suc, ◌+◌, ◌<◌, ◌≤◌, List, [], ◌∷◌, Some, length, map, take, slice_get, slice_index_or}
 use Rattle.test_results.specs.declared.exoneration.TestExoneration.{TestExoneration}
 use Rattle.test_results.specs.declared.faults.BatchFault.{BatchFault}
 use Rattle.test_results.specs.declared.faults.BatchFault.TheVariants.{TooMany, Repeated, Taken, Full, Memory}
@@ -61,10 +61,6 @@ pub record Fits (table : ExonerationsState) (batch : List TestExoneration) : Typ
   pub placed : batch ≡ given holder (length (places_in table.rows holder)) asked
   pub can : CanAdd table.rows holder (length batch)
   pub room : length batch ≤ room_for table holder
-
--- room that is there in the list of a holder, and for the rows themselves
-abbrev pub least_rooms : ℕ → List ℕ → List ℕ
-least_rooms spare rooms = map (λ (room : ℕ). min spare room) rooms
 
 -- rows with the places of each holder
 pub record IsIndexed (rows : List TestExoneration) (arrived : List (List ℕ)) : Type 0 where

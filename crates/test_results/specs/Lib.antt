@@ -1,5 +1,6 @@
 pub mod Batches
 pub mod Exonerations
+pub mod Hashes
 pub mod Laws
 pub mod Lists
 pub mod Orders

@@ -1,5 +1,5 @@
 -- The code's own words for lists of places.
-use Rattle.std.specs.Prelude.{◌≡◌, ◌-◌, ℕ, List, [], map, slice_index_or, Vec, vec_len, vec_capacity}
+use Rattle.std.specs.Prelude.{◌-◌, ℕ, min, List, [], map, slice_index_or, Vec, vec_len, vec_capacity}
 use Rattle.std.specs.declared.alloc.Global.{Global}
 
 -- the list of each holder, and for how many more places there is room in it
@@ -24,3 +24,7 @@ lists_in lists = map items_of lists
 
 abbrev pub rooms_in : List (Vec ℕ Global) → List ℕ
 rooms_in lists = map spare_of lists
+
+-- room that is there in the list of a holder, and for the rows themselves
+abbrev pub least_rooms : ℕ → List ℕ → List ℕ
+least_rooms spare rooms = map (λ (room : ℕ). min spare room) rooms

@@ -1,12 +1,14 @@
 -- The code's own words for places that are kept in the order of their keys.
-use Rattle.std.specs.Prelude.{◌≡◌, ◌⊎◌, ◌↔◌, ◌<◌, ◌≤◌, ◌-◌, ℕ, min, List, [], ◌∷◌, Result, MatchResult, length, slice_index_or, Contains}
+use Rattle.std.specs.Prelude.{◌≡◌, ◌⊎◌, ◌↔◌, ◌<◌, ◌≤◌, ℕ, List, [], ◌∷◌, Result, MatchResult, length, slice_index_or, Contains}
 use Rattle.std.specs.List.{AllByRecursion, HoldsAt}
 use Rattle.std.specs.List.Sorted.{IsPartitionPoint}
 use Rattle.std.specs.Ordering.{nat_cmp, ordering_then}
 use Rattle.std.specs.Cmp.Lexicographic.{slice_cmp}
 use Rattle.std.specs.declared.cmp.Ordering.{Ordering}
 use Rattle.std.specs.declared.cmp.Ordering.TheVariants.{Less, Equal, Greater}
+use Rattle.test_results.specs.declared.key_places.KeyPlaces.{KeyPlaces}
 use Rattle.test_results.specs.declared.result.TestResult.{TestResult}
+use Rattle.test_results.specs.Hashes.{IsChained}
 use Rattle.test_results.specs.Results.{Key, IsTable, keys_of, named, places_in}
 
 -- each value is below all that stand behind it
@@ -44,27 +46,15 @@ order_at keys key place = key_order (key_at keys place) key
 abbrev pub places_order : List Key → ℕ → ℕ → Ordering
 places_order keys p q = key_order (key_at keys p) (key_at keys q)
 
--- the places of a holder, in the order of the keys
-pub record IsKeyIndex (keys : List Key) (holder : ℕ) (places : List ℕ) : Type 0 where
-  pub rising : IsRising (places_order keys) places
-  pub all : (place : ℕ)
-      → Contains places place ↔ ((place < length keys) × ((key_at keys place).holder ≡ holder))
-
 -- so many first places, in the order of the keys
 pub record IsFrontIndex (keys : List Key) (count : ℕ) (places : List ℕ) : Type 0 where
   pub rising : IsRising (places_order keys) places
   pub all : (place : ℕ) → Contains places place ↔ (place < count)
   pub length : length places ≡ count
 
--- rows with the places of each holder, in order of arrival and of the keys
-pub record IsIndexed (rows : List TestResult) (arrived named : List (List ℕ)) : Type 0 where
+-- rows with the places of each holder, in order of arrival, and with those of the keys
+pub record IsIndexed (rows : List TestResult) (arrived : List (List ℕ)) (found : KeyPlaces)
+    : Type 0 where
   pub table : IsTable rows
   pub places : (holder : ℕ) → slice_index_or arrived holder [] ≡ places_in rows holder
-  pub index : (holder : ℕ) → IsKeyIndex (keys_of rows) holder (slice_index_or named holder [])
-
--- room that is there in both lists of a holder, and for the rows themselves
-abbrev pub least_rooms : ℕ → List ℕ → List ℕ → List ℕ
-least_rooms spare [] others = []
-least_rooms spare (room ∷ rooms) [] = []
-least_rooms spare (room ∷ rooms) (other ∷ others) =
-    min spare (min room other) ∷ least_rooms spare rooms others
+  pub chained : IsChained (keys_of rows) found

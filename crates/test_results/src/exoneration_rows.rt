@@ -26,7 +26,8 @@ pub struct ExonerationRows {
 
 impl Model for ExonerationRows {
     ghost use Rattle.std.specs.Prelude.{◌≤◌, ◌-◌, min, length, vec_len, vec_capacity};
-    ghost use Rattle.test_results.specs.Exonerations.{ExonerationsState, IsIndexed, least_rooms};
+    ghost use Rattle.test_results.specs.Exonerations.{ExonerationsState, IsIndexed};
+    ghost use Rattle.test_results.specs.Lists.{least_rooms};
 
     ghost Value = { ExonerationsState };
 
@@ -134,8 +135,7 @@ impl ExonerationRows {
         ensures rooms { (other : ℕ) → room_for self.old other ≤ room_for self.new other + 1 }
     {
         let place = self.rows.len() as u32;
-        let end = self.by_holder.list(row.holder).len();
-        self.by_holder.insert(row.holder, end, place);
+        self.by_holder.push(row.holder, place);
         self.rows.push_reserved(row);
     }
 

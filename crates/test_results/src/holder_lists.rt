@@ -1,6 +1,5 @@
 //! A list of places for each holder.
-ghost use Rattle.std.specs.Prelude.{◌≡◌, ◌≢◌, ◌≤◌, ◌<◌, ◌+◌, ℕ, [], OnOk, length};
-ghost use Rattle.std.specs.List.{insert};
+ghost use Rattle.std.specs.Prelude.{◌≡◌, ◌≢◌, ◌≤◌, ◌<◌, ◌+◌, ◌++◌, ◌∷◌, ℕ, [], OnOk, length};
 ghost use Rattle.test_results.specs.Lists.{list_of, room_of};
 
 use std::alloc::{AllocError, Global};
@@ -91,16 +90,15 @@ impl HolderLists {
         list.reserve(additional)
     }
 
-    /// Puts a place into the list of a holder, for which there is room.
-    pub(crate) fn insert(&mut self, holder: u32, at: usize, place: u32)
-        requires within { at ≤ length (list_of self.old holder) }
-        requires room { 0 < room_of self.old holder }
-        ensures list { list_of self.new holder ≡ insert (list_of self.old holder) at place }
+    /// Puts a place behind those in the list of a holder, for which there is room.
+    pub(crate) fn push(&mut self, holder: u32, place: u32)
+        requires { 0 < room_of self.old holder }
+        ensures list { list_of self.new holder ≡ list_of self.old holder ++ place ∷ [] }
         ensures others { (other : ℕ) →
             other ≢ holder → list_of self.new other ≡ list_of self.old other }
         ensures room { (other : ℕ) → room_of self.old other ≤ room_of self.new other + 1 }
     {
         let list = &mut self.lists[holder as usize];
-        let _ = list.insert(at, place);
+        list.push_reserved(place);
     }
 }

@@ -1,10 +1,8 @@
-//! The places of results, kept in the order of their keys.
-ghost use Rattle.std.specs.Prelude.{◌≡◌, ◌≤◌, ◌<◌, ◌+◌, MatchOption, IfSome, length, vec_len, vec_capacity};
-ghost use Rattle.std.specs.List.Sorted.{IsPartitionPoint};
-ghost use Rattle.std.specs.declared.cmp.Ordering.TheVariants.{Less, Greater};
+//! Keys that stand twice in a batch.
+ghost use Rattle.std.specs.Prelude.{◌≡◌, ◌≤◌, ◌<◌, ◌+◌, MatchOption, length, vec_len, vec_capacity};
 ghost use Rattle.test_results.specs.Batches.{AreOnce, IsRepeat};
-ghost use Rattle.test_results.specs.Orders.{IsFrontIndex, IsKeyIndex, IsRising, IsSlot, order_at, places_order};
-ghost use Rattle.test_results.specs.Results.{HasKey, IsPlaceOf, key_of, keys_of, named};
+ghost use Rattle.test_results.specs.Orders.{IsFrontIndex, IsRising, IsSlot, order_at, places_order};
+ghost use Rattle.test_results.specs.Results.{keys_of, named};
 
 use crate::result::TestResult;
 use std::cmp::Ordering;
@@ -44,46 +42,6 @@ fn search(
         result }
 {
     places.binary_search_by(|place| compare(rows, *place, holder, test, id))
-}
-
-/// The place of the row with a key, among those of its holder.
-pub(crate) fn place_of(
-    places: &[u32],
-    rows: &[TestResult],
-    holder: u32,
-    test: &str,
-    id: &str,
-) -> Option<u32>
-    requires { IsKeyIndex (keys_of rows.now) holder places.now }
-    ensures { MatchOption result (¬ HasKey rows.now (named holder test.now id.now))
-        (IsPlaceOf rows.now (named holder test.now id.now)) }
-{
-    match search(places, rows, holder, test, id) {
-        Ok(at) => Some(places[at]),
-        Err(_) => None,
-    }
-}
-
-/// Where the place of a row goes, among those of its holder. No row has its key.
-pub(crate) fn slot_of(places: &[u32], rows: &[TestResult], row: &TestResult) -> usize
-    requires index { IsKeyIndex (keys_of rows.now) row.now.holder places.now }
-    requires free { ¬ HasKey rows.now (key_of row.now) }
-    ensures within { result ≤ length places.now }
-    ensures parts { IsPartitionPoint
-        (λ place. order_at (keys_of rows.now) (key_of row.now) place ≡ Less)
-        (λ place. order_at (keys_of rows.now) (key_of row.now) place ≡ Greater)
-        places.now result }
-{
-    match search(
-        places,
-        rows,
-        row.holder,
-        row.test.as_str(),
-        row.result.as_str(),
-    ) {
-        Ok(at) => at,
-        Err(at) => at,
-    }
 }
 
 /// Adds the next place of a batch to those before it, or else gives the earlier one with its key.

@@ -6,6 +6,7 @@ mod exoneration;
 mod exoneration_rows;
 mod faults;
 mod holder_lists;
+mod key_places;
 mod keys;
 pub mod laws;
 mod result;

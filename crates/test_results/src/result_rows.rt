@@ -6,7 +6,8 @@ ghost use Rattle.test_results.specs.Results.{HasKey, IsPlaceOf, IsTable, key_of,
 
 use crate::faults::BatchFault;
 use crate::holder_lists::HolderLists;
-use crate::keys::{Repeat, first_repeat, place_of, slot_of};
+use crate::key_places::KeyPlaces;
+use crate::keys::{Repeat, first_repeat};
 use crate::result::{ResultBatch, TestResult};
 use names_realms::{ResultId, TestId};
 use std::alloc::{AllocError, Global};
@@ -27,24 +28,27 @@ const MOST_ROWS: usize = 4_294_967_295;
 pub struct ResultRows {
     rows: Vec<TestResult>,
     by_holder: HolderLists,
-    by_key: HolderLists,
+    by_key: KeyPlaces,
     order: Vec<u32>,
 }
 
 impl Model for ResultRows {
     ghost use Rattle.std.specs.Prelude.{◌≤◌, ◌-◌, min, length, vec_len, vec_capacity};
-    ghost use Rattle.test_results.specs.Orders.{IsIndexed, least_rooms};
+    ghost use Rattle.test_results.specs.Hashes.{room_left};
+    ghost use Rattle.test_results.specs.Lists.{least_rooms};
+    ghost use Rattle.test_results.specs.Orders.{IsIndexed};
     ghost use Rattle.test_results.specs.Results.{ResultsState};
 
     ghost Value = { ResultsState };
 
     ghost view = { λ t. record {
       rows = t.rows.items;
-      rooms = least_rooms (min (vec_capacity t.rows) 4_294_967_295 - vec_len t.rows)
-          t.by_holder.rooms t.by_key.rooms;
+      rooms = least_rooms
+          (min (min (vec_capacity t.rows) 4_294_967_295 - vec_len t.rows) (room_left t.by_key))
+          t.by_holder.rooms;
     } };
 
-    ghost invariant = { λ t. IsIndexed t.rows.items t.by_holder.lists t.by_key.lists
+    ghost invariant = { λ t. IsIndexed t.rows.items t.by_holder.lists t.by_key
         × (length t.rows.items ≤ 4_294_967_295)
         × (500 ≤ vec_capacity t.order) };
 }
@@ -58,7 +62,7 @@ impl ResultRows {
         Ok(ResultRows {
             rows: Vec::new(alloc),
             by_holder: HolderLists::new(alloc),
-            by_key: HolderLists::new(alloc),
+            by_key: KeyPlaces::new(alloc),
             order,
         })
     }
@@ -99,13 +103,8 @@ impl ResultRows {
         ensures { MatchOption result (¬ HasKey self.now.rows (named holder test.now id.now))
             (IsPlaceOf self.now.rows (named holder test.now id.now)) }
     {
-        place_of(
-            self.by_key.list(holder),
-            self.rows.as_slice(),
-            holder,
-            test.as_str(),
-            id.as_str(),
-        )
+        self.by_key
+            .find(self.rows.as_slice(), holder, test.as_str(), id.as_str())
     }
 
     /// The first row of a batch whose key a row of the table has.
@@ -131,8 +130,8 @@ impl ResultRows {
             return Err(AllocError);
         }
         self.rows.reserve(additional)?;
-        self.by_holder.reserve(alloc, holder, additional)?;
-        self.by_key.reserve(alloc, holder, additional)
+        self.by_key.reserve(additional)?;
+        self.by_holder.reserve(alloc, holder, additional)
     }
 
     /// The first two rows of a batch with the same key.
@@ -190,12 +189,8 @@ impl ResultRows {
         ensures rows { self.new.rows ≡ self.old.rows ++ row ∷ [] }
         ensures rooms { (other : ℕ) → room_for self.old other ≤ room_for self.new other + 1 }
     {
-        let holder = row.holder;
-        let place = self.rows.len() as u32;
-        let slot = slot_of(self.by_key.list(holder), self.rows.as_slice(), &row);
-        self.by_key.insert(holder, slot, place);
-        let end = self.by_holder.list(holder).len();
-        self.by_holder.insert(holder, end, place);
+        self.by_key.add(self.rows.as_slice(), &row);
+        self.by_holder.push(row.holder, self.rows.len() as u32);
         self.rows.push_reserved(row);
     }
 

@@ -1,4 +1,4 @@
-use Rattle.std.proofs.Common.{◌≤◌, ◌<◌, ℕ, List, [], sym, subst, arith}
+use Rattle.std.proofs.Common.{ℕ, List, sym, subst, arith}
 use Rattle.test_results.specs.Orders.{IsFrontIndex}
 use Rattle.test_results.specs.Results.{keys_of}
 use Rattle.test_results.proofs.KeyLemmas.{front_none}

@@ -1,16 +1,15 @@
-use Rattle.std.proofs.Common.{ℕ, ◌≡◌, ◌<◌, ◌≤◌, ◌-◌, List, [], ◌∷◌, ◌++◌, length, min, refl, sym, ap, ◌∙◌, subst, arith}
+use Rattle.std.proofs.Common.{◌≡◌, ◌<◌, ◌-◌, List, [], ◌∷◌, ◌++◌, length, min, sym, ap, ◌∙◌, subst, arith}
 use Rattle.std.specs.Prelude.{vec_len, vec_capacity}
-use Rattle.std.specs.List.{insert}
 use Rattle.std.proofs.lemmas.List.{length_push}
 use Rattle.test_results.specs.declared.exoneration.TestExoneration.{TestExoneration}
-use Rattle.test_results.specs.Lists.{list_of, room_of}
+use Rattle.test_results.specs.Lists.{list_of}
 use Rattle.test_results.specs.Exonerations.{ExonerationsState, IsIndexed, IsPlaced, places_in, room_for}
 use Rattle.test_results.proofs.ExonerationLemmas.{indexed_push}
 use Rattle.test_results.proofs.ListLemmas.{capped_room}
 use Rattle.test_results.proofs.exoneration_rows.ExonerationRows.append.Goals as goal
 
-pub insert-requires-clause-room : goal.insert-requires-clause-room
-insert-requires-clause-room c =
+pub push-requires : goal.push-requires
+push-requires c =
     let holder = c.args.row.holder in
     let spare = min (vec_capacity c.self.inside.rows) 4_294_967_295 - vec_len c.self.inside.rows in
     let before = subst (λ (t : ExonerationsState). 0 < room_for t holder) (sym c.self.view_is) c.requires.room in
@@ -29,17 +28,16 @@ invariant_of-self c =
     let row = c.args.row in
     let holder = row.holder in
     let lists = c.self.inside.by_holder in
-    let new = c.insert.new.self in
+    let new = c.push.new.self in
     let few = subst (λ (t : ExonerationsState). length (places_in t.rows holder) < 100_000) (sym c.self.view_is) c.requires.few in
     let placed = subst (λ (t : ExonerationsState). IsPlaced t.rows row) (sym c.self.view_is) c.requires.placed in
     let spare = min (vec_capacity c.self.inside.rows) 4_294_967_295 - vec_len c.self.inside.rows in
     let before = subst (λ (t : ExonerationsState). 0 < room_for t holder) (sym c.self.view_is) c.requires.room in
     let least = capped_room spare lists.rooms holder in
     let place : c.len-place.result ≡ length rows = omega (arith, c.len-place.ensures, c.self.inside.rows.ok.0) in
-    let own = c.insert.ensures.list ∙ ap (λ (ps : List ℕ). insert (list_of lists holder) (length ps) c.len-place.result) c.list-end.ensures
-    ∙ ap (λ p. insert (list_of lists holder) (length (list_of lists holder)) p) place in (
+    let own = c.push.ensures.list ∙ ap (λ p. list_of lists holder ++ p ∷ []) place in (
       subst (λ (rs : List TestExoneration). IsIndexed rs new.lists) (sym c.push_reserved.ensures.items)
-          (indexed_push rows row lists.lists new.lists c.self.invariant.0 few placed own c.insert.ensures.others),
+          (indexed_push rows row lists.lists new.lists c.self.invariant.0 few placed own c.push.ensures.others),
       omega (arith, ap (λ (rs : List TestExoneration). length rs) c.push_reserved.ensures.items, length_push rows row, before, least, c.self.inside.rows.ok.0),
     )
 
@@ -52,8 +50,8 @@ returns-clause-rooms c other =
       arith,
       e,
       capped_room spare c.self.inside.by_holder.rooms other,
-      capped_room left c.insert.new.self.rooms other,
-      c.insert.ensures.room other,
+      capped_room left c.push.new.self.rooms other,
+      c.push.ensures.room other,
       c.push_reserved.ensures.len,
       c.push_reserved.ensures.capacity,
     )

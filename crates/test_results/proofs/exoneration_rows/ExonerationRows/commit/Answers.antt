@@ -1,4 +1,4 @@
-use Rattle.std.proofs.Common.{◌≡◌, ◌≤◌, ◌+◌, ◌++◌, List, length, sym, ap, ◌∙◌, subst}
+use Rattle.std.proofs.Common.{◌≤◌, ◌+◌, ◌++◌, List, length, sym, ap, ◌∙◌, subst}
 use Rattle.test_results.specs.declared.exoneration.TestExoneration.{TestExoneration}
 use Rattle.test_results.specs.Exonerations.{Fits, room_for}
 use Rattle.test_results.proofs.exoneration_rows.ExonerationRows.commit.Goals as goal

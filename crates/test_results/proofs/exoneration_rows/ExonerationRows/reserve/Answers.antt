@@ -1,7 +1,7 @@
-use Rattle.std.proofs.Common.{◌≡◌, ◌≤◌, ◌-◌, ◌+◌, length, min, sym, ap, ◌∙◌, subst, arith}
+use Rattle.std.proofs.Common.{◌≤◌, ◌-◌, min, ap, arith}
 use Rattle.std.specs.Prelude.{vec_len, vec_capacity}
-use Rattle.test_results.specs.Lists.{list_of, room_of}
-use Rattle.test_results.specs.Exonerations.{ExonerationsState, least_rooms, room_for}
+use Rattle.test_results.specs.Lists.{least_rooms, room_of}
+use Rattle.test_results.specs.Exonerations.{ExonerationsState, room_for}
 use Rattle.std.specs.Prelude.{slice_index_or}
 use Rattle.test_results.proofs.ListLemmas.{capped_room, on_ok}
 use Rattle.test_results.proofs.exoneration_rows.ExonerationRows.reserve.Goals as goal

@@ -1,97 +1,77 @@
-use Rattle.std.proofs.Common.{◌≡◌, ◌<◌, ◌≤◌, ◌-◌, List, [], ◌∷◌, ◌++◌, Less, Greater, length, min, refl, sym, ap, ◌∙◌, subst, arith, ℕ}
+use Rattle.std.proofs.Common.{◌≡◌, ◌<◌, ◌-◌, List, [], ◌∷◌, ◌++◌, length, min, sym, ap, ◌∙◌, subst, arith}
 use Rattle.std.specs.Prelude.{vec_len, vec_capacity}
-use Rattle.std.specs.List.{insert}
-use Rattle.std.specs.List.Sorted.{IsPartitionPoint}
 use Rattle.std.proofs.lemmas.List.{length_push}
 use Rattle.test_results.specs.declared.result.TestResult.{TestResult}
-use Rattle.test_results.specs.Lists.{list_of, room_of}
-use Rattle.test_results.specs.Orders.{IsIndexed, IsKeyIndex, order_at}
+use Rattle.test_results.specs.Hashes.{IsChained, room_left}
+use Rattle.test_results.specs.Lists.{list_of}
+use Rattle.test_results.specs.Orders.{IsIndexed}
 use Rattle.test_results.specs.Results.{ResultsState, HasKey, key_of, keys_of, places_in, room_for}
 use Rattle.test_results.proofs.TableLemmas.{indexed_push}
-use Rattle.test_results.proofs.ListLemmas.{least_room}
+use Rattle.test_results.proofs.ListLemmas.{capped_room}
 use Rattle.test_results.proofs.result_rows.ResultRows.append.Goals as goal
 
-pub slot_of-slot-requires-clause-index : goal.slot_of-slot-requires-clause-index
-slot_of-slot-requires-clause-index c =
-    let holder = c.args.row.holder in
-    subst (λ (rs : List TestResult). IsKeyIndex (keys_of rs) holder c.list.result.now) (sym c.as_slice.ensures.value)
-    (subst (λ (ps : List ℕ). IsKeyIndex (keys_of c.self.inside.rows.items) holder ps) (sym c.list.ensures) (c.self.invariant.0.index holder))
-
-pub slot_of-slot-requires-clause-free : goal.slot_of-slot-requires-clause-free
-slot_of-slot-requires-clause-free c =
-    subst (λ (rs : List TestResult). ¬ HasKey rs (key_of c.args.row)) (sym (c.as_slice.ensures.value ∙ ap (λ (t : ResultsState). t.rows) c.self.view_is)) c.requires.free
-
-pub insert-requires : goal.insert-requires
-insert-requires c =
-    let holder = c.args.row.holder in
-    let spare = min (vec_capacity c.self.inside.rows) 4_294_967_295 - vec_len c.self.inside.rows in
-    let before = subst (λ (t : ResultsState). 0 < room_for t holder) (sym c.self.view_is) c.requires.room in
-    let least = least_room spare c.self.inside.by_holder.rooms c.self.inside.by_key.rooms holder in
+pub add-requires : goal.add-requires
+add-requires c =
+    let rows = c.self.inside.rows in
+    let found = c.self.inside.by_key in
+    let spare = min (min (vec_capacity rows) 4_294_967_295 - vec_len rows) (room_left found) in
+    let before = subst (λ (t : ResultsState). 0 < room_for t c.args.row.holder) (sym c.self.view_is) c.requires.room in
+    let least = capped_room spare c.self.inside.by_holder.rooms c.args.row.holder in
     record {
-      within = subst (λ (ps : List ℕ). c.slot_of-slot.result ≤ length ps) c.list.ensures c.slot_of-slot.ensures.within;
+      chained = subst (λ (rs : List TestResult). IsChained (keys_of rs) found) (sym c.as_slice.ensures.value) c.self.invariant.0.chained;
+      few = let e = ap (λ (rs : List TestResult). length rs) c.as_slice.ensures.value in omega (arith, e, c.self.invariant.1);
       room = omega (arith, before, least);
     }
 
-pub insert-requires-2 : goal.insert-requires-2
-insert-requires-2 c =
-    let holder = c.args.row.holder in
-    let spare = min (vec_capacity c.self.inside.rows) 4_294_967_295 - vec_len c.self.inside.rows in
-    let before = subst (λ (t : ResultsState). 0 < room_for t holder) (sym c.self.view_is) c.requires.room in
-    let least = least_room spare c.self.inside.by_holder.rooms c.self.inside.by_key.rooms holder in
-    record {
-      within = let e = ap (λ (ps : List ℕ). length ps) c.list-end.ensures in omega (arith, e);
-      room = omega (arith, before, least);
-    }
+pub push-requires : goal.push-requires
+push-requires c =
+    let rows = c.self.inside.rows in
+    let spare = min (min (vec_capacity rows) 4_294_967_295 - vec_len rows) (room_left c.self.inside.by_key) in
+    let before = subst (λ (t : ResultsState). 0 < room_for t c.args.row.holder) (sym c.self.view_is) c.requires.room in
+    omega (arith, before, capped_room spare c.self.inside.by_holder.rooms c.args.row.holder)
 
 pub push_reserved-requires : goal.push_reserved-requires
 push_reserved-requires c =
-    let holder = c.args.row.holder in
-    let spare = min (vec_capacity c.self.inside.rows) 4_294_967_295 - vec_len c.self.inside.rows in
-    let before = subst (λ (t : ResultsState). 0 < room_for t holder) (sym c.self.view_is) c.requires.room in
-    omega (arith, before, least_room spare c.self.inside.by_holder.rooms c.self.inside.by_key.rooms holder)
+    let rows = c.self.inside.rows in
+    let spare = min (min (vec_capacity rows) 4_294_967_295 - vec_len rows) (room_left c.self.inside.by_key) in
+    let before = subst (λ (t : ResultsState). 0 < room_for t c.args.row.holder) (sym c.self.view_is) c.requires.room in
+    omega (arith, before, capped_room spare c.self.inside.by_holder.rooms c.args.row.holder)
 
 pub invariant_of-self : goal.invariant_of-self
 invariant_of-self c =
     let rows = c.self.inside.rows.items in
     let row = c.args.row in
-    let holder = row.holder in
     let arrived = c.self.inside.by_holder in
-    let named = c.self.inside.by_key in
+    let found = c.self.inside.by_key in
+    let new = c.add.new.self in
     let free = subst (λ (t : ResultsState). ¬ HasKey t.rows (key_of row)) (sym c.self.view_is) c.requires.free in
-    let few = subst (λ (t : ResultsState). length (places_in t.rows holder) < 100_000) (sym c.self.view_is) c.requires.few in
-    let spare = min (vec_capacity c.self.inside.rows) 4_294_967_295 - vec_len c.self.inside.rows in
-    let before = subst (λ (t : ResultsState). 0 < room_for t holder) (sym c.self.view_is) c.requires.room in
-    let least = least_room spare arrived.rooms named.rooms holder in
-    let place : c.len-place.result ≡ length rows = omega (arith, c.len-place.ensures, c.self.inside.rows.ok.0) in
-    let own = c.insert-2.ensures.list ∙ ap (λ (ps : List ℕ). insert (list_of arrived holder) (length ps) c.len-place.result) c.list-end.ensures
-    ∙ ap (λ p. insert (list_of arrived holder) (length (list_of arrived holder)) p) place in
-    let within = subst (λ (ps : List ℕ). c.slot_of-slot.result ≤ length ps) c.list.ensures c.slot_of-slot.ensures.within in
-    let parts = subst (λ (rs : List TestResult).
-    IsPartitionPoint (λ y. order_at (keys_of rs) (key_of row) y ≡ Less) (λ y. order_at (keys_of rs) (key_of row) y ≡ Greater) (list_of named holder) c.slot_of-slot.result)
-    c.as_slice.ensures.value
-    (subst (λ (ps : List ℕ).
-    IsPartitionPoint (λ y. order_at (keys_of c.as_slice.result.now) (key_of row) y ≡ Less) (λ y. order_at (keys_of c.as_slice.result.now) (key_of row) y ≡ Greater) ps c.slot_of-slot.result)
-    c.list.ensures c.slot_of-slot.ensures.parts) in
-    let own_ = c.insert.ensures.list ∙ ap (λ p. insert (list_of named holder) c.slot_of-slot.result p) place in (
-      subst (λ (rs : List TestResult). IsIndexed rs c.insert-2.new.self.lists c.insert.new.self.lists) (sym c.push_reserved.ensures.items)
-          (indexed_push rows row arrived.lists c.insert-2.new.self.lists named.lists c.insert.new.self.lists c.slot_of-slot.result
-          c.self.invariant.0 free few own c.insert-2.ensures.others within parts own_ c.insert.ensures.others),
+    let few = subst (λ (t : ResultsState). length (places_in t.rows row.holder) < 100_000) (sym c.self.view_is) c.requires.few in
+    let spare = min (min (vec_capacity c.self.inside.rows) 4_294_967_295 - vec_len c.self.inside.rows) (room_left found) in
+    let before = subst (λ (t : ResultsState). 0 < room_for t row.holder) (sym c.self.view_is) c.requires.room in
+    let least = capped_room spare arrived.rooms row.holder in
+    let place : c.len.result ≡ length rows = omega (arith, c.len.ensures, c.self.inside.rows.ok.0) in
+    let own = c.push.ensures.list ∙ ap (λ p. list_of arrived row.holder ++ p ∷ []) place in
+    let chained = subst (λ (rs : List TestResult). IsChained (keys_of rs ++ key_of row ∷ []) new) c.as_slice.ensures.value c.add.ensures.chained in (
+      subst (λ (rs : List TestResult). IsIndexed rs c.push.new.self.lists new) (sym c.push_reserved.ensures.items)
+          (indexed_push rows row arrived.lists c.push.new.self.lists found new c.self.invariant.0 free few own c.push.ensures.others chained),
       omega (arith, ap (λ (rs : List TestResult). length rs) c.push_reserved.ensures.items, length_push rows row, before, least, c.self.inside.rows.ok.0),
       c.self.invariant.2,
     )
 
 pub returns-clause-rooms : goal.returns-clause-rooms
 returns-clause-rooms c other =
-    let spare = min (vec_capacity c.self.inside.rows) 4_294_967_295 - vec_len c.self.inside.rows in
-    let left = min (vec_capacity c.push_reserved.new.self) 4_294_967_295 - vec_len c.push_reserved.new.self in
+    let rows = c.self.inside.rows in
+    let pushed = c.push_reserved.new.self in
+    let spare = min (min (vec_capacity rows) 4_294_967_295 - vec_len rows) (room_left c.self.inside.by_key) in
+    let left = min (min (vec_capacity pushed) 4_294_967_295 - vec_len pushed) (room_left c.add.new.self) in
     let e = ap (λ (t : ResultsState). room_for t other) c.self.view_is in
     omega (
       arith,
       e,
-      least_room spare c.self.inside.by_holder.rooms c.self.inside.by_key.rooms other,
-      least_room left c.insert-2.new.self.rooms c.insert.new.self.rooms other,
-      c.insert.ensures.room other,
-      c.insert-2.ensures.room other,
+      capped_room spare c.self.inside.by_holder.rooms other,
+      capped_room left c.push.new.self.rooms other,
+      c.push.ensures.room other,
+      c.add.ensures.room,
       c.push_reserved.ensures.len,
       c.push_reserved.ensures.capacity,
     )

@@ -1,4 +1,4 @@
-use Rattle.std.proofs.Common.{◌≡◌, ◌≤◌, ◌+◌, ◌++◌, List, length, sym, ap, ◌∙◌, subst}
+use Rattle.std.proofs.Common.{◌≤◌, ◌+◌, ◌++◌, List, length, sym, ap, ◌∙◌, subst}
 use Rattle.test_results.specs.declared.result.TestResult.{TestResult}
 use Rattle.test_results.specs.Batches.{Fits}
 use Rattle.test_results.specs.Results.{room_for}

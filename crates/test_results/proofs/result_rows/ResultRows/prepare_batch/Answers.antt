@@ -1,8 +1,8 @@
-use Rattle.std.proofs.Common.{◌≡◌, ◌≤◌, ◌+◌, ℕ, List, length, sym, ap, ◌∙◌, subst, arith, rules}
+use Rattle.std.proofs.Common.{◌≡◌, ℕ, List, length, sym, ap, ◌∙◌, subst, arith, rules}
 use Rattle.std.proofs.lemmas.List.{length-map, with_items_is}
 use Rattle.test_results.specs.declared.result.TestResult.{TestResult}
 use Rattle.test_results.specs.Batches.{AreFree, AreOnce, CanAdd, Fits, given, with_holder}
-use Rattle.test_results.specs.Results.{ResultsState, places_in, room_for}
+use Rattle.test_results.specs.Results.{ResultsState, places_in}
 use Rattle.test_results.proofs.BatchLemmas.{given_held}
 use Rattle.test_results.proofs.result_rows.ResultRows.prepare_batch.Goals as goal
 
