@@ -1,5 +1,4 @@
 pub mod BatchLemmas
-pub mod ChainLemmas
 pub mod ExonerationLemmas
 pub mod FaultLemmas
 pub mod KeyLemmas

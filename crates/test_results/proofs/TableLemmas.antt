@@ -9,8 +9,8 @@ use Rattle.test_results.specs.declared.result.TestResult.{TestResult}
 use Rattle.test_results.specs.Results.{Key, HasKey, IsTable, holders_of, key_of, keys_of, places_in}
 use Rattle.test_results.specs.Places.{places_of}
 use Rattle.test_results.specs.Batches.{AreFree, AreOnce, CanAdd}
-use Rattle.test_results.specs.declared.key_places.KeyPlaces.{KeyPlaces}
-use Rattle.test_results.specs.Hashes.{IsChained}
+use Rattle.hash_chains.specs.Chains.{ChainsState}
+use Rattle.test_results.specs.Hashes.{hash_of, hashes_of}
 use Rattle.test_results.specs.Orders.{IsIndexed}
 use Rattle.test_results.proofs.PlaceLemmas.{places_own, places_others}
 
@@ -78,11 +78,11 @@ table_push rows row table free below = record {
 }
 
 -- a row more, with its place in the list of its holder, and with that of its key
-pub indexed_push : (rows : List TestResult) (row : TestResult) (arrived arrived_ : List (List ℕ)) (found found_ : KeyPlaces)
+pub indexed_push : (rows : List TestResult) (row : TestResult) (arrived arrived_ : List (List ℕ)) (found found_ : ChainsState)
     → IsIndexed rows arrived found → ¬ HasKey rows (key_of row) → length (places_in rows row.holder) < 100_000
     → get_or arrived_ row.holder [] ≡ get_or arrived row.holder [] ++ length rows ∷ []
     → ((h : ℕ) → h ≢ row.holder → get_or arrived_ h [] ≡ get_or arrived h [])
-    → IsChained (keys_of rows ++ key_of row ∷ []) found_ → IsIndexed (rows ++ row ∷ []) arrived_ found_
+    → found_.hashes ≡ found.hashes ++ hash_of (key_of row) ∷ [] → IsIndexed (rows ++ row ∷ []) arrived_ found_
 indexed_push rows row arrived arrived_ found found_ index free below own others chained = record {
   table = table_push rows row index.table free below;
   places = λ h. elim (cases_eq h row.holder) [
@@ -90,7 +90,8 @@ indexed_push rows row arrived arrived_ found found_ index free below own others 
         (own ∙ ap (λ ps. ps ++ length rows ∷ []) (index.places row.holder) ∙ sym (places_push_own rows row))
     | inr other ↦ others h other ∙ index.places h ∙ sym (places_push_other rows row h (λ e. other (sym e)))
   ];
-  chained = subst (λ ks. IsChained ks found_) (sym (keys_push rows row)) chained;
+  chained = chained ∙ ap (λ hs. hs ++ hash_of (key_of row) ∷ []) index.chained
+      ∙ sym (ap (λ ks. hashes_of ks) (keys_push rows row) ∙ map_push hash_of (keys_of rows) (key_of row));
 }
 
 -- A batch, row by row.

@@ -1,5 +1,5 @@
 -- Batches of results.
-use Rattle.std.specs.Prelude.{◌≡◌, ℕ, ◌+◌, ◌<◌, ◌≤◌, List, [], ◌∷◌, ◌++◌, length, map}
+use Rattle.std.specs.Prelude.{◌≡◌, ℕ, ◌+◌, ◌<◌, ◌≤◌, List, length, map}
 use Rattle.std.specs.List.{All}
 use Rattle.test_results.specs.declared.result.TestResult.{TestResult}
 use Rattle.test_results.specs.declared.faults.BatchFault.{BatchFault}

@@ -6,10 +6,10 @@ use Rattle.std.specs.Ordering.{nat_cmp, ordering_then}
 use Rattle.std.specs.Cmp.Lexicographic.{slice_cmp}
 use Rattle.std.specs.declared.cmp.Ordering.{Ordering}
 use Rattle.std.specs.declared.cmp.Ordering.TheVariants.{Less, Equal, Greater}
-use Rattle.test_results.specs.declared.key_places.KeyPlaces.{KeyPlaces}
+use Rattle.hash_chains.specs.Chains.{ChainsState}
 use Rattle.test_results.specs.declared.result.TestResult.{TestResult}
-use Rattle.test_results.specs.Hashes.{IsChained}
-use Rattle.test_results.specs.Results.{Key, IsTable, keys_of, named, places_in}
+use Rattle.test_results.specs.Hashes.{IsHashed}
+use Rattle.test_results.specs.Results.{Key, IsTable, named, places_in}
 
 -- each value is below all that stand behind it
 abbrev pub IsRising : {X : Type 0} → (X → X → Ordering) → List X → Type 0
@@ -53,8 +53,8 @@ pub record IsFrontIndex (keys : List Key) (count : ℕ) (places : List ℕ) : Ty
   pub length : length places ≡ count
 
 -- rows with the places of each holder, in order of arrival, and with those of the keys
-pub record IsIndexed (rows : List TestResult) (arrived : List (List ℕ)) (found : KeyPlaces)
+pub record IsIndexed (rows : List TestResult) (arrived : List (List ℕ)) (found : ChainsState)
     : Type 0 where
   pub table : IsTable rows
   pub places : (holder : ℕ) → slice_index_or arrived holder [] ≡ places_in rows holder
-  pub chained : IsChained (keys_of rows) found
+  pub chained : IsHashed rows found

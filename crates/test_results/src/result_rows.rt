@@ -6,9 +6,10 @@ ghost use Rattle.test_results.specs.Results.{HasKey, IsPlaceOf, IsTable, key_of,
 
 use crate::faults::BatchFault;
 use crate::holder_lists::HolderLists;
-use crate::key_places::KeyPlaces;
+use crate::key_places::{find_key, hash_of_row};
 use crate::keys::{Repeat, first_repeat};
 use crate::result::{ResultBatch, TestResult};
+use hash_chains::HashChains;
 use names_realms::{ResultId, TestId};
 use std::alloc::{AllocError, Global};
 use std::marker::Model;
@@ -28,13 +29,12 @@ const MOST_ROWS: usize = 4_294_967_295;
 pub struct ResultRows {
     rows: Vec<TestResult>,
     by_holder: HolderLists,
-    by_key: KeyPlaces,
+    by_key: HashChains,
     order: Vec<u32>,
 }
 
 impl Model for ResultRows {
     ghost use Rattle.std.specs.Prelude.{◌≤◌, ◌-◌, min, length, vec_len, vec_capacity};
-    ghost use Rattle.test_results.specs.Hashes.{room_left};
     ghost use Rattle.test_results.specs.Lists.{least_rooms};
     ghost use Rattle.test_results.specs.Orders.{IsIndexed};
     ghost use Rattle.test_results.specs.Results.{ResultsState};
@@ -44,7 +44,7 @@ impl Model for ResultRows {
     ghost view = { λ t. record {
       rows = t.rows.items;
       rooms = least_rooms
-          (min (min (vec_capacity t.rows) 4_294_967_295 - vec_len t.rows) (room_left t.by_key))
+          (min (min (vec_capacity t.rows) 4_294_967_295 - vec_len t.rows) t.by_key.room)
           t.by_holder.rooms;
     } };
 
@@ -62,7 +62,7 @@ impl ResultRows {
         Ok(ResultRows {
             rows: Vec::new(alloc),
             by_holder: HolderLists::new(alloc),
-            by_key: KeyPlaces::new(alloc),
+            by_key: HashChains::new(alloc),
             order,
         })
     }
@@ -103,8 +103,8 @@ impl ResultRows {
         ensures { MatchOption result (¬ HasKey self.now.rows (named holder test.now id.now))
             (IsPlaceOf self.now.rows (named holder test.now id.now)) }
     {
-        self.by_key
-            .find(self.rows.as_slice(), holder, test.as_str(), id.as_str())
+        let rows = self.rows.as_slice();
+        find_key(rows, &self.by_key, holder, test.as_str(), id.as_str())
     }
 
     /// The first row of a batch whose key a row of the table has.
@@ -189,7 +189,7 @@ impl ResultRows {
         ensures rows { self.new.rows ≡ self.old.rows ++ row ∷ [] }
         ensures rooms { (other : ℕ) → room_for self.old other ≤ room_for self.new other + 1 }
     {
-        self.by_key.add(self.rows.as_slice(), &row);
+        self.by_key.push(hash_of_row(&row));
         self.by_holder.push(row.holder, self.rows.len() as u32);
         self.rows.push_reserved(row);
     }

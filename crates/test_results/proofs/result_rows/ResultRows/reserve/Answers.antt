@@ -1,6 +1,5 @@
 use Rattle.std.proofs.Common.{◌≤◌, ◌-◌, min, ap, arith}
 use Rattle.std.specs.Prelude.{slice_index_or, vec_len, vec_capacity}
-use Rattle.test_results.specs.Hashes.{room_left}
 use Rattle.test_results.specs.Lists.{least_rooms, room_of}
 use Rattle.test_results.specs.Results.{ResultsState, room_for}
 use Rattle.test_results.proofs.ListLemmas.{capped_room, on_ok}
@@ -10,8 +9,8 @@ pub returns-in_err-reserve-2-clause-rooms : goal.returns-in_err-reserve-2-clause
 returns-in_err-reserve-2-clause-rooms c other =
     let rows = c.self.inside.rows in
     let more = c.reserve.new.self in
-    let spare = min (min (vec_capacity rows) 4_294_967_295 - vec_len rows) (room_left c.self.inside.by_key) in
-    let left = min (min (vec_capacity more) 4_294_967_295 - vec_len more) (room_left c.reserve-2.new.self) in
+    let spare = min (min (vec_capacity rows) 4_294_967_295 - vec_len rows) c.self.inside.by_key.room in
+    let left = min (min (vec_capacity more) 4_294_967_295 - vec_len more) c.reserve-2.new.self.room in
     let e = ap (λ (t : ResultsState). room_for t other) c.self.view_is in
     omega (
       arith,
@@ -27,8 +26,8 @@ pub returns-clause-rooms : goal.returns-clause-rooms
 returns-clause-rooms c other =
     let rows = c.self.inside.rows in
     let more = c.reserve.new.self in
-    let spare = min (min (vec_capacity rows) 4_294_967_295 - vec_len rows) (room_left c.self.inside.by_key) in
-    let left = min (min (vec_capacity more) 4_294_967_295 - vec_len more) (room_left c.reserve-2.new.self) in
+    let spare = min (min (vec_capacity rows) 4_294_967_295 - vec_len rows) c.self.inside.by_key.room in
+    let left = min (min (vec_capacity more) 4_294_967_295 - vec_len more) c.reserve-2.new.self.room in
     let e = ap (λ (t : ResultsState). room_for t other) c.self.view_is in
     omega (
       arith,
@@ -46,7 +45,7 @@ returns-clause-enough c =
     let holder = c.args.holder in
     let lists = c.reserve-3.new.self in
     let more = c.reserve.new.self in
-    let left = min (min (vec_capacity more) 4_294_967_295 - vec_len more) (room_left c.reserve-2.new.self) in
+    let left = min (min (vec_capacity more) 4_294_967_295 - vec_len more) c.reserve-2.new.self.room in
     let room : c.args.additional ≤ left = omega (arith, c.reserve.ensures.len, c.in_ok-reserve.ensures.ok, c.self.inside.rows.ok.0, c.in_ok-reserve-2.ensures.enough) in
     on_ok c.reserve-3.result (c.args.additional ≤ room_of lists holder) (c.args.additional ≤ slice_index_or (least_rooms left lists.rooms) holder 0)
     c.reserve-3.ensures.enough (λ ok. omega (arith, ok, room, capped_room left lists.rooms holder))

@@ -1,0 +1,7 @@
+//! Places that are found by a hash.
+#![tactic(auto)]
+
+mod chains;
+pub mod laws;
+
+pub use chains::HashChains;
