@@ -7,8 +7,10 @@ use Rattle.names_realms.specs.declared.states.State.{State}
 use Rattle.names_realms.specs.declared.states.State.TheVariants.{Active}
 use Rattle.invocations.specs.declared.due.Due.{Due}
 use Rattle.invocations.specs.declared.invocation.Invocation.{Invocation}
+use Rattle.hash_chains.specs.Chains.{ChainsState}
+use Rattle.invocations.specs.Hashes.{hash_of, hashes_of}
 use Rattle.invocations.specs.Rows.{ids_of, HasId, IsInState}
-use Rattle.invocations.specs.Orders.{IsDueIndex, IsIdIndex, IsIndexed, deadline_in, deadlines_of}
+use Rattle.invocations.specs.Orders.{IsDueIndex, IsIndexed, deadline_in, deadlines_of}
 use Rattle.invocations.proofs.OrderedRows.{due_same}
 use Rattle.invocations.proofs.RowLemmas.{changed_is, ids_stay, table_set, table_push}
 
@@ -38,31 +40,32 @@ pub deadlines_set : (rows : List Invocation) (place : ℕ) (new : Invocation)
 deadlines_set rows place new = map-set (λ (row : Invocation). deadline_in row.state row.deadline) rows place new
 
 pub indexed_set : (change : Invocation → Invocation) → ((row : Invocation) → (change row).id ≡ row.id)
-    → (rows : List Invocation) (places : List ℕ) (entries new : List Due) (place : ℕ) (row : Invocation) → row ≡ get_or rows place row
-    → IsIndexed rows places entries → IsDueIndex (deadlines_of (set rows place (change row))) new
-    → IsIndexed (set rows place (change row)) places new
-indexed_set change same rows places entries new place row is indexed due = record {
+    → (rows : List Invocation) (chains : ChainsState) (entries new : List Due) (place : ℕ) (row : Invocation) → row ≡ get_or rows place row
+    → IsIndexed rows chains entries → IsDueIndex (deadlines_of (set rows place (change row))) new
+    → IsIndexed (set rows place (change row)) chains new
+indexed_set change same rows chains entries new place row is indexed due = record {
   table = table_set change same rows place row is indexed.table;
-  ids = subst (λ ids. IsIdIndex ids places)
-      (sym (ap ids_of (changed_is change rows place row is) ∙ ids_stay change same rows place)) indexed.ids;
+  ids = indexed.ids ∙ ap (λ ids. hashes_of ids)
+      (sym (ap ids_of (changed_is change rows place row is) ∙ ids_stay change same rows place));
   due = due;
 }
 
 -- a change that leaves the deadlines of the active rows
 pub indexed_beside : (change : Invocation → Invocation) → ((row : Invocation) → (change row).id ≡ row.id)
-    → (rows : List Invocation) (places : List ℕ) (entries : List Due) (place : ℕ) (row : Invocation) → row ≡ get_or rows place row
+    → (rows : List Invocation) (chains : ChainsState) (entries : List Due) (place : ℕ) (row : Invocation) → row ≡ get_or rows place row
     → deadline_in (change row).state (change row).deadline ≡ deadline_in row.state row.deadline
-    → IsIndexed rows places entries → IsIndexed (set rows place (change row)) places entries
-indexed_beside change same rows places entries place row is stays indexed =
-    indexed_set change same rows places entries entries place row is indexed
+    → IsIndexed rows chains entries → IsIndexed (set rows place (change row)) chains entries
+indexed_beside change same rows chains entries place row is stays indexed =
+    indexed_set change same rows chains entries entries place row is indexed
     (subst (λ ds. IsDueIndex ds entries) (sym (deadlines_same rows place row (change row) is stays)) indexed.due)
 
-pub indexed_push : (rows : List Invocation) (row : Invocation) (places new : List ℕ) (entries newer : List Due) → IsIndexed rows places entries
-    → (¬ HasId rows row.id) → length rows < 65_536 → IsIdIndex (ids_of rows ++ row.id ∷ []) new
+pub indexed_push : (rows : List Invocation) (row : Invocation) (chains new : ChainsState) (entries newer : List Due) → IsIndexed rows chains entries
+    → (¬ HasId rows row.id) → length rows < 65_536 → new.hashes ≡ chains.hashes ++ hash_of row.id ∷ []
     → IsDueIndex (deadlines_of rows ++ deadline_in row.state row.deadline ∷ []) newer → IsIndexed (rows ++ row ∷ []) new newer
-indexed_push rows row places new entries newer indexed free few ids due = record {
+indexed_push rows row chains new entries newer indexed free few ids due = record {
   table = table_push rows row indexed.table free few;
-  ids = subst (λ xs. IsIdIndex xs new) (sym (map_push (λ (r : Invocation). r.id) rows row)) ids;
+  ids = ids ∙ ap (λ hs. hs ++ hash_of row.id ∷ []) indexed.ids
+      ∙ sym (ap (λ xs. hashes_of xs) (map_push (λ (r : Invocation). r.id) rows row) ∙ map_push hash_of (ids_of rows) row.id);
   due = subst (λ ds. IsDueIndex ds newer) (sym (map_push (λ (r : Invocation). deadline_in r.state r.deadline) rows row)) due;
 }
 

@@ -1,17 +1,12 @@
--- The orders of the two indexes, and the indexes after a change of the rows.
+-- The order of deadlines, and their index after a change of the rows.
 use Rattle.std.proofs.Common.{◌≡◌, ◌≢◌, ◌⊎◌, ◌<◌, ◌≤◌, ◌<ℤ◌, ◌≤ℤ◌, ◌+◌, ℕ, zero, suc, ℤ, List, [], ◌∷◌, ◌++◌, length, get_or, set, Contains, Option, Some, None, IfSome, Ordering, Less, Equal, Greater, refl, sym, ap, ◌∙◌, subst, inl, inr, arith}
 use Rattle.std.specs.Cmp.{IsTotalOrder}
-use Rattle.std.specs.Cmp.Lexicographic.{slice_cmp, bytes_decides, nat_list_cmp_total}
-use Rattle.std.specs.List.{All, AllByRecursion, slice_get, insert}
-use Rattle.std.specs.List.Sorted.{IsPartitionPoint}
-use Rattle.std.specs.Ordering.{nat_cmp, int_cmp, ordering_then, is_eq, MatchOrdering}
-use Rattle.std.proofs.lemmas.Bool.{cases_lt, cases_eq}
-use Rattle.std.proofs.lemmas.Cmp.{then_total, on_total, nat_cmp_total, int_cmp_total, int_ranked, ranked, tied_itself}
+use Rattle.std.specs.List.{All, slice_get}
+use Rattle.std.specs.Ordering.{nat_cmp, int_cmp, ordering_then, MatchOrdering}
+use Rattle.std.proofs.lemmas.Bool.{cases_eq}
+use Rattle.std.proofs.lemmas.Cmp.{then_total, on_total, nat_cmp_total, int_cmp_total, int_ranked, ranked}
 use Rattle.std.proofs.lemmas.Int.{ints}
-use Rattle.std.proofs.lemmas.List.{get_or_append_left, get_or_push, get_or_default, get_or-take, length-take, length_push, length-set}
-use Rattle.std.proofs.lemmas.List.Edits.{length-insert}
-use Rattle.std.proofs.lemmas.List.Elements.{Contains-get_or}
-use Rattle.std.proofs.lemmas.Map.Text.{is_eq-slice_cmp}
+use Rattle.std.proofs.lemmas.List.{get_or-take, length-take, length_push, length-set}
 use Rattle.std.proofs.lemmas.Option.{same_Some, slice_get-get_or, slice_get_within}
 use Rattle.names_realms.specs.declared.states.State.{State}
 use Rattle.names_realms.specs.declared.states.State.TheVariants.{Active, Finalizing, Finalized}
@@ -19,8 +14,8 @@ use Rattle.invocations.specs.declared.due.Due.{Due}
 use Rattle.invocations.specs.declared.invocation.Invocation.{Invocation}
 use Rattle.invocations.specs.Due.{IsDue, IsNextDue}
 use Rattle.invocations.specs.Rows.{IsInState}
-use Rattle.invocations.specs.Orders.{IsRising, HasOneMore, HasOneFewer, IsIdIndex, IsDueIndex, IsInTurn, id_order, places_order, due_order, deadline_in, deadlines_of, place_at, place_in}
-use Rattle.invocations.proofs.OrderLemmas.{rising_insert, one_more_insert, none_equal, first_least}
+use Rattle.invocations.specs.Orders.{IsRising, HasOneMore, HasOneFewer, IsDueIndex, IsInTurn, due_order, deadline_in, deadlines_of, place_at, place_in}
+use Rattle.invocations.proofs.OrderLemmas.{first_least}
 use Rattle.invocations.proofs.RowLemmas.{at_place, at_front, at_end, contained}
 
 -- the first of the entries
@@ -34,9 +29,6 @@ first_none (due ∷ rest) count e none = absurd (none (omega (arith, e)))
 
 pub due_order_total : IsTotalOrder due_order
 due_order_total = then_total (on_total (λ (d : Due). d.deadline) int_cmp_total) (on_total (λ (d : Due). d.place) nat_cmp_total)
-
-places_order_total : (ids : List (List ℕ)) → IsTotalOrder (places_order ids)
-places_order_total ids = on_total (λ (p : ℕ). get_or ids p []) nat_list_cmp_total
 
 then_equal : (o p : Ordering) → ordering_then o p ≡ Equal → (o ≡ Equal) × (p ≡ Equal)
 then_equal Less p e = let no : Less ≡ Equal = e in cc
@@ -78,82 +70,6 @@ due_less a b e =
       | inl lt ↦ inl (int_less a.deadline b.deadline lt)
       | inr h ↦ inr (int_equal a.deadline b.deadline h.0, nat_less a.place b.place h.1)
     ]
-
-same_text : (xs ys : List ℕ) → slice_cmp nat_cmp xs ys ≡ Equal → xs ≡ ys
-same_text xs ys e = (bytes_decides xs ys).0 (sym (is_eq-slice_cmp xs ys) ∙ ap is_eq e)
-
--- The index of ids.
-
-pub found_at : (ids : List (List ℕ)) (places : List ℕ) (id : List ℕ) (i place : ℕ) → IsIdIndex ids places → i < length places
-    → ((d : ℕ) → id_order ids id (get_or places i d) ≡ Equal) → place ≡ get_or places i place → slice_get ids place ≡ Some id
-found_at ids places id i place index within equal is =
-    let held : Contains places place = (i, within, sym is) in
-    let below = (index.all place).0 held in
-    slice_get-get_or ids place [] below
-    ∙ ap Some (same_text (get_or ids place []) id (subst (λ p. id_order ids id p ≡ Equal) (sym is) (equal place)))
-
-pub not_found : (ids : List (List ℕ)) (places : List ℕ) (id : List ℕ) (i : ℕ) → IsIdIndex ids places → i ≤ length places
-    → IsPartitionPoint (λ y. id_order ids id y ≡ Less) (λ y. id_order ids id y ≡ Greater) places i → ¬ Contains ids id
-not_found ids places id i index within parts held =
-    let is : get_or ids held.0 [] ≡ id = get_or_default ids held.0 [] id held.1 ∙ held.2 in
-    none_equal (id_order ids id) places i within parts held.0 ((index.all held.0).1 held.1)
-    (subst (λ text. slice_cmp nat_cmp text id ≡ Equal) (sym is) (tied_itself nat_list_cmp_total id))
-
-every_agree : {X : Type 0} (P Q : X → Type 0) (xs : List X) → ((y : X) → Contains xs y → P y → Q y) → AllByRecursion P xs → AllByRecursion Q xs
-every_agree P Q [] f h = h
-every_agree P Q (x ∷ xs) f h =
-    (f x (zero, omega arith, refl) h.0, every_agree P Q xs (λ y held. f y (suc held.0, omega (arith, held.1), held.2)) h.1)
-
-rising_agree : {X : Type 0} (R S : X → X → Ordering) (xs : List X)
-    → ((a b : X) → Contains xs a → Contains xs b → R a b ≡ Less → S a b ≡ Less) → IsRising R xs → IsRising S xs
-rising_agree R S [] f h = h
-rising_agree R S (x ∷ xs) f h = (
-  every_agree (λ y. R x y ≡ Less) (λ y. S x y ≡ Less) xs (λ y held. f x y (zero, omega arith, refl) (suc held.0, omega (arith, held.1), held.2)) h.0,
-  rising_agree R S xs (λ a b p q. f a b (suc p.0, omega (arith, p.1), p.2) (suc q.0, omega (arith, q.1), q.2)) h.1,
-)
-
-old_id : (ids : List (List ℕ)) (id : List ℕ) (p : ℕ) → p < length ids → get_or (ids ++ id ∷ []) p [] ≡ get_or ids p []
-old_id ids id p within = get_or_append_left ids (id ∷ []) [] p within
-
-new_id : (ids : List (List ℕ)) (id : List ℕ) → get_or (ids ++ id ∷ []) (length ids) [] ≡ id
-new_id ids id = get_or_push ids id [] (length ids) refl
-
-order_with_new : (ids : List (List ℕ)) (id : List ℕ) (p : ℕ) → p < length ids
-    → places_order (ids ++ id ∷ []) p (length ids) ≡ id_order ids id p
-order_with_new ids id p within =
-    ap (λ x. slice_cmp nat_cmp x (get_or (ids ++ id ∷ []) (length ids) [])) (old_id ids id p within)
-    ∙ ap (λ y. slice_cmp nat_cmp (get_or ids p []) y) (new_id ids id)
-
-pub id_added : (ids : List (List ℕ)) (places : List ℕ) (id : List ℕ) (i : ℕ) → IsIdIndex ids places → i ≤ length places
-    → IsPartitionPoint (λ y. id_order ids id y ≡ Less) (λ y. id_order ids id y ≡ Greater) places i
-    → IsIdIndex (ids ++ id ∷ []) (insert places i (length ids))
-id_added ids places id i index within parts =
-    let new = ids ++ id ∷ [] in
-    let n = length ids in
-    let below : (p : ℕ) → Contains places p → p < length ids = λ p held. (index.all p).0 held in
-    let old_order : (a b : ℕ) → Contains places a → Contains places b → places_order ids a b ≡ Less → places_order new a b ≡ Less =
-    λ a b p q e. ap (λ x. slice_cmp nat_cmp x (get_or new b [])) (old_id ids id a (below a p))
-    ∙ ap (λ y. slice_cmp nat_cmp (get_or ids a []) y) (old_id ids id b (below b q)) ∙ e in
-    let at : (k d : ℕ) → k < length places → get_or places k d < length ids = λ k d lt. below (get_or places k d) (Contains-get_or places k d lt) in
-    record {
-      rising = rising_insert (places_order_total new) places i n (rising_agree (places_order ids) (places_order new) places old_order index.rising) within (
-        λ k d low high. order_with_new ids id (get_or places k d) (at k d (omega arith)) ∙ parts.0 k d low high,
-        λ k d low high. order_with_new ids id (get_or places k d) (at k d high) ∙ parts.1 k d low high,
-      );
-      all = λ p. (
-        λ held. elim ((one_more_insert places i n p).0 held) [
-          | inl old ↦ let lt = below p old in omega (arith, length_push ids id)
-          | inr e ↦ omega (arith, length_push ids id)
-        ],
-        λ lt. (one_more_insert places i n p).1 (elim (cases_lt p n) [
-          | inl old ↦ inl ((index.all p).1 old)
-          | inr ge ↦ inr (omega (arith, length_push ids id))
-        ]),
-      );
-      count = length-insert places i n within ∙ ap (λ m. m + 1) index.count ∙ sym (length_push ids id);
-    }
-
--- The index of deadlines.
 
 active_from : (s : State) (z d : ℤ) → deadline_in s z ≡ Some d → (s ≡ Active) × (z ≡ d)
 active_from Active z d e = (refl, same_Some z d e)

@@ -1,16 +1,17 @@
 -- The code's own words for lists that are kept in order.
-use Rattle.std.specs.Prelude.{◌≡◌, ◌≢◌, ◌⊎◌, ◌↔◌, ◌<◌, ◌≤◌, ℕ, ℤ, List, [], ◌∷◌, Option, Some, None, Result, MatchResult, length, map, slice_get, slice_index_or, Contains}
+use Rattle.std.specs.Prelude.{◌≡◌, ◌≢◌, ◌⊎◌, ◌↔◌, ◌<◌, ◌≤◌, ℕ, ℤ, List, [], ◌∷◌, Option, Some, None, Result, MatchResult, length, map, slice_get, Contains}
 use Rattle.std.specs.List.{AllByRecursion, HoldsAt}
 use Rattle.std.specs.List.Sorted.{IsPartitionPoint}
 use Rattle.std.specs.Ordering.{nat_cmp, int_cmp, ordering_then}
-use Rattle.std.specs.Cmp.Lexicographic.{slice_cmp}
 use Rattle.std.specs.declared.cmp.Ordering.{Ordering}
 use Rattle.std.specs.declared.cmp.Ordering.TheVariants.{Less, Equal, Greater}
+use Rattle.hash_chains.specs.Chains.{ChainsState}
 use Rattle.names_realms.specs.declared.states.State.{State}
 use Rattle.names_realms.specs.declared.states.State.TheVariants.{Active, Finalizing, Finalized}
 use Rattle.invocations.specs.declared.due.Due.{Due}
 use Rattle.invocations.specs.declared.invocation.Invocation.{Invocation}
-use Rattle.invocations.specs.Rows.{IsTable, ids_of}
+use Rattle.invocations.specs.Hashes.{IsHashed}
+use Rattle.invocations.specs.Rows.{IsTable}
 
 -- each value is below all that stand behind it
 abbrev pub IsRising : {X : Type 0} → (X → X → Ordering) → List X → Type 0
@@ -40,20 +41,6 @@ pub record HasReplaced (old : List Due) (due to : Due) (new : List Due) : Type 0
   pub between : List Due
   pub fewer : HasOneFewer old due between
   pub more : HasOneMore between to new
-
--- the id at a place, compared with an id
-abbrev pub id_order : List (List ℕ) → List ℕ → ℕ → Ordering
-id_order ids id place = slice_cmp nat_cmp (slice_index_or ids place []) id
-
--- the ids at two places, compared
-abbrev pub places_order : List (List ℕ) → ℕ → ℕ → Ordering
-places_order ids p q = id_order ids (slice_index_or ids q []) p
-
--- all places of these ids, in the order of the ids
-pub record IsIdIndex (ids : List (List ℕ)) (places : List ℕ) : Type 0 where
-  pub rising : IsRising (places_order ids) places
-  pub all : (place : ℕ) → Contains places place ↔ (place < length ids)
-  pub count : length places ≡ length ids
 
 abbrev pub deadline_in : State → ℤ → Option ℤ
 deadline_in Active deadline = Some deadline
@@ -85,8 +72,9 @@ abbrev pub IsInTurn : List Invocation → ℕ → Option ℕ → Type 0
 IsInTurn rows turn found =
     (entries : List Due) × IsDueIndex (deadlines_of rows) entries × (found ≡ place_at entries turn)
 
--- rows with both indexes
-pub record IsIndexed (rows : List Invocation) (places : List ℕ) (entries : List Due) : Type 0 where
+-- rows with the chains of their ids and with the index of deadlines
+pub record IsIndexed (rows : List Invocation) (chains : ChainsState) (entries : List Due)
+    : Type 0 where
   pub table : IsTable rows
-  pub ids : IsIdIndex (ids_of rows) places
+  pub ids : IsHashed rows chains
   pub due : IsDueIndex (deadlines_of rows) entries

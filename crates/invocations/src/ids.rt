@@ -1,86 +1,41 @@
-//! The places of rows, kept in the order of their ids.
-ghost use Rattle.std.specs.Prelude.{◌≡◌, ◌≤◌, ◌<◌, ◌+◌, ◌++◌, ◌∷◌, [], OnOk, MatchOption, Contains, length};
-ghost use Rattle.std.specs.Prelude.{slice_index_or, vec_len, vec_capacity};
-ghost use Rattle.std.specs.Ordering.{nat_cmp};
-ghost use Rattle.std.specs.Cmp.Lexicographic.{slice_cmp};
-ghost use Rattle.invocations.specs.Orders.{IsIdIndex, IsRising, IsSlot, id_order, places_order};
-ghost use Rattle.invocations.specs.Rows.{HasId, IsPlaceOf, ids_of};
+//! The places of rows, found by a hash of their ids.
+ghost use Rattle.std.specs.Prelude.{◌≡◌, ◌↔◌, IsTrue, MatchOption};
+ghost use Rattle.invocations.specs.Hashes.{IsHashed, hash_of};
+ghost use Rattle.invocations.specs.Rows.{HasId, IsPlaceOf};
 
 use crate::invocation::Invocation;
+use hash_chains::HashChains;
 use names_realms::InvocationId;
-use std::alloc::{AllocError, Global};
-use std::cmp::Ordering;
+use std::hash::{DefaultHasher, Hasher};
 
-/// The places of all rows, in the order of their ids.
-#[derive(Drop)]
-pub(crate) struct IdIndex {
-    pub(crate) places: Vec<u32>,
-}
-
-/// The id at a place, compared with an id. Where there is no row the place has an empty text.
-fn compare(rows: &[Invocation], place: u32, id: &str) -> Ordering
-    ensures { result ≡ id_order (ids_of rows.now) id.now place }
+/// The hash of an id. It is SipHash, and not the map's own fast hash: who creates invocations picks
+/// the ids, and many ids with one SipHash, which would make a long chain, are hard to find.
+pub(crate) fn hash_of(id: &InvocationId) -> u64
+    ensures { result ≡ hash_of id.now }
 {
-    match rows.get(place as usize) {
-        Some(row) => row.id.as_str().cmp(id),
-        None => "".cmp(id),
-    }
+    let mut hasher = DefaultHasher::new();
+    hasher.write(id.as_str().as_bytes());
+    hasher.finish()
 }
 
-impl IdIndex {
-    /// No places.
-    pub(crate) fn new(alloc: Global) -> IdIndex
-        ensures { result.places.items ≡ [] }
-    {
-        IdIndex {
-            places: Vec::new(alloc),
+/// Whether a row has this id.
+fn has_id(row: &Invocation, id: &InvocationId) -> bool
+    ensures { IsTrue result ↔ (row.now.id ≡ id.now) }
+{
+    row.id.as_str() == id.as_str()
+}
+
+/// The place of the row with an id, or none where no row has it.
+pub(crate) fn find_id(rows: &[Invocation], chains: &HashChains, id: &InvocationId) -> Option<u32>
+    requires { IsHashed rows.now chains.now }
+    ensures { MatchOption result (¬ HasId rows.now id.now) (IsPlaceOf rows.now id.now) }
+{
+    let mut next = chains.latest(hash_of(id));
+    while let Some(place) = next {
+        if has_id(&rows[place as usize], id) {
+            return Some(place);
         }
+        next = chains.earlier(place);
     }
-
-    /// Makes room for one more.
-    pub(crate) fn reserve(&mut self, additional: usize) -> Result<(), AllocError>
-        ensures places { self.new.places.items ≡ self.old.places.items }
-        ensures len { vec_len self.new.places ≡ vec_len self.old.places }
-        ensures room { OnOk result
-            (vec_len self.new.places + additional ≤ vec_capacity self.new.places) }
-        ensures capacity { vec_capacity self.old.places ≤ vec_capacity self.new.places }
-    {
-        self.places.reserve(additional)
-    }
-
-    /// Where the place of an id stands, or where it would go.
-    fn search(&self, rows: &[Invocation], id: &InvocationId) -> Result<usize, usize>
-        requires { IsRising (places_order (ids_of rows.now)) self.now.places.items }
-        ensures { IsSlot (id_order (ids_of rows.now) id.now) self.now.places.items result }
-    {
-        let id = id.as_str();
-        self.places
-            .binary_search_by(|place| compare(rows, *place, id))
-    }
-
-    /// The place of the row with this id.
-    pub(crate) fn find(&self, rows: &[Invocation], id: &InvocationId) -> Option<u32>
-        requires { IsIdIndex (ids_of rows.now) self.now.places.items }
-        ensures { MatchOption result (¬ HasId rows.now id.now) (IsPlaceOf rows.now id.now) }
-    {
-        match self.search(rows, id) {
-            Ok(at) => Some(self.places[at]),
-            Err(_) => None,
-        }
-    }
-
-    /// Adds the place of the row that comes next. There is room for it.
-    pub(crate) fn add(&mut self, rows: &[Invocation], id: &InvocationId)
-        requires index { IsIdIndex (ids_of rows.now) self.old.places.items }
-        requires untaken { ¬ HasId rows.now id.now }
-        requires few { length rows.now < 65_536 }
-        requires room { vec_len self.old.places < vec_capacity self.old.places }
-        ensures index { IsIdIndex (ids_of rows.now ++ id.now ∷ []) self.new.places.items }
-        ensures len { vec_len self.new.places ≡ vec_len self.old.places + 1 }
-        ensures capacity { vec_capacity self.old.places ≤ vec_capacity self.new.places }
-    {
-        if let Err(at) = self.search(rows, id) {
-            let _ = self.places.insert(at, rows.len() as u32);
-        }
-    }
+    None
 }

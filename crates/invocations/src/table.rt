@@ -9,8 +9,9 @@ ghost use Rattle.invocations.specs.Rows.{with_deadline, with_row, with_row_chang
 
 use crate::due::{Due, DueIndex};
 use crate::faults::AddFault;
-use crate::ids::IdIndex;
+use crate::ids::{find_id, hash_of};
 use crate::invocation::Invocation;
+use hash_chains::HashChains;
 use names_realms::lists::Listed;
 use names_realms::{InvocationId, Moment, Pair, State};
 use std::alloc::{AllocError, Global};
@@ -23,7 +24,7 @@ const MOST_ROWS: usize = 65_536;
 #[derive(Drop)]
 pub struct Table {
     rows: Vec<Invocation>,
-    by_id: IdIndex,
+    by_id: HashChains,
     by_deadline: DueIndex,
 }
 
@@ -38,12 +39,12 @@ impl Model for Table {
     ghost view = { λ t. record {
       rows = t.rows.items;
       spare = min (min (vec_capacity t.rows) 65_536 - vec_len t.rows)
-          (min (vec_capacity t.by_id.places - vec_len t.by_id.places)
+          (min t.by_id.room
           (deque_capacity t.by_deadline.entries - deque_len t.by_deadline.entries));
     } };
 
     ghost invariant = { λ t.
-        IsIndexed t.rows.items t.by_id.places.items t.by_deadline.entries.items };
+        IsIndexed t.rows.items t.by_id t.by_deadline.entries.items };
 }
 
 impl Table {
@@ -53,7 +54,7 @@ impl Table {
     {
         Ok(Table {
             rows: Vec::new(alloc),
-            by_id: IdIndex::new(alloc),
+            by_id: HashChains::new(alloc),
             by_deadline: DueIndex::new(alloc),
         })
     }
@@ -98,7 +99,7 @@ impl Table {
             (IsPlaceOf self.now.rows id.now) }
         ensures table { IsTable self.now.rows }
     {
-        self.by_id.find(self.rows.as_slice(), id)
+        find_id(self.rows.as_slice(), &self.by_id, id)
     }
 
     /// The place of the active row with the least deadline at or before a moment, the first of
@@ -151,7 +152,7 @@ impl Table {
         ensures place { result ≡ length self.old.rows }
     {
         let place = self.rows.len() as u32;
-        self.by_id.add(self.rows.as_slice(), &row.id);
+        self.by_id.push(hash_of(&row.id));
         self.by_deadline.add_row(self.rows.as_slice(), &row);
         self.rows.push_reserved(row);
         place

@@ -26,7 +26,7 @@ invariant_of-self c =
     let at = subst (λ (t : TableState). IsInState Active t.rows c.args.place) (sym c.self.view_is) c.requires in
     let fewer : length new + 1 ≡ length entries =
     omega (arith, c.remove.ensures.len, c.remove.new.self.entries.ok.0, c.self.inside.by_deadline.entries.ok.0) in
-    indexed_set (begun c.args.moment) (λ _. refl) rows c.self.inside.by_id.places.items entries new c.args.place row
+    indexed_set (begun c.args.moment) (λ _. refl) rows c.self.inside.by_id entries new c.args.place row
     c.index_mut-row.ensures.value c.self.invariant
     (subst (λ (ds : List (Option ℤ)). IsDueIndex ds new) (sym (deadlines_set rows c.args.place (begun c.args.moment row)))
     (due_removed (deadlines_of rows) entries new due c.self.invariant.due

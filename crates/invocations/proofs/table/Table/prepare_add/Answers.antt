@@ -9,6 +9,6 @@ returns-clause-room c =
       c.self.inside.rows.ok.0,
       c.reserve.ensures.len,
       c.in_ok-reserve.ensures.ok,
-      c.in_ok-reserve-2.ensures.room,
+      c.in_ok-reserve-2.ensures.enough,
       c.in_ok-reserve-3.ensures.room,
     )

@@ -41,7 +41,7 @@ invariant_of-self c =
     let replaced = c.replace.ensures.entries in
     let is = deadlines_set rows c.args.place (with_deadline c.args.deadline row)
     ∙ ap (λ (s : State). slice_set (deadlines_of rows) c.args.place (deadline_in s c.args.deadline)) state in
-    indexed_set (with_deadline c.args.deadline) (λ _. refl) rows c.self.inside.by_id.places.items entries new c.args.place row
+    indexed_set (with_deadline c.args.deadline) (λ _. refl) rows c.self.inside.by_id entries new c.args.place row
     c.index_mut-row.ensures.value c.self.invariant
     (subst (λ (ds : List (Option ℤ)). IsDueIndex ds new) (sym is)
     (due_moved (deadlines_of rows) entries replaced.between new due to c.self.invariant.due

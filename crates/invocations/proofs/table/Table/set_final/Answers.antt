@@ -14,7 +14,7 @@ invariant_of-self c =
     let rows = c.self.inside.rows.items in
     let at = subst (λ (t : TableState). IsInState Finalizing t.rows c.args.place) (sym c.self.view_is) c.requires in
     let state = state_of Finalizing rows c.args.place row at c.index_mut-row.ensures.value in
-    indexed_beside (ended c.args.moment) (λ _. refl) rows c.self.inside.by_id.places.items c.self.inside.by_deadline.entries.items c.args.place row
+    indexed_beside (ended c.args.moment) (λ _. refl) rows c.self.inside.by_id c.self.inside.by_deadline.entries.items c.args.place row
     c.index_mut-row.ensures.value (ap (λ (s : State). deadline_in s row.deadline) (sym state)) c.self.invariant
 
 pub returns : goal.returns

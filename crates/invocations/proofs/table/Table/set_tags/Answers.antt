@@ -7,7 +7,7 @@ use Rattle.invocations.proofs.table.Table.set_tags.Goals as goal
 
 pub invariant_of-self : goal.invariant_of-self
 invariant_of-self c =
-    indexed_beside (with_tags c.args.tags) (λ _. refl) c.self.inside.rows.items c.self.inside.by_id.places.items
+    indexed_beside (with_tags c.args.tags) (λ _. refl) c.self.inside.rows.items c.self.inside.by_id
     c.self.inside.by_deadline.entries.items c.args.place c.index_mut-row.result.now c.index_mut-row.ensures.value refl c.self.invariant
 
 pub returns : goal.returns
