@@ -1,9 +1,10 @@
 -- The values that are written of a row are read again.
-use Rattle.std.proofs.Common.{◌≡◌, ◌≤◌, ◌<◌, ◌+◌, ℕ, zero, suc, Bool, true, false, List, [], ◌∷◌, length, take, get_or, Option, Some, None, option_map, option_and_then, refl, sym, ap, subst, ◌∙◌, arith, ⊎_elim}
+use Rattle.std.proofs.Common.{◌≡◌, ◌≤◌, ◌<◌, ◌+◌, ◌==◌, ℕ, zero, suc, Bool, true, false, List, [], ◌∷◌, length, take, get_or, Option, Some, None, option_map, option_and_then, refl, sym, ap, subst, ◌∙◌, arith, ⊎_elim}
 use Rattle.std.specs.Prelude.{fold, codes, All}
 use Rattle.std.specs.Str.{IsUtf8, is_utf8}
 use Rattle.std.proofs.lemmas.Str.{IsUtf8-nil, IsUtf8-from_is_utf8, is_utf8-from_IsUtf8}
-use Rattle.std.proofs.lemmas.List.{take_all}
+use Rattle.std.proofs.lemmas.List.{nil_from_length, take_all}
+use Rattle.std.proofs.lemmas.Bool.{and_parts, and_from, cases_lt, eqb-true}
 use Rattle.std.proofs.lemmas.List.Elements.{All-head, All-tail}
 use Rattle.std.proofs.lemmas.List.Sums.{fold_more}
 use Rattle.serde_json.specs.Data.{Data, null, boolean, number, string, array, object, Members, no_members, member, put}
@@ -167,6 +168,10 @@ read_nothing = refl
 
 properties_of_none : properties_shown [] ≡ None
 properties_of_none = rw (as_text-utf8 [] IsUtf8-nil, read_nothing) refl
+
+-- a text without bytes is of no properties
+pub empty_shows_none : (text : List ℕ) → (length text == 0) ≡ true → None ≡ properties_shown text
+empty_shows_none text empty = sym (ap properties_shown (nil_from_length text (eqb-true (length text) 0 empty)) ∙ properties_of_none)
 
 braces : (v : Data) (text : List ℕ) → empty_object v ≡ true → IsCompact v text → text ≡ codes "{}"
 braces null text e is = absurd cc

@@ -170,6 +170,9 @@ fn right_object(alloc: Global, value: Value) -> Result<Option<Value>, AllocError
 pub fn properties_value(alloc: Global, text: &[u8]) -> Result<Option<Value>, AllocError>
     ensures { IfOk result (λ o. option_map view o ≡ properties_shown text.now) }
 {
+    if text.is_empty() {
+        return Ok(None);
+    }
     match Value::from_str(alloc, text_of(text)) {
         Ok(value) => right_object(alloc, value),
         Err(error) => {
