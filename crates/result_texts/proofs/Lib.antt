@@ -1,0 +1,8 @@
+pub mod TokenLaws
+pub mod ObjectLaws
+pub mod ListLaws
+pub mod NameLaws
+pub mod ValueLaws
+pub mod PairLaws
+pub mod CopyLaws
+pub mod RowLaws

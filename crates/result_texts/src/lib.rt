@@ -1,0 +1,12 @@
+//! What replies to batches show of their rows, written token by token into the text of the reply.
+#![tactic(auto)]
+
+mod exonerations;
+mod names;
+mod pairs;
+mod replies;
+mod results;
+mod tokens;
+mod values;
+
+pub use replies::{append_exonerations, append_results};

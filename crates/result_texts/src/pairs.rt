@@ -1,0 +1,141 @@
+//! Tags and variants.
+ghost use Rattle.std.specs.Prelude.{◌≡◌, ◌≢◌, [], true, OnOk};
+ghost use Rattle.std.specs.List.{flat_map};
+ghost use Rattle.std.specs.Str.{is_utf8};
+ghost use Rattle.json_fields.specs.NamesRealms.Variants.{IsAscending};
+ghost use Rattle.result_forms.specs.Shown.{pair_data, tags_shown, variant_shown};
+ghost use Rattle.result_texts.specs.Tokens.{tokens_of, member_tokens, pair_tokens, have_text_keys, IsAdded};
+
+use crate::tokens::{begin_array, begin_object, end_array, end_object, put_key, put_text};
+use crate::values::{put_bytes, put_value, text_of};
+use json::Writer;
+use json_fields::names_realms::{Pair, Variant};
+use result_forms::variant_value;
+use std::alloc::{AllocError, Global};
+use std::str::from_utf8;
+
+fn put_tag(out: &mut Writer, tag: &Pair) -> Result<(), AllocError>
+    ensures { OnOk result (IsAdded out.old out.new (tokens_of (pair_data tag.now))) }
+{
+    begin_object(out)?;
+    put_text(out, "key", text_of(tag.key.as_slice()))?;
+    put_bytes(out, "value", tag.value.as_slice())?;
+    end_object(out)?;
+    Ok(())
+}
+
+fn put_each_tag(out: &mut Writer, tags: &[Pair]) -> Result<(), AllocError>
+    ensures { OnOk result
+        (IsAdded out.old out.new (flat_map (λ tag. tokens_of (pair_data tag)) tags.now)) }
+{
+    for tag in tags {
+        put_tag(out, tag)?;
+    }
+    Ok(())
+}
+
+/// Adds the list of tags, where there are any.
+pub(crate) fn put_tags(out: &mut Writer, name: &str, tags: &[Pair]) -> Result<(), AllocError>
+    ensures { OnOk result (IsAdded out.old out.new (member_tokens name.now (tags_shown tags.now))) }
+{
+    if tags.is_empty() {
+        return Ok(());
+    }
+    put_key(out, name)?;
+    begin_array(out)?;
+    put_each_tag(out, tags)?;
+    end_array(out)?;
+    Ok(())
+}
+
+fn put_pair(out: &mut Writer, pair: &Pair) -> Result<(), AllocError>
+    ensures { OnOk result (IsAdded out.old out.new (pair_tokens pair.now)) }
+{
+    let key = text_of(pair.key.as_slice());
+    let text = text_of(pair.value.as_slice());
+    put_text(out, key, text)
+}
+
+fn put_each_pair(out: &mut Writer, pairs: &[Pair]) -> Result<(), AllocError>
+    ensures { OnOk result (IsAdded out.old out.new (flat_map pair_tokens pairs.now)) }
+{
+    for pair in pairs {
+        put_pair(out, pair)?;
+    }
+    Ok(())
+}
+
+fn has_text_key(pair: &Pair) -> bool
+    ensures { result ≡ is_utf8 pair.now.key }
+{
+    match from_utf8(pair.key.as_slice()) {
+        Ok(_) => true,
+        Err(_) => false,
+    }
+}
+
+/// Whether the pairs, which rise by their keys, also rise by the texts of these.
+fn have_text_keys(pairs: &[Pair]) -> bool
+    ensures { result ≡ have_text_keys pairs.now }
+{
+    for pair in pairs {
+        if !has_text_key(pair) {
+            return false;
+        }
+    }
+    true
+}
+
+/// Adds pairs that rise by their texts.
+fn put_rising(out: &mut Writer, name: &str, pairs: &[Pair]) -> Result<(), AllocError>
+    requires rising { IsAscending pairs.now }
+    requires texts { have_text_keys pairs.now ≡ true }
+    requires some { pairs.now ≢ [] }
+    ensures { OnOk result
+        (IsAdded out.old out.new (member_tokens name.now (variant_shown pairs.now))) }
+{
+    put_key(out, name)?;
+    begin_object(out)?;
+    put_key(out, "def")?;
+    begin_object(out)?;
+    put_each_pair(out, pairs)?;
+    end_object(out)?;
+    end_object(out)?;
+    Ok(())
+}
+
+/// Adds pairs of any bytes.
+fn put_any(alloc: Global, out: &mut Writer, name: &str, pairs: &[Pair]) -> Result<(), AllocError>
+    ensures { OnOk result
+        (IsAdded out.old out.new (member_tokens name.now (variant_shown pairs.now))) }
+{
+    match variant_value(alloc, pairs)? {
+        Some(value) => {
+            put_key(out, name)?;
+            put_value(alloc, out, &value)?;
+            Ok(())
+        }
+        None => Ok(()),
+    }
+}
+
+/// Adds the object of a variant, where it has pairs.
+pub(crate) fn put_variant(
+    alloc: Global,
+    out: &mut Writer,
+    name: &str,
+    variant: &Variant,
+) -> Result<(), AllocError>
+    ensures { OnOk result
+        (IsAdded out.old out.new (member_tokens name.now (variant_shown variant.now))) }
+{
+    let pairs = variant.as_slice();
+    if pairs.is_empty() {
+        return Ok(());
+    }
+    if have_text_keys(pairs) {
+        put_rising(out, name, pairs)
+    } else {
+        put_any(alloc, out, name, pairs)
+    }
+}
