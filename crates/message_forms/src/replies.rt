@@ -4,11 +4,13 @@ ghost use Rattle.serde_json.specs.View.{view};
 ghost use Rattle.serde_json.specs.Written.{compact_text, has_float};
 ghost use Rattle.message_forms.specs.Replies.{reply_prefix, reply_text};
 
-use crate::batches::{ShownExonerations, ShownResults, exonerations_value, results_value};
+use crate::batches::{ShownExonerations, ShownResults};
+use crate::names::{test_exonerations, test_results};
 use artifact_replies::artifacts::Artifact;
 use artifact_replies::{ShownArtifacts, append_artifact, append_artifacts};
 use lists::Bytes;
 use query_forms::invocation_forms::{ShownInvocation, invocation_value};
+use result_texts::{append_exonerations, append_results};
 use serde_json::{Map, Value};
 use std::alloc::{AllocError, Global};
 use std::marker::Model;
@@ -56,6 +58,26 @@ fn write_value(alloc: Global, value: &Value) -> Result<Bytes, AllocError>
     Ok(Bytes::new(out))
 }
 
+/// The text of a reply that shows results.
+fn write_results(alloc: Global, shown: &ShownResults) -> Result<Bytes, AllocError>
+    ensures { IfOk result (λ text. text ≡ reply_text (Reply.Results shown.now)) }
+{
+    let prefix = Vec::from_slice(alloc, b")]}'\n")?;
+    let name = test_results();
+    let text = append_results(alloc, prefix, &name, shown.invocation, shown.rows)?;
+    Ok(Bytes::new(text))
+}
+
+/// The text of a reply that shows exonerations.
+fn write_exonerations(alloc: Global, shown: &ShownExonerations) -> Result<Bytes, AllocError>
+    ensures { IfOk result (λ text. text ≡ reply_text (Reply.Exonerations shown.now)) }
+{
+    let prefix = Vec::from_slice(alloc, b")]}'\n")?;
+    let name = test_exonerations();
+    let text = append_exonerations(alloc, prefix, &name, shown.invocation, shown.rows)?;
+    Ok(Bytes::new(text))
+}
+
 /// The text of a reply that shows artifacts, each as a line.
 fn write_artifacts(alloc: Global, shown: &ShownArtifacts) -> Result<Bytes, AllocError>
     ensures { IfOk result (λ text. text ≡ reply_text (Reply.Artifacts shown.now)) }
@@ -84,8 +106,8 @@ pub fn write_reply(alloc: Global, reply: &Reply) -> Result<Bytes, AllocError>
     match reply {
         Reply::Empty => write_value(alloc, &Value::Object(Map::new(alloc))),
         Reply::Invocation(shown) => write_value(alloc, &invocation_value(alloc, shown)?),
-        Reply::Results(shown) => write_value(alloc, &results_value(alloc, shown)?),
-        Reply::Exonerations(shown) => write_value(alloc, &exonerations_value(alloc, shown)?),
+        Reply::Results(shown) => write_results(alloc, shown),
+        Reply::Exonerations(shown) => write_exonerations(alloc, shown),
         Reply::Artifacts(shown) => write_artifacts(alloc, shown),
         Reply::Artifact(shown) => write_artifact(alloc, shown.row),
     }
