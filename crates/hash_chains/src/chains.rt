@@ -11,26 +11,25 @@ use std::marker::Model;
 pub struct HashChains {
     /// The last place with each hash.
     latest: HashMap<u64, u32>,
-    /// Of each place, its hash.
-    hashes: Vec<u64>,
     /// Of each place, the last one before it with its hash.
     earlier: Vec<Option<u32>>,
 }
 
 impl Model for HashChains {
     ghost use Rattle.std.specs.Prelude.{◌-◌, min, nat_eq, vec_len, vec_capacity};
-    ghost use Rattle.std.specs.HashMap.{get, spare};
-    ghost use Rattle.hash_chains.specs.Chains.{ChainsState, IsChained};
+    ghost use Rattle.std.specs.HashMap.{get, keys, spare};
+    ghost use Rattle.hash_chains.specs.Chains.{ChainsState, IsChained, hashes_in};
 
     ghost Value = { ChainsState };
 
     ghost view = { λ c. record {
-      hashes = c.hashes.items;
-      room = min (spare c.latest) (min (vec_capacity c.hashes - vec_len c.hashes)
-          (vec_capacity c.earlier - vec_len c.earlier));
+      hashes = hashes_in (get nat_eq c.latest) c.earlier.items (keys c.latest);
+      room = min (spare c.latest) (vec_capacity c.earlier - vec_len c.earlier);
     } };
 
-    ghost invariant = { λ c. IsChained c.hashes.items (get nat_eq c.latest) c.earlier.items };
+    ghost invariant = { λ c. IsChained
+        (hashes_in (get nat_eq c.latest) c.earlier.items (keys c.latest))
+        (get nat_eq c.latest) c.earlier.items };
 }
 
 impl HashChains {
@@ -40,7 +39,6 @@ impl HashChains {
     {
         HashChains {
             latest: HashMap::new(alloc),
-            hashes: Vec::new(alloc),
             earlier: Vec::new(alloc),
         }
     }
@@ -68,7 +66,6 @@ impl HashChains {
         ensures enough { OnOk result (additional ≤ self.new.room) }
     {
         self.latest.reserve(additional)?;
-        self.hashes.reserve(additional)?;
         self.earlier.reserve(additional)
     }
 
@@ -81,7 +78,6 @@ impl HashChains {
     {
         let place = self.earlier.len() as u32;
         if let Ok(before) = self.latest.insert(hash, place) {
-            self.hashes.push_reserved(hash);
             self.earlier.push_reserved(before);
         }
     }
