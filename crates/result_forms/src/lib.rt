@@ -17,7 +17,7 @@ mod written;
 
 pub use batches::{BatchCreateTestExonerations, BatchCreateTestResults};
 pub use members::put_some;
-pub use replies::{exoneration_value, name_of_result, result_value};
+pub use replies::name_of_result;
 pub use shown::{
     bytes_value, flag_value, properties_value, reason_value, spelled_value, status_value,
     tags_value, text_value, variant_value,

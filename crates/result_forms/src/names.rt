@@ -3,7 +3,7 @@ ghost use Rattle.std.specs.Prelude.{◌≡◌};
 ghost use Rattle.result_forms.specs.Names.{invocation, request_id, requests, test_result, test_exoneration, test_id};
 ghost use Rattle.result_forms.specs.Names.{result_id, variant, expected, status, summary_html, start_time, duration};
 ghost use Rattle.result_forms.specs.Names.{tags, failure_reason, primary_error_message, properties, explanation_html};
-ghost use Rattle.result_forms.specs.Names.{name, variant_hash, exoneration_id};
+ghost use Rattle.result_forms.specs.Names.{name, variant_hash};
 
 use json_fields::Name;
 
@@ -125,10 +125,4 @@ pub fn variant_hash() -> Name
     ensures { result ≡ variant_hash }
 {
     Name::new("variantHash", "variant_hash")
-}
-
-pub fn exoneration_id() -> Name
-    ensures { result ≡ exoneration_id }
-{
-    Name::new("exonerationId", "exoneration_id")
 }

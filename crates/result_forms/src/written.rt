@@ -27,11 +27,7 @@ use std::alloc::{AllocError, Global};
 use test_results::{TestExoneration, TestResult};
 
 /// Puts what a result is.
-pub(crate) fn put_what(
-    alloc: Global,
-    map: &mut Map<String, Value>,
-    row: &TestResult,
-) -> Result<(), AllocError>
+fn put_what(alloc: Global, map: &mut Map<String, Value>, row: &TestResult) -> Result<(), AllocError>
     ensures { OnOk result (members_view map.new.entries
         ≡ put_all (what_members row.now) (members_view map.old.entries)) }
 {
@@ -51,11 +47,7 @@ pub(crate) fn put_what(
 }
 
 /// Puts what else is said of a result.
-pub(crate) fn put_more(
-    alloc: Global,
-    map: &mut Map<String, Value>,
-    row: &TestResult,
-) -> Result<(), AllocError>
+fn put_more(alloc: Global, map: &mut Map<String, Value>, row: &TestResult) -> Result<(), AllocError>
     ensures { OnOk result (members_view map.new.entries
         ≡ put_all (more_members row.now) (members_view map.old.entries)) }
 {
@@ -79,7 +71,7 @@ fn new_result_value(alloc: Global, row: &TestResult) -> Result<Value, AllocError
 }
 
 /// Puts what an exoneration is.
-pub(crate) fn put_exoneration(
+fn put_exoneration(
     alloc: Global,
     map: &mut Map<String, Value>,
     row: &TestExoneration,
