@@ -1,0 +1,6 @@
+pub use Rattle.workload_plans.specs as WorkloadPlans
+pub mod Stops
+pub mod Tallies
+pub mod Pages
+pub mod Courses
+pub mod Runs
