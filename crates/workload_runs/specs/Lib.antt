@@ -1,0 +1,4 @@
+pub use Rattle.workload_turns.specs as WorkloadTurns
+pub mod Policies
+pub mod Lines
+pub mod Endings
