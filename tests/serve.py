@@ -14,7 +14,8 @@ import threading
 import time
 
 import harness
-from harness import BEARER, FARM, RDB, SECONDS, Wrong, changing, expect, named, new, replies, request, route, same, told_by
+from harness import BEARER, FARM, RDB, SECONDS, Wrong
+from harness import changing, expect, named, new, replies, request, results, route, same, told_by
 
 TESTS = pathlib.Path(__file__).resolve().parent
 STOPS = 200  # of a service under load
@@ -71,15 +72,21 @@ class Service:
         return out, errors, self.program.returncode
 
 
-def read_reply(stream):
-    """One reply of a stream: its status, and what its text shows."""
+def read_bytes(stream):
+    """One reply of a stream: its head and its body."""
     head = b""
     while not head.endswith(b"\r\n\r\n"):
         line = stream.readline()
         if not line:
             raise Wrong(f"no whole reply: {head!r}")
         head += line
-    return told_by(int(head.split(b" ")[1]), stream.read(int(harness.LENGTH.search(head)[1])))
+    return head, stream.read(int(harness.LENGTH.search(head)[1]))
+
+
+def read_reply(stream):
+    """One reply of a stream: its status, and what its text shows."""
+    head, body = read_bytes(stream)
+    return told_by(int(head.split(b" ")[1]), body)
 
 
 def asked(link, *messages):
@@ -205,6 +212,47 @@ def many_connections(folder):
     same(counted(journal), 20)
 
 
+def received(link, message):
+    """The bytes of the reply to a message."""
+    link.sendall(message)
+    with link.makefile("rb") as stream:
+        return b"".join(read_bytes(stream))
+
+
+def one_thread_again(folder):
+    """Eight clients at once create invocations, some of which only one of them can, fill them, end half of them and read
+    them. One thread that replays the journal afterwards tells each of them the same for each request but the ends, byte
+    for byte: what was accepted is kept by its number, and what was refused is refused by the same history."""
+    journal, clients = journal_in(folder), 8
+    got = [[] for _ in range(clients)]
+
+    def numbered(name, number):
+        return request("CreateInvocation", new(name) | {"requestId": number})
+
+    def ask(client, service):
+        with service.connect() as link:
+            for n in range(10):
+                own = f"u-{client}-{n}"
+                asks = [numbered(own, f"c-{client}-{n}"), results(own, "r0", "r1", number=f"b-{client}-{n}")]
+                asks += [changing(own, "FinalizeInvocation", named(own))] * (n % 2)
+                asks += [request("GetInvocation", named(own)), numbered(f"u-shared-{n}", f"s-{client}-{n}")]
+                got[client] += [(message, received(link, message)) for message in asks]
+
+    with Service(journal, clients, 1) as service:
+        threads = [threading.Thread(target=ask, args=(client, service)) for client in range(clients)]
+        for thread in threads:
+            thread.start()
+        for thread in threads:
+            thread.join(SECONDS)
+        same(service.ended(), (line(clients, clients * 45), b"", 0))
+    repeated = [pair for pairs in got for pair in pairs if b"FinalizeInvocation" not in pair[0]]
+    out, *end = harness.run(b"".join(message for message, _ in repeated), folder, journal=journal)
+    same(end, [b"", 0])
+    told = [head + b"\r\n\r\n" + body for head, body in replies(out)]
+    same(told, [reply for _, reply in repeated])
+    same([sum(reply.startswith(b"HTTP/1.1 %d" % status) for reply in told) for status in (200, 409)], [250, 70])
+
+
 class Load:
     """Clients that create invocations one after the other, until their links break; and what they were told."""
 
@@ -275,6 +323,7 @@ CHECKS = {
     "a client of Node": by_program("node", TESTS / "client.mjs"),
     "a client of Java": by_program("java", "-Dfile.encoding=UTF-8", TESTS / "Client.java"),
     "many connections": many_connections,
+    "one thread again": one_thread_again,
     "stops under load": stops_under_load,
     "refused": refused,
 }
