@@ -11,6 +11,7 @@ HELP = b"""answer --config PATH --journal PATH
 check --journal PATH
 serve --config PATH --journal PATH --listen ADDR --workers K [--connections N]
 sink --config PATH --server ADDR --invocation ID --format tap|junit [--prefix TEXT]
+workload --journal PATH --number N --count M
 --help
 --version
 """

@@ -21,6 +21,7 @@ import sink
 import stored_replies
 import streams
 import verdicts
+import workload
 
 AREAS = {
     "stored_replies": stored_replies,
@@ -34,6 +35,7 @@ AREAS = {
     "sink": sink,
     "package": package,
     "serve": serve,
+    "workload": workload,
 }
 
 

@@ -13,16 +13,18 @@ use Rattle.clap.specs.declared.error.kind.ErrorKind.TheVariants.{OutOfMemory}
 use Rattle.clap.specs.declared.parser.matches.ArgMatches.{ArgMatches}
 use Rattle.clap.proofs.WalkLemmas.{first_value-rows}
 use Rattle.program_words.specs.Options.{OptionRow, Given, spelled, AreOptions, value_of}
-use Rattle.program_words.specs.Grammar.{AreWordsOf, IsAnswer, IsCheck, IsServe, IsSink, Says, answer_options, check_options, serve_options, sink_options}
-use Rattle.program_words.specs.Serves.{AreServeValues, IsUpTo, most_connections, most_workers}
+use Rattle.program_words.specs.Grammar.{AreWordsOf, IsAnswer, IsCheck, IsServe, IsSink, IsWorkload, Says, answer_options, check_options, serve_options, sink_options, workload_options}
+use Rattle.program_words.specs.Serves.{AreServeValues, IsUpTo, IsWithin, most_connections, most_workers}
 use Rattle.program_words.specs.Sinks.{AreSinkValues, format_word}
+use Rattle.program_words.specs.Workloads.{AreWorkloadValues, most_invocations, most_number}
 use Rattle.program_words.specs.declared.serve_words.ServeWords.{ServeWords}
 use Rattle.program_words.specs.declared.sink_words.ReportFormat.{ReportFormat}
 use Rattle.program_words.specs.declared.sink_words.ReportFormat.TheVariants.{Tap, Junit}
 use Rattle.program_words.specs.declared.sink_words.SinkWords.{SinkWords}
+use Rattle.program_words.specs.declared.workload_words.WorkloadWords.{WorkloadWords}
 use Rattle.program_words.specs.Clap.{HasValues, IsPlain, are_names, made_app, is_stray}
 use Rattle.program_words.specs.declared.command.Command.{Command}
-use Rattle.program_words.specs.declared.command.Command.TheVariants.{Answer, Check, Serve, Sink, Help, Version}
+use Rattle.program_words.specs.declared.command.Command.TheVariants.{Answer, Check, Serve, Sink, Workload, Help, Version}
 use Rattle.program_words.proofs.Machine.{rest, after}
 use Rattle.program_words.proofs.ClapRows.{value_made}
 use Rattle.program_words.proofs.Walks.{all_there, taken_reading, read_taken}
@@ -95,6 +97,9 @@ serve_plain = record { word = refl; names = refl; simple = refl; free = refl }
 pub sink_plain : IsPlain (codes "sink") sink_options
 sink_plain = record { word = refl; names = refl; simple = refl; free = refl }
 
+pub workload_plain : IsPlain (codes "workload") workload_options
+workload_plain = record { word = refl; names = refl; simple = refl; free = refl }
+
 -- values that are the same say the same
 pub serve_through : (f g : Text → Option Text) (s : ServeWords) → ((n : Text) → f n ≡ g n) → AreServeValues f s → AreServeValues g s
 serve_through f g s same v = record {
@@ -115,6 +120,15 @@ values_through f g s same v = record {
   is_id = v.is_id;
   format_is = sym (same (codes "format")) ∙ v.format_is;
   prefix_is = ap (λ (o : Option Text). unwrap_or o []) (sym (same (codes "prefix"))) ∙ v.prefix_is;
+}
+
+pub workload_through : (f g : Text → Option Text) (s : WorkloadWords) → ((n : Text) → f n ≡ g n) → AreWorkloadValues f s → AreWorkloadValues g s
+workload_through f g s same v = record {
+  journal_is = sym (same (codes "journal")) ∙ v.journal_is;
+  number_is = sym (same (codes "number")) ∙ v.number_is;
+  number_fits = v.number_fits;
+  count_is = sym (same (codes "count")) ∙ v.count_is;
+  some_count = v.some_count;
 }
 
 both_false : (a b : Bool) → (a || b) ≡ false → b ≡ false
@@ -189,8 +203,8 @@ same_values f s t p q =
     let prefix : s.prefix ≡ t.prefix = sym p.prefix_is ∙ q.prefix_is in
     λ i. record { config = config i; server = server i; invocation = invocation i; format = format i; prefix = prefix i }
 
-same_number : (most m n : ℕ) → most < 2 ^ 64 → IsUpTo most m → IsUpTo most n → decimal m ≡ decimal n → m ≡ n
-same_number most m n few p q same = decimal_injective m n (omega (arith, few, p.1)) (omega (arith, few, q.1)) same
+same_number : (least most m n : ℕ) → most < 2 ^ 64 → IsWithin least most m → IsWithin least most n → decimal m ≡ decimal n → m ≡ n
+same_number least most m n few p q same = decimal_injective m n (omega (arith, few, p.1)) (omega (arith, few, q.1)) same
 
 same_option : (most : ℕ) (m n : Option ℕ) → most < 2 ^ 64 → ForSome m (IsUpTo most) → ForSome n (IsUpTo most)
     → option_map decimal m ≡ option_map decimal n → m ≡ n
@@ -198,7 +212,7 @@ same_option most None None few p q same = refl
 same_option most None (Some n) few p q same = cc
 same_option most (Some m) None few p q same = cc
 same_option most (Some m) (Some n) few p q same =
-    ap Some (same_number most m n few (p m refl) (q n refl) (same_Some (decimal m) (decimal n) same))
+    ap Some (same_number 1 most m n few (p m refl) (q n refl) (same_Some (decimal m) (decimal n) same))
 
 same_serve_values : (f : Text → Option Text) (s t : ServeWords) → AreServeValues f s → AreServeValues f t → s ≡ t
 same_serve_values f s t p q =
@@ -206,7 +220,7 @@ same_serve_values f s t p q =
     let journal : s.journal ≡ t.journal = same_Some s.journal t.journal (sym p.journal_is ∙ q.journal_is) in
     let listen : s.listen ≡ t.listen = same_Some s.listen t.listen (sym p.listen_is ∙ q.listen_is) in
     let workers : s.workers ≡ t.workers =
-    same_number most_workers s.workers t.workers (omega arith) p.some_workers q.some_workers
+    same_number 1 most_workers s.workers t.workers (omega arith) p.some_workers q.some_workers
     (same_Some (decimal s.workers) (decimal t.workers) (sym p.workers_are ∙ q.workers_are)) in
     let connections : s.connections ≡ t.connections =
     same_option most_connections s.connections t.connections (omega arith) p.some_connections q.some_connections
@@ -225,12 +239,30 @@ same_sink words s t p q =
     ap Sink (same_values (λ n. value_of n q.givens) s t
     (values_through (λ n. value_of n p.givens) (λ n. value_of n q.givens) s (λ n. ap (value_of n) givens) p.values_are) q.values_are)
 
+same_workload_values : (f : Text → Option Text) (s t : WorkloadWords) → AreWorkloadValues f s → AreWorkloadValues f t → s ≡ t
+same_workload_values f s t p q =
+    let journal : s.journal ≡ t.journal = same_Some s.journal t.journal (sym p.journal_is ∙ q.journal_is) in
+    let number : s.number ≡ t.number =
+    same_number 0 most_number s.number t.number (omega arith) p.number_fits q.number_fits
+    (same_Some (decimal s.number) (decimal t.number) (sym p.number_is ∙ q.number_is)) in
+    let count : s.count ≡ t.count =
+    same_number 1 most_invocations s.count t.count (omega arith) p.some_count q.some_count
+    (same_Some (decimal s.count) (decimal t.count) (sym p.count_is ∙ q.count_is)) in
+    λ i. record { journal = journal i; number = number i; count = count i }
+
+same_workload : (words : List Text) (s t : WorkloadWords) → IsWorkload words s → IsWorkload words t → Workload s ≡ Workload t
+same_workload words s t p q =
+    let givens = same_words (codes "workload") workload_options words p.givens q.givens workload_plain p.words_are q.words_are in
+    ap Workload (same_workload_values (λ n. value_of n q.givens) s t
+    (workload_through (λ n. value_of n p.givens) (λ n. value_of n q.givens) s (λ n. ap (value_of n) givens) p.values_are) q.values_are)
+
 -- the first word of a command
 abbrev first_word_of : Command → Text
 first_word_of (Answer c j) = codes "answer"
 first_word_of (Check j) = codes "check"
 first_word_of (Serve s) = codes "serve"
 first_word_of (Sink s) = codes "sink"
+first_word_of (Workload w) = codes "workload"
 first_word_of Help = codes "--help"
 first_word_of Version = codes "--version"
 
@@ -239,6 +271,7 @@ begins words (Answer c j) p = (p.words_are.rest, p.words_are.command)
 begins words (Check j) p = (p.words_are.rest, p.words_are.command)
 begins words (Serve s) p = (p.words_are.rest, p.words_are.command)
 begins words (Sink s) p = (p.words_are.rest, p.words_are.command)
+begins words (Workload w) p = (p.words_are.rest, p.words_are.command)
 begins words Help p = ([], p)
 begins words Version p = ([], p)
 
@@ -257,6 +290,7 @@ SameKind (Answer c j) (Answer d k) = Unit {0}
 SameKind (Check j) (Check k) = Unit {0}
 SameKind (Serve s) (Serve t) = Unit {0}
 SameKind (Sink s) (Sink t) = Unit {0}
+SameKind (Workload s) (Workload t) = Unit {0}
 SameKind Help Help = Unit {0}
 SameKind Version Version = Unit {0}
 SameKind a b = ⊥
@@ -268,7 +302,8 @@ number_of_word w =
     else (if bytes_eq w (codes "check") then 1
     else (if bytes_eq w (codes "serve") then 2
     else (if bytes_eq w (codes "sink") then 3
-    else (if bytes_eq w (codes "--help") then 4 else 5))))
+    else (if bytes_eq w (codes "--help") then 4
+    else (if bytes_eq w (codes "--version") then 5 else 6)))))
 
 abbrev number_of : Command → ℕ
 number_of (Answer c j) = 0
@@ -277,6 +312,7 @@ number_of (Serve s) = 2
 number_of (Sink s) = 3
 number_of Help = 4
 number_of Version = 5
+number_of (Workload w) = 6
 
 numbered : (a : Command) → number_of_word (first_word_of a) ≡ number_of a
 unfolding number_of_word
@@ -286,6 +322,7 @@ numbered (Serve s) = refl
 numbered (Sink s) = refl
 numbered Help = refl
 numbered Version = refl
+numbered (Workload w) = refl
 
 kind_is : (a b : Command) → number_of a ≡ number_of b → SameKind a b
 kind_is (Answer c j) (Answer d k) e = tt
@@ -294,6 +331,7 @@ kind_is (Serve s) (Serve t) e = tt
 kind_is (Sink s) (Sink t) e = tt
 kind_is Help Help e = tt
 kind_is Version Version e = tt
+kind_is (Workload s) (Workload t) e = tt
 kind_is a b e = cc
 
 same_kind : (a b : Command) → first_word_of a ≡ first_word_of b → SameKind a b
@@ -306,4 +344,5 @@ one_command words (Serve s) (Serve t) p q = same_serve words s t p q
 one_command words (Sink s) (Sink t) p q = same_sink words s t p q
 one_command words Help Help p q = refl
 one_command words Version Version p q = refl
+one_command words (Workload s) (Workload t) p q = same_workload words s t p q
 one_command words a b p q = absurd (same_kind a b (same_first words a b p q))

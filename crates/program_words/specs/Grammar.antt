@@ -3,10 +3,12 @@ use Rattle.std.specs.Prelude.{◌≡◌, ℕ, true, false, List, [], ◌∷◌, 
 use Rattle.program_words.specs.Options.{OptionRow, Given, AreOptions, value_of}
 use Rattle.program_words.specs.Serves.{AreServeValues}
 use Rattle.program_words.specs.Sinks.{AreSinkValues}
+use Rattle.program_words.specs.Workloads.{AreWorkloadValues}
 use Rattle.program_words.specs.declared.command.Command.{Command}
-use Rattle.program_words.specs.declared.command.Command.TheVariants.{Answer, Check, Serve, Sink, Help, Version}
+use Rattle.program_words.specs.declared.command.Command.TheVariants.{Answer, Check, Serve, Sink, Workload, Help, Version}
 use Rattle.program_words.specs.declared.serve_words.ServeWords.{ServeWords}
 use Rattle.program_words.specs.declared.sink_words.SinkWords.{SinkWords}
+use Rattle.program_words.specs.declared.workload_words.WorkloadWords.{WorkloadWords}
 
 -- a required path
 abbrev pub path_option : List ℕ → OptionRow
@@ -37,6 +39,13 @@ sink_options =
     ∷ record { name = codes "invocation"; shown = codes "ID"; is_required = true }
     ∷ record { name = codes "format"; shown = codes "tap|junit"; is_required = true }
     ∷ record { name = codes "prefix"; shown = codes "TEXT"; is_required = false } ∷ []
+
+-- the options of `workload`
+abbrev pub workload_options : List OptionRow
+workload_options =
+    path_option (codes "journal")
+    ∷ record { name = codes "number"; shown = codes "N"; is_required = true }
+    ∷ record { name = codes "count"; shown = codes "M"; is_required = true } ∷ []
 
 -- The words are a command's name, and behind it these options of its table.
 pub record AreWordsOf (name : List ℕ) (table : List OptionRow) (words : List (List ℕ))
@@ -70,11 +79,18 @@ pub record IsSink (words : List (List ℕ)) (sink : SinkWords) : Type 0 where
   pub words_are : AreWordsOf (codes "sink") sink_options words givens
   pub values_are : AreSinkValues (λ name. value_of name givens) sink
 
+-- `workload` with these values
+pub record IsWorkload (words : List (List ℕ)) (load : WorkloadWords) : Type 0 where
+  pub givens : List Given
+  pub words_are : AreWordsOf (codes "workload") workload_options words givens
+  pub values_are : AreWorkloadValues (λ name. value_of name givens) load
+
 -- What the words say. Every other list of words is outside the grammar.
 abbrev pub Says : List (List ℕ) → Command → Type 0
 Says words (Answer config journal) = IsAnswer words config journal
 Says words (Check journal) = IsCheck words journal
 Says words (Serve serve) = IsServe words serve
 Says words (Sink sink) = IsSink words sink
+Says words (Workload load) = IsWorkload words load
 Says words Help = words ≡ codes "--help" ∷ []
 Says words Version = words ≡ codes "--version" ∷ []

@@ -1,7 +1,7 @@
 -- The places that a command names.
 use Rattle.std.specs.Prelude.{[], None}
 use Rattle.program_words.specs.declared.command.Command.{Command}
-use Rattle.program_words.specs.declared.command.Command.TheVariants.{Answer, Check, Serve, Sink, Help, Version}
+use Rattle.program_words.specs.declared.command.Command.TheVariants.{Answer, Check, Serve, Sink, Workload, Help, Version}
 use Rattle.program_words.specs.declared.command.Places.{Places}
 
 abbrev pub no_places : Places
@@ -20,5 +20,6 @@ places_of (Serve serve) = record {
   connections = serve.connections;
 }
 places_of (Sink sink) = record no_places { config = sink.config; server = sink.server }
+places_of (Workload load) = record no_places { journal = load.journal }
 places_of Help = no_places
 places_of Version = no_places

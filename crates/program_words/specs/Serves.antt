@@ -9,9 +9,13 @@ most_workers = 64
 abbrev pub most_connections : ℕ
 most_connections = 1000000
 
+-- no less than the least, and no more than the most
+abbrev pub IsWithin : ℕ → ℕ → ℕ → Type 0
+IsWithin least most n = (least ≤ n) × (n ≤ most)
+
 -- at least one, and no more than the most
 abbrev pub IsUpTo : ℕ → ℕ → Type 0
-IsUpTo most n = (1 ≤ n) × (n ≤ most)
+IsUpTo most n = IsWithin 1 most n
 
 -- The values that the options have are these. A number is written as decimal digits, without a sign
 -- or a leading zero; that of the connections may be left out.

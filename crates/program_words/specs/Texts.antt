@@ -1,7 +1,7 @@
 -- The texts that tell of the program.
 use Rattle.std.specs.Prelude.{ℕ, List, [], ◌∷◌, ◌++◌, codes, flat_map, if◌then◌else◌}
 use Rattle.program_words.specs.Options.{OptionRow}
-use Rattle.program_words.specs.Grammar.{answer_options, check_options, serve_options, sink_options}
+use Rattle.program_words.specs.Grammar.{answer_options, check_options, serve_options, sink_options, workload_options}
 
 -- a line, with its line feed
 abbrev pub line : List ℕ → List ℕ
@@ -24,6 +24,7 @@ help_text =
     ++ line (shown_command (codes "check") check_options)
     ++ line (shown_command (codes "serve") serve_options)
     ++ line (shown_command (codes "sink") sink_options)
+    ++ line (shown_command (codes "workload") workload_options)
     ++ line (codes "--help") ++ line (codes "--version")
 
 abbrev pub version_text : List ℕ

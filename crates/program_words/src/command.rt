@@ -2,6 +2,7 @@
 
 use crate::serve_words::ServeWords;
 use crate::sink_words::SinkWords;
+use crate::workload_words::WorkloadWords;
 use lists::Bytes;
 
 /// What the program is to do.
@@ -15,6 +16,8 @@ pub enum Command {
     Serve(ServeWords),
     /// Uploads a report.
     Sink(SinkWords),
+    /// Runs a workload.
+    Workload(WorkloadWords),
     /// Tells the commands and their words.
     Help,
     /// Tells the version.

@@ -8,6 +8,7 @@ mod serve_words;
 mod sink_words;
 mod texts;
 mod values;
+mod workload_words;
 
 pub use command::{Command, Places, WordFault};
 pub use named_places::places;
@@ -15,3 +16,4 @@ pub use reading::{read_words, words_say_one_command};
 pub use serve_words::ServeWords;
 pub use sink_words::{Prefix, ReportFormat, SinkWords};
 pub use texts::{help_text, version_text};
+pub use workload_words::WorkloadWords;

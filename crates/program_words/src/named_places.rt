@@ -7,6 +7,7 @@ use crate::command::{Command, Places, WordFault};
 use crate::reading::read_words;
 use crate::serve_words::ServeWords;
 use crate::sink_words::SinkWords;
+use crate::workload_words::WorkloadWords;
 use lists::Bytes;
 use std::alloc::Global;
 
@@ -56,6 +57,17 @@ fn of_serve(alloc: Global, words: ServeWords) -> Places
     }
 }
 
+fn of_workload(alloc: Global, words: WorkloadWords) -> Places
+    ensures { result ≡ places_of (Command.Workload words) }
+{
+    let WorkloadWords {
+        journal,
+        number: _,
+        count: _,
+    } = words;
+    of_paths(alloc, nothing(alloc), journal)
+}
+
 fn of_paths(alloc: Global, config: Bytes, journal: Bytes) -> Places
     ensures { result ≡ places_of (Command.Answer config journal) }
 {
@@ -82,6 +94,7 @@ pub fn places(alloc: Global, words: &[String]) -> Result<Places, WordFault>
         Command::Check { journal } => Ok(of_paths(alloc, nothing(alloc), journal)),
         Command::Serve(words) => Ok(of_serve(alloc, words)),
         Command::Sink(words) => Ok(of_sink(alloc, words)),
+        Command::Workload(words) => Ok(of_workload(alloc, words)),
         Command::Help | Command::Version => Ok(of_paths(alloc, nothing(alloc), nothing(alloc))),
     }
 }

@@ -4,14 +4,16 @@ ghost use Rattle.std.specs.Prelude.{map, string_bytes, true, false};
 ghost use Rattle.std.specs.List.{list_any};
 ghost use Rattle.clap.specs.Words.{app_of, new_app, rule_of, kind_of, with_rule};
 ghost use Rattle.program_words.specs.Options.{Given, OptionRow};
-ghost use Rattle.program_words.specs.Grammar.{AreWordsOf, IsAnswer, IsCheck, IsServe, IsSink, Says};
+ghost use Rattle.program_words.specs.Grammar.{AreWordsOf, IsAnswer, IsCheck, IsServe, IsSink, IsWorkload, Says};
 ghost use Rattle.program_words.specs.Grammar.{answer_options, check_options, serve_options, sink_options};
+ghost use Rattle.program_words.specs.Grammar.{workload_options};
 ghost use Rattle.program_words.specs.Clap.{HasValues, IsPlain};
 ghost use Rattle.program_words.specs.Clap.{made_app, made_rule, with_options, is_named, is_stray};
 
 use crate::command::{Command, WordFault};
 use crate::serve_words::{ServeWords, serve_of};
 use crate::sink_words::{SinkWords, sink_of};
+use crate::workload_words::{WorkloadWords, workload_of};
 use clap::builder::ValueParser;
 use clap::error::ErrorKind;
 use clap::{Arg, ArgAction, ArgMatches, Error};
@@ -107,6 +109,27 @@ fn sink_command<'a>(alloc: Global) -> Result<clap::Command<'a>, Error>
     ensures err { IfErr result (λ e. kind_of e ≡ ErrorKind.OutOfMemory) }
 {
     let command = with_sink_options(alloc)?;
+    Ok(command.disable_help_flag(true))
+}
+
+/// The command `workload`, with its options.
+fn with_workload_options<'a>(alloc: Global) -> Result<clap::Command<'a>, AllocError>
+    ensures { IfOk result
+        (λ c. app_of c ≡ with_options (new_app (codes "workload")) workload_options) }
+{
+    let command = clap::Command::new(alloc, "workload");
+    let command = with_option(alloc, command, "journal", true)?;
+    let command = with_option(alloc, command, "number", true)?;
+    with_option(alloc, command, "count", true)
+}
+
+/// The command `workload`.
+fn workload_command<'a>(alloc: Global) -> Result<clap::Command<'a>, Error>
+    ensures app { IfOk result
+        (λ c. app_of c ≡ made_app (codes "workload") workload_options) }
+    ensures err { IfErr result (λ e. kind_of e ≡ ErrorKind.OutOfMemory) }
+{
+    let command = with_workload_options(alloc)?;
     Ok(command.disable_help_flag(true))
 }
 
@@ -262,14 +285,31 @@ fn read_sink(alloc: Global, words: &[String]) -> Result<Command, WordFault>
     }
 }
 
+/// The words of `workload`, of which the first is the command's.
+fn read_workload(alloc: Global, words: &[String]) -> Result<Command, WordFault>
+    requires { (rest : List (List ℕ)) × (map string_bytes words.now ≡ codes "workload" ∷ rest) }
+    ensures ok { IfOk result (Says (map string_bytes words.now)) }
+    ensures refused { result ≡ Err WordFault.Refused
+        → (load : WorkloadWords) → ¬ IsWorkload (map string_bytes words.now) load }
+{
+    let Ok(command) = workload_command(alloc) else {
+        return Err(WordFault::Memory);
+    };
+    let found = read_options(command, words)?;
+    match workload_of(alloc, &found) {
+        Ok(load) => Ok(Command::Workload(load)),
+        Err(fault) => Err(fault),
+    }
+}
+
 /// What the words say, which are those behind the program's name.
 ///
 /// The first word is the command. Behind it each option stands exactly once, in any order, as
 /// `--x v` or `--x=v`; `--prefix` and `--connections` may be left out. A value isn't empty, and one
 /// that begins with `-` stands behind `=`. That of `--invocation` is the id of one, and that of
-/// `--format` is `tap` or `junit`; those of `--workers` and `--connections` are decimal digits
-/// without a sign or a leading zero, 1 to 64 and 1 to 1,000,000. All else is `Refused`, and
-/// `Memory` comes for want of memory alone.
+/// `--format` is `tap` or `junit`; those of `--workers`, `--connections`, `--number` and `--count`
+/// are decimal digits without a sign or a leading zero: 1 to 64, 1 to 1,000,000, any of 64 bits,
+/// and 1 to 2,000. All else is `Refused`, and `Memory` comes for want of memory alone.
 pub fn read_words(alloc: Global, words: &[String]) -> Result<Command, WordFault>
     ensures said { IfOk result (Says (map string_bytes words.now)) }
     ensures refused { result ≡ Err WordFault.Refused
@@ -280,6 +320,7 @@ pub fn read_words(alloc: Global, words: &[String]) -> Result<Command, WordFault>
         [command, ..] if command.as_str() == "check" => read_check(alloc, words),
         [command, ..] if command.as_str() == "serve" => read_serve(alloc, words),
         [command, ..] if command.as_str() == "sink" => read_sink(alloc, words),
+        [command, ..] if command.as_str() == "workload" => read_workload(alloc, words),
         [word] if word.as_str() == "--help" => Ok(Command::Help),
         [word] if word.as_str() == "--version" => Ok(Command::Version),
         _ => Err(WordFault::Refused),

@@ -36,7 +36,7 @@ fn named_workers(found: &ArgMatches<'_>) -> Result<u32, WordFault>
     ensures refused { result ≡ Err WordFault.Refused → (n : ℕ) → IsUpTo most_workers n
         → first_value (found_of found.now) (codes "workers") ≢ Some (decimal n) }
 {
-    match named_number(found, "workers", MOST_WORKERS)? {
+    match named_number(found, "workers", 1, MOST_WORKERS)? {
         Some(number) => Ok(number as u32),
         None => Err(WordFault::Memory),
     }
@@ -52,7 +52,7 @@ pub(crate) fn serve_of(alloc: Global, found: &ArgMatches<'_>) -> Result<ServeWor
     let journal = named_text(alloc, found, "journal")?;
     let listen = named_text(alloc, found, "listen")?;
     let workers = named_workers(found)?;
-    let connections = named_number(found, "connections", MOST_CONNECTIONS)?;
+    let connections = named_number(found, "connections", 1, MOST_CONNECTIONS)?;
     Ok(ServeWords {
         config,
         journal,

@@ -6,7 +6,7 @@ ghost use Rattle.program_words.specs.Texts as specs;
 pub fn help_text() -> &'static str
     ensures { result.now ≡ specs.help_text }
 {
-    "answer --config PATH --journal PATH\ncheck --journal PATH\nserve --config PATH --journal PATH --listen ADDR --workers K [--connections N]\nsink --config PATH --server ADDR --invocation ID --format tap|junit [--prefix TEXT]\n--help\n--version\n"
+    "answer --config PATH --journal PATH\ncheck --journal PATH\nserve --config PATH --journal PATH --listen ADDR --workers K [--connections N]\nsink --config PATH --server ADDR --invocation ID --format tap|junit [--prefix TEXT]\nworkload --journal PATH --number N --count M\n--help\n--version\n"
 }
 
 /// The program's name and version, in one line.

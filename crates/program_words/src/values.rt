@@ -3,7 +3,7 @@ ghost use Rattle.std.specs.Prelude.{◌≡◌, ◌≢◌, ◌↔◌, ℕ, Option
 ghost use Rattle.std.specs.Prelude.{option_map};
 ghost use Rattle.std.specs.Option.{ForSome};
 ghost use Rattle.clap.specs.Words.{first_value, found_of};
-ghost use Rattle.program_words.specs.Serves.{IsUpTo};
+ghost use Rattle.program_words.specs.Serves.{IsWithin};
 
 use crate::command::WordFault;
 use clap::ArgMatches;
@@ -43,33 +43,34 @@ fn is_written(text: &str, number: u64) -> bool
     Buffer::new().format(number) == text
 }
 
-/// The number that a text is, from 1 to the most.
-fn number_of(text: &str, most: u64) -> Option<u64>
-    ensures some { IfSome result (λ n. (text.now ≡ decimal n) × IsUpTo most n) }
-    ensures none { IfNone result ((n : ℕ) → IsUpTo most n → text.now ≢ decimal n) }
+/// The number that a text is, from the least to the most.
+fn number_of(text: &str, least: u64, most: u64) -> Option<u64>
+    ensures some { IfSome result (λ n. (text.now ≡ decimal n) × IsWithin least most n) }
+    ensures none { IfNone result ((n : ℕ) → IsWithin least most n → text.now ≢ decimal n) }
 {
     let Ok(number) = text.parse::<u64>() else {
         return None;
     };
-    if number == 0 || number > most || !is_written(text, number) {
+    if number < least || number > most || !is_written(text, number) {
         return None;
     }
     Some(number)
 }
 
-/// The number that an option has, from 1 to the most, where it has a value.
+/// The number that an option has, from the least to the most, where it has a value.
 pub(crate) fn named_number(
     found: &ArgMatches<'_>,
     name: &str,
+    least: u64,
     most: u64,
 ) -> Result<Option<u64>, WordFault>
     ensures ok { IfOk result (λ r. (first_value (found_of found.now) name.now
-        ≡ option_map decimal r) × ForSome r (IsUpTo most)) }
-    ensures refused { IfErr result (λ _. (r : Option ℕ) → ForSome r (IsUpTo most)
+        ≡ option_map decimal r) × ForSome r (IsWithin least most)) }
+    ensures refused { IfErr result (λ _. (r : Option ℕ) → ForSome r (IsWithin least most)
         → first_value (found_of found.now) name.now ≢ option_map decimal r) }
 {
     match found.get_str(name) {
-        Some(text) => match number_of(text, most) {
+        Some(text) => match number_of(text, least, most) {
             Some(number) => Ok(Some(number)),
             None => Err(WordFault::Refused),
         },

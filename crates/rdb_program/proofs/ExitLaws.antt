@@ -27,9 +27,9 @@ use Rattle.rdb_program.specs.Causes.{opening_row}
 use Rattle.rdb_program.specs.Configured.{Accepts}
 use Rattle.rdb_program.specs.Run.{DoesHere, IsNoService, IsReported, IsRun, Outside, ReachesDisk, RefusesDisk, ServesService, StopsService, Telling, Work, line_of, premises, refusal_line, sending, status_of}
 use Rattle.rdb_program.specs.Statuses.{ConfigSays, HasFailed, IsJournalRefused, IsServiceStatus, ServiceSays}
-use Rattle.rdb_program.specs.Words.{AskForText, IsAnswerWords, IsCheckWords, IsServeWords, SayNothing}
+use Rattle.rdb_program.specs.Words.{AskForText, IsAnswerWords, IsCheckWords, IsServeWords, IsWorkloadWords, SayNothing}
 use Rattle.rdb_program.specs.declared.ending.Ending.{Ending}
-use Rattle.rdb_program.specs.declared.ending.Ending.TheVariants.{WordsRefused, Shown, ConfigFault, ConfigRefused, Unstarted, Unopened, Counted, Served, DoorsServed, Uploaded}
+use Rattle.rdb_program.specs.declared.ending.Ending.TheVariants.{WordsRefused, Shown, ConfigFault, ConfigRefused, Unstarted, Unopened, Counted, Served, DoorsServed, Loaded, Uploaded}
 use Rattle.rdb_program.proofs.ConfigLaws.{accepted_told, refused_told}
 use Rattle.rdb_program.proofs.RunLaws.{config_failed, config_left, config_refused, config_served, opening_else, opening_range, opening_rose}
 
@@ -48,6 +48,9 @@ by_answer words status before after are = commanded (commands.Answer are.0 are.1
 by_check : (words : List (List ℕ)) (status : ℕ) (before after : Work) → IsCheckWords words → Other words status before after
 by_check words status before after are = commanded (commands.Check are.0) are.1 (λ s e. cc) (λ s e. cc)
 
+by_load : (words : List (List ℕ)) (status : ℕ) (before after : Work) → IsWorkloadWords words → Other words status before after
+by_load words status before after are = commanded (commands.Workload are.0) are.1 (λ s e. cc) (λ s e. cc)
+
 by_text : (words : List (List ℕ)) (status : ℕ) (before after : Work) (text : List ℕ) → AskForText words text → Other words status before after
 by_text words status before after text (inl help) = commanded commands.Help help.0 (λ s e. cc) (λ s e. cc)
 by_text words status before after text (inr version) = commanded commands.Version version.0 (λ s e. cc) (λ s e. cc)
@@ -64,9 +67,13 @@ other_run (Unopened fault) words before after tb ta run = by_reach run.reaches
   where
     by_reach : ReachesDisk words before.config after.config → Other words (opening_row fault).status before after
     by_reach (inl answer) = by_answer words (opening_row fault).status before after answer.0
-    by_reach (inr check) = by_check words (opening_row fault).status before after check.0
+    by_reach (inr here) = elim here.0 [
+      | inl check ↦ by_check words (opening_row fault).status before after check
+      | inr load ↦ by_load words (opening_row fault).status before after load
+    ]
 other_run (Counted result) words before after tb ta run = by_check words (status_of (Counted result)) before after run.words_are
 other_run (Served ended) words before after tb ta run = by_answer words (status_of (Served ended)) before after run.words_are
+other_run (Loaded ending) words before after tb ta run = by_load words (status_of (Loaded ending)) before after (run.asked, run.words_are)
 other_run (DoorsServed ending) words before after tb ta run = absurd run
 other_run (Uploaded ending) words before after tb ta run = absurd run
 
@@ -246,6 +253,7 @@ service_stopped telling WordsRefused words before after tb ta doors now stop sam
 service_stopped telling (Shown result) words before after tb ta doors now stop same line = absurd (neither stop.why)
 service_stopped telling (Counted result) words before after tb ta doors now stop same line = absurd (neither stop.why)
 service_stopped telling (Served ended) words before after tb ta doors now stop same line = absurd (neither stop.why)
+service_stopped telling (Loaded ending) words before after tb ta doors now stop same line = absurd (neither stop.why)
 service_stopped telling (DoorsServed ending) words before after tb ta doors now stop same line = absurd (neither stop.why)
 service_stopped telling (Uploaded ending) words before after tb ta doors now stop same line = absurd (neither stop.why)
 
@@ -341,4 +349,5 @@ service_here telling Unstarted words before after tb ta doors now here are line 
 service_here telling (Unopened fault) words before after tb ta doors now here are line = begun_service telling (Unopened fault) words before after tb ta doors now here.0 here.1 are line
 service_here telling (Counted result) words before after tb ta doors now here are line = begun_service telling (Counted result) words before after tb ta doors now here.0 here.1 are line
 service_here telling (Served ended) words before after tb ta doors now here are line = begun_service telling (Served ended) words before after tb ta doors now here.0 here.1 are line
+service_here telling (Loaded ending) words before after tb ta doors now here are line = begun_service telling (Loaded ending) words before after tb ta doors now here.0 here.1 are line
 service_here telling (Uploaded ending) words before after tb ta doors now here are line = begun_service telling (Uploaded ending) words before after tb ta doors now here.0 here.1 are line

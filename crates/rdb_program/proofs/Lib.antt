@@ -1,6 +1,8 @@
 pub mod LineLaws
 pub mod CauseLaws
 pub mod ConfigLaws
+pub mod BookLaws
+pub mod LoadLaws
 pub mod RunLaws
 pub mod UploadLaws
 pub mod ServiceLaws

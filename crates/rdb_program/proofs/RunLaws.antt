@@ -41,15 +41,27 @@ use Rattle.journal_book.proofs.StepLaws.{settled_reads}
 use Rattle.rdb_program.specs.Counted.{counts_text, world_text}
 use Rattle.rdb_program.specs.Lines.{fixed_line}
 use Rattle.rdb_program.specs.Opening.{OpensBook}
-use Rattle.rdb_program.specs.Words.{SayNothing, IsAnswerWords, IsCheckWords, AskForText}
+use Rattle.rdb_program.specs.Words.{SayNothing, IsAnswerWords, IsCheckWords, IsWorkloadWords, AskForText}
 use Rattle.rdb_program.specs.Configured.{Accepts, Leaves}
-use Rattle.rdb_program.specs.Run.{CountsJournal, DiskEnd, Work, Outside, disk_end, IsReported, status_of, line_of, refusal_line, IsHistory, IsUnopened, ReachesDisk, Shows, ShowsText, StopsAtDisk, IsRun}
+use Rattle.program_words.specs.declared.workload_words.WorkloadWords.{WorkloadWords}
+use Rattle.workload_runs.specs.Endings.{load_status}
+use Rattle.workload_runs.specs.Lines.{load_text}
+use Rattle.workload_runs.specs.WorkloadTurns.declared.stops.Stop.{Stop}
+use Rattle.workload_runs.specs.WorkloadTurns.declared.stops.Stop.TheVariants as stops
+use Rattle.workload_runs.specs.WorkloadTurns.declared.tally.Tally.{Tally}
+use Rattle.workload_runs.specs.declared.ending.LoadEnding.{LoadEnding}
+use Rattle.workload_runs.specs.declared.ending.LoadEnding.TheVariants as loads
+use Rattle.workload_runs.specs.declared.line.Load.{Load}
+use Rattle.rdb_program.specs.Loads.{ComesBy, ComesTo}
+use Rattle.rdb_program.specs.Run.{CountsJournal, DiskEnd, LoadsJournal, RunsLoad, TellsLoad, Work, Outside, disk_end, IsReported, status_of, line_of, refusal_line, IsHistory, IsUnopened, ReachesDisk, Shows, ShowsText, StopsAtDisk, IsRun}
 use Rattle.rdb_program.specs.Statuses.{IsJournalRefused, IsShown, IsWorkDone, HasFailed, HasStalled, ConfigSays, StatusSays}
 use Rattle.http_workers.specs.declared.ended.Cause.{Cause}
 use Rattle.rdb_program.specs.declared.ending.Ending.{Ending}
-use Rattle.rdb_program.specs.declared.ending.Ending.TheVariants.{WordsRefused, Shown, ConfigFault, ConfigRefused, Unstarted, Unopened, Counted, Served, DoorsServed, Uploaded}
+use Rattle.rdb_program.specs.declared.ending.Ending.TheVariants.{WordsRefused, Shown, ConfigFault, ConfigRefused, Unstarted, Unopened, Counted, Served, DoorsServed, Loaded, Uploaded}
 use Rattle.rdb_program.proofs.CauseLaws.{status_at, not_one, not_two, not_three, faults_of, stalls_of, no_fault, no_stall, done_at, broken_at, failed_at, stalled_at, no_read_fault_at, not_fault_at, not_stall_at, ends_at, fault_there, stall_there}
+use Rattle.rdb_program.proofs.BookLaws.{record_bytes, unasked}
 use Rattle.rdb_program.proofs.ConfigLaws.{policy_apart, accepted_told, refused_told}
+use Rattle.rdb_program.proofs.LoadLaws.{load_rose}
 
 -- ---- the words
 
@@ -64,6 +76,17 @@ check_apart words check answer = let e = one_command words (commands.Answer answ
 pub text_apart : (words : List (List ℕ)) (text : List ℕ) → AskForText words text → IsCheckWords words → ⊥
 text_apart words text (inl help) check = let e = one_command words (commands.Check check.0) commands.Help check.1 help.0 in cc
 text_apart words text (inr version) check = let e = one_command words (commands.Check check.0) commands.Version check.1 version.0 in cc
+
+pub load_answer_apart : (words : List (List ℕ)) → IsWorkloadWords words → IsAnswerWords words → ⊥
+load_answer_apart words load answer =
+    let e = one_command words (commands.Answer answer.0 answer.1) (commands.Workload load.0) answer.2 load.1 in cc
+
+load_check_apart : (words : List (List ℕ)) → IsWorkloadWords words → IsCheckWords words → ⊥
+load_check_apart words load check = let e = one_command words (commands.Check check.0) (commands.Workload load.0) check.1 load.1 in cc
+
+load_text_apart : (words : List (List ℕ)) (text : List ℕ) → AskForText words text → IsWorkloadWords words → ⊥
+load_text_apart words text (inl help) load = let e = one_command words (commands.Workload load.0) commands.Help load.1 help.0 in cc
+load_text_apart words text (inr version) load = let e = one_command words (commands.Workload load.0) commands.Version load.1 version.0 in cc
 
 asks : (words : List (List ℕ)) (text : List ℕ) → AskForText words text → (command : Command) × Says words command
 asks words text (inl help) = (commands.Help, help.0)
@@ -93,9 +116,10 @@ record IsStill (status : ℕ) (words : List (List ℕ)) (before after : Outside)
   failed : status ≡ 4 → HasFailed before.work after.work
   kept : status ≢ 4 → after.work.config.faults ≡ before.work.config.faults
   unasked : ¬ IsAnswerWords words → after.work.config ≡ before.work.config
-  disk_unasked : ¬ IsAnswerWords words → ¬ IsCheckWords words → after.work.disk ≡ before.work.disk
+  disk_unasked : ¬ IsAnswerWords words → ¬ IsCheckWords words → ¬ IsWorkloadWords words → after.work.disk ≡ before.work.disk
   texts : (text : List ℕ) → AskForText words text → status ≡ 7
   counts : IsCheckWords words → status ≢ 3 → ¬ HasFailed before.work after.work → status ≡ 7
+  loads : IsWorkloadWords words → status ≢ 3 → ¬ HasFailed before.work after.work → status ≡ 7
   seven : IsAnswerWords words → status ≢ 2 → status ≢ 3 → ¬ HasFailed before.work after.work → status ≡ 7
 
 says_still : (status : ℕ) (words : List (List ℕ)) (before after : Outside) → IsStill status words before after → StatusSays status words before after
@@ -121,6 +145,7 @@ says_still status words before after s = record {
   disk_unasked = s.disk_unasked;
   text_shown = λ text asks fine takes. inr (s.texts text asks);
   count_shown = λ are n3 fine takes. inr (s.counts are n3 fine);
+  load_shown = λ are n3 fine takes. inr (s.loads are n3 fine);
   whole_stream = λ are n2 n3 stream ms told framed fine takes. inr (s.seven are n2 n3 fine);
   closed_stream = λ are n2 n3 stream ms told framed fine takes. inr (s.seven are n2 n3 fine);
   broken_stream = λ are n2 n3 fault stream ms told framed fine takes. inr (s.seven are n2 n3 fine);
@@ -194,16 +219,17 @@ says_words_refused words before after nothing same = says_still 1 words before a
   failed = λ is. absurd (omega (arith, is));
   kept = λ n4. ap (λ (w : Work). w.config.faults) same;
   unasked = λ other. ap (λ (w : Work). w.config) same;
-  disk_unasked = λ other also. ap (λ (w : Work). w.disk) same;
+  disk_unasked = λ other also third. ap (λ (w : Work). w.disk) same;
   texts = λ text asked. absurd (nothing (asks words text asked).0 (asks words text asked).1);
   counts = λ are n3 fine. absurd (nothing (commands.Check are.0) are.1);
+  loads = λ are n3 fine. absurd (nothing (commands.Workload are.0) are.1);
   seven = λ are n2 n3 fine. absurd (nothing_apart words nothing are);
 })
 
 -- Memory was wanting.
 says_unstarted : (words : List (List ℕ)) (before after : Outside) → after.work.ends ≡ before.work.ends
     → after.work.config.faults ≡ before.work.config.faults → (¬ IsAnswerWords words → after.work.config ≡ before.work.config)
-    → (¬ IsAnswerWords words → ¬ IsCheckWords words → after.work.disk ≡ before.work.disk) → StatusSays 7 words before after
+    → (¬ IsAnswerWords words → ¬ IsCheckWords words → ¬ IsWorkloadWords words → after.work.disk ≡ before.work.disk) → StatusSays 7 words before after
 says_unstarted words before after same faults unasked disk = says_still 7 words before after (record {
   same = same;
   not_done = λ e. omega (arith, e);
@@ -222,6 +248,7 @@ says_unstarted words before after same faults unasked disk = says_still 7 words 
   disk_unasked = disk;
   texts = λ text asked. refl;
   counts = λ are n3 fine. refl;
+  loads = λ are n3 fine. refl;
   seven = λ are n2 n3 fine. refl;
 })
 
@@ -244,9 +271,10 @@ says_config_fault words before after are same rose =
       failed = λ is. failed;
       kept = λ n4. absurd (n4 refl);
       unasked = λ other. absurd (other are);
-      disk_unasked = λ other also. absurd (other are);
+      disk_unasked = λ other also third. absurd (other are);
       texts = λ text asked. absurd (answer_apart words text asked are);
       counts = λ also n3 fine. absurd (fine failed);
+      loads = λ also n3 fine. absurd (fine failed);
       seven = λ also n2 n3 fine. absurd (fine failed);
     })
 
@@ -268,9 +296,10 @@ says_config_refused words before after are same disk faults config = says_still 
   failed = λ is. absurd (omega (arith, is));
   kept = λ n4. faults;
   unasked = λ other. absurd (other are);
-  disk_unasked = λ other also. disk;
+  disk_unasked = λ other also third. disk;
   texts = λ text asked. absurd (answer_apart words text asked are);
   counts = λ also n3 fine. absurd (check_apart words also are);
+  loads = λ also n3 fine. absurd (load_answer_apart words also are);
   seven = λ also n2 n3 fine. absurd (n2 refl);
 })
 
@@ -300,31 +329,37 @@ opening_else openings.Memory n3 n4 = refl
 -- what such a run says of the words and the configuration, by what asked for the journal
 reached_command : (words : List (List ℕ)) (before after : Incoming) → ReachesDisk words before after → (command : Command) × Says words command
 reached_command words before after (inl answer) = answers words answer.0
-reached_command words before after (inr check) = (commands.Check check.0.0, check.0.1)
+reached_command words before after (inr here) =
+    elim here.0 [ inl check ↦ (commands.Check check.0, check.1) | inr load ↦ (commands.Workload load.0, load.1) ]
 
 reached_faults : (words : List (List ℕ)) (before after : Incoming) → ReachesDisk words before after → after.faults ≡ before.faults
 reached_faults words before after (inl answer) = answer.1.1.faults
-reached_faults words before after (inr check) = ap (λ (i : Incoming). i.faults) check.1
+reached_faults words before after (inr here) = ap (λ (i : Incoming). i.faults) here.1
 
 reached_unasked : (words : List (List ℕ)) (before after : Incoming) → ReachesDisk words before after → ¬ IsAnswerWords words → after ≡ before
 reached_unasked words before after (inl answer) other = absurd (other answer.0)
-reached_unasked words before after (inr check) other = check.1
+reached_unasked words before after (inr here) other = here.1
 
-reached_asked : (words : List (List ℕ)) (before after : Incoming) → ReachesDisk words before after → ¬ IsAnswerWords words → ¬ IsCheckWords words → ⊥
-reached_asked words before after (inl answer) other also = other answer.0
-reached_asked words before after (inr check) other also = also check.0
+reached_asked : (words : List (List ℕ)) (before after : Incoming) → ReachesDisk words before after → ¬ IsAnswerWords words → ¬ IsCheckWords words
+    → ¬ IsWorkloadWords words → ⊥
+reached_asked words before after (inl answer) other also third = other answer.0
+reached_asked words before after (inr here) other also third = elim here.0 [ inl check ↦ also check | inr load ↦ third load ]
 
 reached_text : (words : List (List ℕ)) (before after : Incoming) → ReachesDisk words before after → (text : List ℕ) → AskForText words text → ⊥
 reached_text words before after (inl answer) text asked = answer_apart words text asked answer.0
-reached_text words before after (inr check) text asked = text_apart words text asked check.0
+reached_text words before after (inr here) text asked =
+    elim here.0 [ inl check ↦ text_apart words text asked check | inr load ↦ load_text_apart words text asked load ]
 
 reached_config : (status : ℕ) (words : List (List ℕ)) (before after : Outside) → ReachesDisk words before.work.config after.work.config → status ≢ 2
     → (text : List ℕ) → before.work.config.left ≡ Some text → ConfigSays status (IsAnswerWords words) text before after
 reached_config status words before after (inl answer) n2 text told =
     config_served status (IsAnswerWords words) text before after answer.1.0 n2
     (accepted_told before.work.config answer.1.0 after.work.config text answer.1.1 told)
-reached_config status words before after (inr check) n2 text told =
-    config_other status (IsAnswerWords words) text before after (λ are. check_apart words check.0 are) n2
+reached_config status words before after (inr here) n2 text told = config_other status (IsAnswerWords words) text before after (apart here.0) n2
+  where
+    apart : IsCheckWords words ⊎ IsWorkloadWords words → IsAnswerWords words → ⊥
+    apart (inl check) are = check_apart words check are
+    apart (inr load) are = load_answer_apart words load are
 
 says_unopened : (words : List (List ℕ)) (before after : Outside) (tb ta : List ℤ → Type 0) (fault : OpenFault)
     → StopsAtDisk fault words before.work tb after.work ta → IsReported (opening_row fault).line before.errors after.errors
@@ -350,9 +385,10 @@ says_unopened words before after tb ta fault s line =
       failed = failed;
       kept = λ n4. reached_faults words before.work.config after.work.config s.reaches;
       unasked = reached_unasked words before.work.config after.work.config s.reaches;
-      disk_unasked = λ other also. absurd (reached_asked words before.work.config after.work.config s.reaches other also);
+      disk_unasked = λ other also third. absurd (reached_asked words before.work.config after.work.config s.reaches other also third);
       texts = λ text asked. absurd (reached_text words before.work.config after.work.config s.reaches text asked);
       counts = λ are n3 fine. opening_else fault n3 (λ is. fine (failed is));
+      loads = λ are n3 fine. opening_else fault n3 (λ is. fine (failed is));
       seven = λ are m2 n3 fine. opening_else fault n3 (λ is. fine (failed is));
     })
 
@@ -364,7 +400,7 @@ record IsWriting (words : List (List ℕ)) (text : List ℕ) (before after : Out
   no_answer : IsAnswerWords words → ⊥
   config : after.work.config ≡ before.work.config
   ends : ShowsText text before.work.ends result after.work.ends
-  disk_unasked : ¬ IsCheckWords words → after.work.disk ≡ before.work.disk
+  disk_unasked : ¬ IsCheckWords words → ¬ IsWorkloadWords words → after.work.disk ≡ before.work.disk
   done : IsShown text before.work after.work → IsWorkDone words before.work after.work
 
 says_written : (status : ℕ) (words : List (List ℕ)) (text : List ℕ) (before after : Outside) (result : Result (Unit {0}) WriteEnd)
@@ -392,9 +428,10 @@ says_written status words text before after result s n1 n2 n3 n7 n8 well failed 
   no_write_fault = λ n4 m7 m8. no_fault before.work.ends.outgoing.faults after.work.ends.outgoing.faults result s.ends.writes.faults (unfailed n4);
   no_stall = λ m8 n9. no_stall before.work.ends.outgoing.stalls after.work.ends.outgoing.stalls result s.ends.writes.stalls (unstalled n9);
   config_unread = λ other. s.config;
-  disk_unasked = λ other also. s.disk_unasked also;
+  disk_unasked = λ other also third. s.disk_unasked also third;
   text_shown = λ told asked fine takes. inl (shown fine takes);
   count_shown = λ are m3 fine takes. inl (shown fine takes);
+  load_shown = λ are m3 fine takes. inl (shown fine takes);
   whole_stream = λ are m2 m3 stream ms told framed fine takes. absurd (s.no_answer are);
   closed_stream = λ are m2 m3 stream ms told framed fine takes. absurd (s.no_answer are);
   broken_stream = λ are m2 m3 fault stream ms told framed fine takes. absurd (s.no_answer are);
@@ -437,7 +474,7 @@ text_writing words before after result tb ta s = record {
   no_answer = λ are. answer_apart words s.text s.asked are;
   config = s.config;
   ends = s.ends;
-  disk_unasked = λ other. s.disk;
+  disk_unasked = λ other also. s.disk;
   done = λ shown. inl (s.text, s.asked, shown);
 }
 
@@ -457,7 +494,7 @@ count_writing words before after result tb ta s = record {
   no_answer = λ are. check_apart words s.words_are are;
   config = s.config;
   ends = s.ends;
-  disk_unasked = λ other. absurd (other s.words_are);
+  disk_unasked = λ other also. absurd (other s.words_are);
   done = λ shown. inr (inl (s.words_are, record { world = s.world; opens = s.opens; commands = s.commands; leaves = s.leaves; shown = shown }));
 }
 
@@ -468,6 +505,82 @@ says_count words before after (Err write_ends.WriteFault) tb ta s =
     written_failed words _ before after (count_writing words before after (Err write_ends.WriteFault) tb ta s)
 says_count words before after (Err write_ends.SinkTakesNothing) tb ta s =
     written_stalled words _ before after (count_writing words before after (Err write_ends.SinkTakesNothing) tb ta s)
+
+-- The line of a workload was written.
+load_writing : (words : List (List ℕ)) (before after : Outside) (asked : WorkloadWords) (tally : Tally) (load : Load) (written : Result (Unit {0}) WriteEnd)
+    → Says words (commands.Workload asked) → after.work.config ≡ before.work.config
+    → (runs : RunsLoad asked before.work.disk (Ok tally) after.work.disk)
+    → ComesTo asked tally runs.run.told.last.world after.work.disk.told load
+    → ShowsText (load_text load) before.work.ends written after.work.ends → IsWriting words (load_text load) before after written
+load_writing words before after asked tally load written are config runs comes shows = record {
+  said = (commands.Workload asked, are);
+  no_answer = λ answer. load_answer_apart words (asked, are) answer;
+  config = config;
+  ends = shows;
+  disk_unasked = λ other also. absurd (also (asked, are));
+  done = λ shown. inr (inr (inr (asked, are, record { tally = tally; runs = runs; load = load; comes = comes; shown = shown })));
+}
+
+-- A workload stopped, since the disk failed.
+says_load_failed : (words : List (List ℕ)) (before after : Outside) (asked : WorkloadWords) → Says words (commands.Workload asked)
+    → after.work.config ≡ before.work.config → after.work.ends ≡ before.work.ends → Rose before.work.disk.faults after.work.disk.faults
+    → StatusSays 4 words before after
+says_load_failed words before after asked are config same rose =
+    let failed : HasFailed before.work after.work = inr (inl (record { rose = rose; ends = same })) in
+    says_still 4 words before after (record {
+      same = same;
+      not_done = λ e. omega (arith, e);
+      not_broken = λ e. omega (arith, e);
+      not_stalled = λ e. omega (arith, e);
+      refused = λ is. absurd (omega (arith, is));
+      accepted = λ n1 n7. (commands.Workload asked, are);
+      unread = λ is. absurd (omega (arith, is));
+      asked = λ is. absurd (omega (arith, is));
+      disk = λ is. absurd (omega (arith, is));
+      config = λ text told. config_other 4 (IsAnswerWords words) text before after (load_answer_apart words (asked, are)) (λ e. omega (arith, e));
+      journal = λ is. absurd (omega (arith, is));
+      failed = λ is. failed;
+      kept = λ n4. absurd (n4 refl);
+      unasked = λ other. config;
+      disk_unasked = λ other also third. absurd (third (asked, are));
+      texts = λ text asks. absurd (load_text_apart words text asks (asked, are));
+      counts = λ also n3 fine. absurd (fine failed);
+      loads = λ also n3 fine. absurd (fine failed);
+      seven = λ also n2 n3 fine. absurd (fine failed);
+    })
+
+says_load_at : (words : List (List ℕ)) (before after : Outside) (asked : WorkloadWords) (ran : Result Tally Stop) (load : Result Load Stop) (ending : LoadEnding)
+    → Says words (commands.Workload asked) → after.work.config ≡ before.work.config → (runs : RunsLoad asked before.work.disk ran after.work.disk)
+    → ComesBy asked runs.run.told.last.world after.work.disk.told ran load → TellsLoad load before.work.ends ending after.work.ends
+    → StatusSays (load_status ending) words before after
+says_load_at words before after asked (Ok tally) (Ok load) ending are config runs comes told =
+    subst (λ (e : LoadEnding). StatusSays (load_status e) words before after) (sym told.1) (by_write told.0 told.2)
+  where
+    by_write : (written : Result (Unit {0}) WriteEnd) → ShowsText (load_text load) before.work.ends written after.work.ends
+        → StatusSays (load_status (loads.Told written)) words before after
+    by_write (Ok done) shows =
+        written_well words (load_text load) before after done (load_writing words before after asked tally load (Ok done) are config runs comes shows)
+    by_write (Err write_ends.WriteFault) shows =
+        written_failed words (load_text load) before after (load_writing words before after asked tally load (Err write_ends.WriteFault) are config runs comes shows)
+    by_write (Err write_ends.SinkTakesNothing) shows =
+        written_stalled words (load_text load) before after
+        (load_writing words before after asked tally load (Err write_ends.SinkTakesNothing) are config runs comes shows)
+says_load_at words before after asked (Ok tally) (Err stop) ending are config runs comes told = absurd comes
+says_load_at words before after asked (Err stop) (Ok load) ending are config runs comes told = absurd comes
+says_load_at words before after asked (Err stop) (Err other) ending are config runs comes told =
+    subst (λ (e : LoadEnding). StatusSays (load_status e) words before after) (sym (told.0 ∙ ap loads.Stopped comes)) (by_stop stop runs)
+  where
+    by_stop : (s : Stop) → RunsLoad asked before.work.disk (Err s) after.work.disk → StatusSays (load_status (loads.Stopped s)) words before after
+    by_stop stops.Unavailable one =
+        says_load_failed words before after asked are config told.1 (load_rose asked before.work.disk after.work.disk one)
+    by_stop stops.Memory one =
+        says_unstarted words before after told.1 (ap (λ (i : Incoming). i.faults) config) (λ other. config)
+        (λ answer also third. absurd (third (asked, are)))
+
+says_load : (words : List (List ℕ)) (before after : Outside) (ending : LoadEnding) (tb ta : List ℤ → Type 0)
+    → LoadsJournal ending words before.work tb after.work ta → StatusSays (load_status ending) words before after
+says_load words before after ending tb ta s =
+    says_load_at words before after s.asked s.ran s.load ending s.words_are s.config s.runs s.comes s.told
 
 -- The connection was served.
 says_served : (words : List (List ℕ)) (before after : Outside) (asked : List Exchange → Type 0) (calls : ℕ) (cause : Cause) (tables : PolicyTables)
@@ -489,7 +602,7 @@ says_served words before after asked calls cause tables are config s =
           (accepted_told before.work.config tables after.work.config text config told);
       journal = λ is. absurd (not_three cause is);
       unopened = λ is. absurd (not_three cause is);
-      done = λ is. inr (inr (are, done_at _ was calls cause is_now s is));
+      done = λ is. inr (inr (inl (are, done_at _ was calls cause is_now s is)));
       failed = λ is. inr (inr (failed_at _ was calls cause is_now c is));
       broken = broken_at _ was calls cause is_now s;
       stalled = stalled_at _ was calls cause is_now c;
@@ -498,9 +611,10 @@ says_served words before after asked calls cause tables are config s =
       no_write_fault = λ n4 n7 n8. no_fault was.outgoing.faults is_now.outgoing.faults c.result (faults_of _ was calls cause is_now c) (not_fault_at cause c.result c.last_write n4 n7 n8);
       no_stall = λ n8 n9. no_stall was.outgoing.stalls is_now.outgoing.stalls c.result (stalls_of _ was calls cause is_now c) (not_stall_at cause c.result c.last_write n8 n9);
       config_unread = λ other. absurd (other are);
-      disk_unasked = λ other also. absurd (other are);
+      disk_unasked = λ other also third. absurd (other are);
       text_shown = λ text asks fine takes. absurd (answer_apart words text asks are);
       count_shown = λ also n3 fine takes. absurd (check_apart words also are);
+      load_shown = λ also n3 fine takes. absurd (load_answer_apart words also are);
       whole_stream = λ also n2 n3 stream ms told framed fine takes.
           ends_at _ was calls cause is_now s stream ms stream_ends.Finished 0 told framed (λ f. fine (inr (inr f))) takes (λ e. refl) (λ e. refl) (λ fault e. absurd cc);
       closed_stream = λ also n2 n3 stream ms told framed fine takes.
@@ -515,7 +629,7 @@ says_ended : (words : List (List ℕ)) (before after : Outside) (asked : List Ex
     → StatusSays (status_at ended.cause) words before after
 says_ended words before after asked ended tables are config (inl unbegun) =
     subst (λ (k : Cause). StatusSays (status_at k) words before after) (sym unbegun.cause_is)
-    (says_unstarted words before after unbegun.untouched config.faults (λ other. absurd (other are)) (λ other also. absurd (other are)))
+    (says_unstarted words before after unbegun.untouched config.faults (λ other. absurd (other are)) (λ other also third. absurd (other are)))
 says_ended words before after asked ended tables are config (inr s) = says_served words before after asked ended.calls ended.cause tables are config s
 
 -- What the status of a run says, with the line that the errors got.
@@ -533,11 +647,12 @@ says words before after tb ta (ConfigRefused fault) run line =
     (subst (λ (l : List ℕ). IsReported l before.errors after.errors) whole.2 line))
 says words before after tb ta Unstarted (inl run) line =
     says_unstarted words before after (ap (λ (w : Work). w.ends) run.0) (ap (λ (w : Work). w.config.faults) run.0)
-    (λ other. ap (λ (w : Work). w.config) run.0) (λ other also. ap (λ (w : Work). w.disk) run.0)
+    (λ other. ap (λ (w : Work). w.config) run.0) (λ other also third. ap (λ (w : Work). w.disk) run.0)
 says words before after tb ta Unstarted (inr run) line =
-    says_unstarted words before after run.ends run.config.faults (λ other. absurd (other run.words_are)) (λ other also. run.disk)
+    says_unstarted words before after run.ends run.config.faults (λ other. absurd (other run.words_are)) (λ other also third. run.disk)
 says words before after tb ta (Unopened fault) run line = says_unopened words before after tb ta fault run line
 says words before after tb ta (Counted result) run line = says_count words before after result tb ta run
+says words before after tb ta (Loaded ending) run line = says_load words before after ending tb ta run
 says words before after tb ta (DoorsServed ending) run line = absurd run
 says words before after tb ta (Uploaded ending) run line = absurd run
 says words before after tb ta (Served ended) run line = says_ended words before after _ ended run.tables run.words_are run.config run.served
@@ -555,73 +670,7 @@ run_through words cb ca ib i ia j ob o oa p db da tb ta ending one two three fou
     (subst (λ (x : Outgoing). IsRun ending words (work_at cb ib x db) tb (work_at ca ia p da) ta) three
     (subst (λ (x : Outgoing). IsRun ending words (work_at cb ib ob db) tb (work_at ca ia x da) ta) four run)))
 
--- ---- the history of a connection over an opened journal
-
--- a teller over a journal that was just opened was asked nothing
-pub begun : {D : Type 0} (told : D → Option Told) (faults : D → ℕ) (tables : PolicyTables) (tells : List ℤ → Type 0) (before after : DiskEnd)
-    (w world : ServiceWorld) (journal first : Journal D) → world ≡ w → first ≡ journal → OpensBook told Plays before w journal after
-    → HasServed told faults Plays (service_of (record { policy = tables }) world) tells first [] (service_of (record { policy = tables }) world) tells first
-begun told faults tables tells before after w world journal first one two opened =
-    let stands = subst (λ (v : ServiceWorld). Stands told Plays empty_service v first opened.commands) (sym one)
-    (subst (λ (j : Journal _). Stands told Plays empty_service w j opened.commands) (sym two) opened.stands) in
-    served_nothing told faults Plays (service_of (record { policy = tables }) world) tells first opened.commands stands
-    (λ unsettled. let t : is_settled first ≡ true = ap is_settled two ∙ opened.settled in cc)
-
-pub history_from : {T D : Type 0} (tells : T → List ℤ → Type 0) (told : D → Option Told) (faults : D → ℕ) (tables shown : PolicyTables)
-    (opened world : ServiceWorld) (start then now end : T) (before first : Journal D) (es : List Exchange) (last : Service) (journal : Journal D)
-    (disk : D) → shown ≡ tables → world ≡ opened → start ≡ then → now ≡ end → first ≡ before → disk_of journal ≡ disk
-    → HasServed told faults Plays (service_of (record { policy = shown }) world) (tells start) first es last (tells now) journal
-    → IsHistory tables opened (tells then) (disk_end told faults (disk_of before)) es (tells end) (disk_end told faults disk)
-history_from {T} {D} tells told faults tables shown opened world start then now end before first es last journal disk policy is began ended stood closed served =
-    let From : PolicyTables → ServiceWorld → T → T → Journal D → Type 0 =
-    λ p w s e f. HasServed told faults Plays (service_of (record { policy = p }) w) (tells s) f es last (tells e) journal in
-    let whole : From tables opened then end before =
-    subst (λ (p : PolicyTables). From p opened then end before) policy
-    (subst (λ (w : ServiceWorld). From shown w then end before) is
-    (subst (λ (t : T). From shown world t end before) began
-    (subst (λ (t : T). From shown world start t before) ended
-    (subst (From shown world start now) stood served)))) in
-    subst (λ (d : D). IsHistory tables opened (tells then) (disk_end told faults (disk_of before)) es (tells end) (disk_end told faults d)) closed
-    (record {
-      last = last;
-      moves = whole.moves;
-      leaves = served_leaves told Plays (record { policy = tables }) opened whole.moves.history last.world journal whole.book;
-      moments = whole.moments;
-    })
-
 -- ---- the journal that was opened
-
--- its commands lead from the empty world, as those of an empty core do
-pub opens_from : {D : Type 0} (told : D → Option Told) (first w : ServiceWorld) (journal : Journal D) (before after : DiskEnd) → first ≡ empty_service
-    → ((commands : List (List ℕ)) × Stands told Plays first w journal commands) → HasWorldOf Plays first w before.told
-    → is_settled journal ≡ true → OpensAs before.told after.told → OtherStays before.told after.told
-    → AtEachMoment before.told after.told (LeftBeforeOrAlike before.told) → AlikeOnceSynced before.told after.told → after.faults ≡ before.faults
-    → OpensBook told Plays before w journal after
-opens_from told first w journal before after empty stands world settled begins other moments synced faults =
-    let stood = subst (λ (v : ServiceWorld). (commands : List (List ℕ)) × Stands told Plays v w journal commands) empty stands in
-    record {
-      opens = record {
-        world = subst (λ (v : ServiceWorld). HasWorldOf Plays v w before.told) empty world;
-        begins = begins;
-        other = other;
-        moments = moments;
-        synced = synced;
-        faults = faults;
-      };
-      commands = stood.0;
-      stands = stood.1;
-      settled = settled;
-    }
-
--- the records that stand before the gate
-pub record_bytes : {D : Type 0} (told : D → Option Told) (w : ServiceWorld) (journal : Journal D) (commands : List (List ℕ))
-    → Stands told Plays empty_service w journal commands → end_of journal ≡ 8 + length (records commands)
-record_bytes told w journal commands stands = stands.place ∙ length-append head (records commands)
-
--- a clock that wasn't asked tells what it told
-pub unasked : (tells : List ℤ → Type 0) → IsClocked tells [] tells
-unasked tells [] others e told = (refl, told)
-unasked tells (x ∷ xs) others e told = absurd (omega (arith, e))
 
 -- a configuration that was accepted was left where memory was wanting behind it
 accepts_leaves : (before : Incoming) (tables : PolicyTables) (after : Incoming) → Accepts before tables after → Leaves before after
@@ -651,8 +700,31 @@ unopened_run ConfigFault words before after tables ends db da tells are accepts 
 unopened_run (ConfigRefused fault) words before after tables ends db da tells are accepts never = absurd never
 unopened_run (Counted result) words before after tables ends db da tells are accepts never = absurd never
 unopened_run (Served ended) words before after tables ends db da tells are accepts never = absurd never
+unopened_run (Loaded ending) words before after tables ends db da tells are accepts never = absurd never
 unopened_run (DoorsServed ending) words before after tables ends db da tells are accepts never = absurd never
 unopened_run (Uploaded ending) words before after tables ends db da tells are accepts never = absurd never
+
+-- a count or a workload whose journal wasn't opened
+pub unopened_here : (ending : Ending) (words : List (List ℕ)) (config : Incoming) (ends : Ends) (db da : DiskEnd) (tells : List ℤ → Type 0)
+    → IsCheckWords words ⊎ IsWorkloadWords words → IsUnopened ending db da
+    → IsRun ending words (record { config = config; ends = ends; disk = db }) tells (record { config = config; ends = ends; disk = da }) tells
+unopened_here Unstarted words config ends db da tells are same =
+    inl (ap (λ (d : DiskEnd). record { config = config; ends = ends; disk = d }) same, unasked tells)
+unopened_here (Unopened fault) words config ends db da tells are refused = record {
+  reaches = inr (are, refl);
+  ends = refl;
+  disk = refused;
+  clocked = unasked tells;
+}
+unopened_here WordsRefused words config ends db da tells are never = absurd never
+unopened_here (Shown result) words config ends db da tells are never = absurd never
+unopened_here ConfigFault words config ends db da tells are never = absurd never
+unopened_here (ConfigRefused fault) words config ends db da tells are never = absurd never
+unopened_here (Counted result) words config ends db da tells are never = absurd never
+unopened_here (Served ended) words config ends db da tells are never = absurd never
+unopened_here (Loaded ending) words config ends db da tells are never = absurd never
+unopened_here (DoorsServed ending) words config ends db da tells are never = absurd never
+unopened_here (Uploaded ending) words config ends db da tells are never = absurd never
 
 -- a journal that was counted
 pub counted_run : {D : Type 0} (told : D → Option Told) (faults : D → ℕ) (words : List (List ℕ)) (config : Incoming) (before after : Ends)
@@ -691,4 +763,5 @@ fixed_is (Unopened fault) other also = absurd (other fault refl)
 fixed_is (Counted result) other also = refl
 fixed_is (Served ended) other also = refl
 fixed_is (DoorsServed ending) other also = refl
+fixed_is (Loaded ending) other also = refl
 fixed_is (Uploaded upload) other also = absurd (also upload refl)

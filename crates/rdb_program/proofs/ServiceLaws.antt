@@ -12,7 +12,7 @@ use Rattle.rdb_program.specs.Run.{DiskEnd, Work, Outside, outside, disk_end, IsR
 use Rattle.rdb_program.specs.Statuses.{ExitSays}
 use Rattle.rdb_program.specs.Words.{SayNothing, IsServeWords}
 use Rattle.rdb_program.specs.declared.ending.Ending.{Ending}
-use Rattle.rdb_program.specs.declared.ending.Ending.TheVariants.{WordsRefused, Shown, ConfigFault, ConfigRefused, Unstarted, Unopened, Counted, Served, DoorsServed, Uploaded}
+use Rattle.rdb_program.specs.declared.ending.Ending.TheVariants.{WordsRefused, Shown, ConfigFault, ConfigRefused, Unstarted, Unopened, Counted, Served, DoorsServed, Loaded, Uploaded}
 use Rattle.rdb_program.proofs.ExitLaws.{service_here, sink_serve_apart}
 use Rattle.rdb_program.proofs.RunLaws.{says, work_at, opening_range}
 
@@ -38,6 +38,7 @@ does_service telling link_ends Unstarted words before after tb ta links now here
 does_service telling link_ends (Unopened fault) words before after tb ta links now here same = (here, same)
 does_service telling link_ends (Counted result) words before after tb ta links now here same = (here, same)
 does_service telling link_ends (Served ended) words before after tb ta links now here same = (here, same)
+does_service telling link_ends (Loaded ending) words before after tb ta links now here same = (here, same)
 does_service telling link_ends (DoorsServed ending) words before after tb ta links now here same = (here, same)
 does_service telling link_ends (Uploaded ending) words before after tb ta links now here same =
     absurd (no_upload ending words before after tb ta here.0)
@@ -63,6 +64,7 @@ stop_not_one Unstarted before after why e = omega (arith, e)
 stop_not_one (Unopened fault) before after why e = omega (arith, e, (opening_range fault).0)
 stop_not_one (Counted result) before after why e = neither why
 stop_not_one (Served ended) before after why e = neither why
+stop_not_one (Loaded ending) before after why e = neither why
 stop_not_one (DoorsServed ending) before after why e = neither why
 stop_not_one (Uploaded ending) before after why e = neither why
 
@@ -83,6 +85,7 @@ service_words telling Unstarted words before after tb ta doors now here line one
 service_words telling (Unopened fault) words before after tb ta doors now here line one = begun_words words before after tb ta (Unopened fault) here.0 line one
 service_words telling (Counted result) words before after tb ta doors now here line one = begun_words words before after tb ta (Counted result) here.0 line one
 service_words telling (Served ended) words before after tb ta doors now here line one = begun_words words before after tb ta (Served ended) here.0 line one
+service_words telling (Loaded ending) words before after tb ta doors now here line one = begun_words words before after tb ta (Loaded ending) here.0 line one
 service_words telling (DoorsServed ending) words before after tb ta doors now here line one = absurd (serve_not_one ending one)
 service_words telling (Uploaded ending) words before after tb ta doors now here line one = begun_words words before after tb ta (Uploaded ending) here.0 line one
 

@@ -26,9 +26,10 @@ use Rattle.rdb_program.specs.Run.{DiskEnd, Work, Outside, outside, disk_end, IsR
 use Rattle.rdb_program.specs.Statuses.{ExitSays}
 use Rattle.rdb_program.specs.Words.{SayNothing, IsSaid}
 use Rattle.rdb_program.specs.declared.ending.Ending.{Ending}
-use Rattle.rdb_program.specs.declared.ending.Ending.TheVariants.{WordsRefused, Shown, ConfigFault, ConfigRefused, Unstarted, Unopened, Counted, Served, DoorsServed, Uploaded}
+use Rattle.rdb_program.specs.declared.ending.Ending.TheVariants.{WordsRefused, Shown, ConfigFault, ConfigRefused, Unstarted, Unopened, Counted, Served, DoorsServed, Loaded, Uploaded}
 use Rattle.rdb_program.proofs.ExitLaws.{other_run, service_other, sink_serve_apart, upload_other, upload_same}
-use Rattle.rdb_program.proofs.RunLaws.{says, run_through, unasked, work_at}
+use Rattle.rdb_program.proofs.BookLaws.{unasked}
+use Rattle.rdb_program.proofs.RunLaws.{says, run_through, work_at}
 
 -- what reading the words answered is what they say
 pub is_said : (words : List (List ℕ)) (said : Result Command WordFault) → IfOk said (Says words) → (said ≡ Err word_faults.Refused → SayNothing words)
@@ -50,6 +51,7 @@ does_other telling link_ends Unstarted words before after tb ta links now run do
 does_other telling link_ends (Unopened fault) words before after tb ta links now run doors same = ((inl run, doors), same)
 does_other telling link_ends (Counted result) words before after tb ta links now run doors same = ((inl run, doors), same)
 does_other telling link_ends (Served ended) words before after tb ta links now run doors same = ((inl run, doors), same)
+does_other telling link_ends (Loaded ending) words before after tb ta links now run doors same = ((inl run, doors), same)
 does_other telling link_ends (DoorsServed ending) words before after tb ta links now run doors same = absurd run
 does_other telling link_ends (Uploaded ending) words before after tb ta links now run doors same = absurd run
 

@@ -9,7 +9,7 @@ use Rattle.permissions.specs.declared.faults.PolicyFault.{PolicyFault}
 use Rattle.rdb_program.specs.declared.ending.Ending.{Ending}
 use Rattle.rdb_program.specs.declared.ending.Ending.TheVariants.{WordsRefused, Shown, ConfigFault}
 use Rattle.rdb_program.specs.declared.ending.Ending.TheVariants.{ConfigRefused, Unstarted, Unopened}
-use Rattle.rdb_program.specs.declared.ending.Ending.TheVariants.{Counted, Served, DoorsServed, Uploaded}
+use Rattle.rdb_program.specs.declared.ending.Ending.TheVariants.{Counted, Served, DoorsServed, Loaded, Uploaded}
 
 -- the most that is read of a configuration: one byte more than it may have
 abbrev pub most_read : ℕ
@@ -60,3 +60,4 @@ IsUnserved (Counted result) before after = ⊥
 IsUnserved (Served ended) before after = ⊥
 IsUnserved (DoorsServed ending) before after = ⊥
 IsUnserved (Uploaded ending) before after = ⊥
+IsUnserved (Loaded ending) before after = ⊥

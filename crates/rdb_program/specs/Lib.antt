@@ -2,6 +2,7 @@ pub mod Words
 pub mod Causes
 pub mod Configured
 pub mod Counted
+pub mod Loads
 pub mod Run
 pub mod Statuses
 pub mod Lines

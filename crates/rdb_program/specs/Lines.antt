@@ -6,7 +6,7 @@ use Rattle.rdb_program.specs.Run.{line_of}
 use Rattle.rdb_program.specs.declared.ending.Ending.{Ending}
 use Rattle.rdb_program.specs.declared.ending.Ending.TheVariants.{WordsRefused, Shown, ConfigFault}
 use Rattle.rdb_program.specs.declared.ending.Ending.TheVariants.{ConfigRefused, Unstarted, Unopened}
-use Rattle.rdb_program.specs.declared.ending.Ending.TheVariants.{Counted, Served, DoorsServed, Uploaded}
+use Rattle.rdb_program.specs.declared.ending.Ending.TheVariants.{Counted, Served, DoorsServed, Loaded, Uploaded}
 
 -- the line of a fault of opening, without its end
 abbrev pub fault_text : OpenFault → List ℕ
@@ -28,4 +28,5 @@ fixed_line (ConfigRefused fault) = line_of (ConfigRefused fault)
 fixed_line Unstarted = line_of Unstarted
 fixed_line (Counted result) = line_of (Counted result)
 fixed_line (DoorsServed ending) = line_of (DoorsServed ending)
+fixed_line (Loaded ending) = line_of (Loaded ending)
 fixed_line (Served ended) = line_of (Served ended)

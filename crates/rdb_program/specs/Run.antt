@@ -21,10 +21,21 @@ use Rattle.serve_runs.specs.ServiceCore.Service.{Service, service_of}
 use Rattle.tellers.specs.Exchange.{Exchange}
 use Rattle.serve_runs.specs.RecordDesk.Clocked.{IsClocked}
 use Rattle.serve_runs.specs.RecordDesk.Standing.{AtEachCall, HasLast, Moves, point_at}
-use Rattle.rdb_program.specs.Words.{SayNothing, IsAnswerWords, IsCheckWords, IsServeWords, AskForText}
+use Rattle.rdb_program.specs.Words.{SayNothing, IsAnswerWords, IsCheckWords, IsServeWords, IsWorkloadWords, AskForText}
 use Rattle.program_words.specs.Grammar.{Says}
-use Rattle.program_words.specs.declared.command.Command.TheVariants.{Sink}
+use Rattle.program_words.specs.declared.command.Command.TheVariants.{Sink, Workload}
 use Rattle.program_words.specs.declared.sink_words.SinkWords.{SinkWords}
+use Rattle.program_words.specs.declared.workload_words.WorkloadWords.{WorkloadWords}
+use Rattle.outside.specs.Moments.{AreSteps, Steps}
+use Rattle.workload_runs.specs.Endings.{load_fault, load_status}
+use Rattle.workload_runs.specs.Lines.{load_text}
+use Rattle.workload_runs.specs.WorkloadTurns.Runs.{LoadRun}
+use Rattle.workload_runs.specs.WorkloadTurns.declared.stops.Stop.{Stop}
+use Rattle.workload_runs.specs.WorkloadTurns.declared.tally.Tally.{Tally}
+use Rattle.workload_runs.specs.declared.ending.LoadEnding.{LoadEnding}
+use Rattle.workload_runs.specs.declared.ending.LoadEnding.TheVariants as loads
+use Rattle.workload_runs.specs.declared.line.Load.{Load}
+use Rattle.rdb_program.specs.Loads.{ComesBy, IsLoadPolicy, first_step}
 use Rattle.serve_runs.specs.Endings.{serve_line, serve_status}
 use Rattle.serve_runs.specs.Runs.{IsServing, Premises}
 use Rattle.serve_runs.specs.declared.ending.ServeEnding.{ServeEnding}
@@ -43,7 +54,7 @@ use Rattle.rdb_program.specs.Counted.{world_text}
 use Rattle.rdb_program.specs.declared.ending.Ending.{Ending}
 use Rattle.rdb_program.specs.declared.ending.Ending.TheVariants.{WordsRefused, Shown, ConfigFault}
 use Rattle.rdb_program.specs.declared.ending.Ending.TheVariants.{ConfigRefused, Unstarted, Unopened}
-use Rattle.rdb_program.specs.declared.ending.Ending.TheVariants.{Counted, Served, DoorsServed, Uploaded}
+use Rattle.rdb_program.specs.declared.ending.Ending.TheVariants.{Counted, Served, DoorsServed, Loaded, Uploaded}
 
 -- The disk at one moment, as far as it tells, with its count of faults.
 pub record DiskEnd : Type 0 where
@@ -94,6 +105,7 @@ status_of (Counted (Err end)) = (row_of (cause_of end)).status
 status_of (Served ended) = (row_of ended.cause).status
 status_of (DoorsServed ending) = serve_status ending
 status_of (Uploaded ending) = sink_status ending
+status_of (Loaded ending) = load_status ending
 
 abbrev pub line_of : Ending → List ℕ
 line_of WordsRefused = error_line (codes "words refused")
@@ -108,6 +120,7 @@ line_of (Counted (Err end)) = (row_of (cause_of end)).line
 line_of (Served ended) = (row_of ended.cause).line
 line_of (DoorsServed ending) = serve_line ending
 line_of (Uploaded ending) = sink_line ending
+line_of (Loaded ending) = load_fault ending
 
 -- The journal on the disk was opened: its commands lead from the empty world to this one. Other
 -- bytes than a journal's were begun anew only where they are nine at most.
@@ -141,6 +154,7 @@ IsUnopened (Counted result) before after = ⊥
 IsUnopened (Served ended) before after = ⊥
 IsUnopened (DoorsServed ending) before after = ⊥
 IsUnopened (Uploaded ending) before after = ⊥
+IsUnopened (Loaded ending) before after = ⊥
 
 -- These were asked and told in one legal history from the world of the opened journal, under this
 -- policy, of one seat, at the moments that the clock's answers make. Each image of the disk has the
@@ -189,11 +203,11 @@ pub record StopsAtConfig (ending : Ending) (words : List (List ℕ))
   pub clocked : IsClocked tells_before [] tells_after
 
 -- What the words ask for that needs the journal: a connection, under a policy that was accepted; or
--- a count.
+-- a count, or a workload.
 abbrev pub ReachesDisk : List (List ℕ) → Incoming → Incoming → Type 0
 ReachesDisk words before after =
     (IsAnswerWords words × ((tables : PolicyTables) × Accepts before tables after))
-    ⊎ (IsCheckWords words × (after ≡ before))
+    ⊎ ((IsCheckWords words ⊎ IsWorkloadWords words) × (after ≡ before))
 
 -- A run that ended by its journal: nothing was read of the input, nothing was written to the
 -- output, and the clock wasn't asked.
@@ -234,6 +248,43 @@ pub record Serves (ended : Ended) (words : List (List ℕ))
       (λ exchanges. IsHistory tables opened tells_before disk exchanges tells_after after.disk)
       before.ends ended after.ends
 
+-- The requests of a workload were asked in one legal history from the world of the opened journal,
+-- under the workload's policy and at the moments of its own clock, to this end.
+pub record RunsLoad (asked : WorkloadWords) (before : DiskEnd) (ran : Result Tally Stop)
+    (after : DiskEnd) : Type 0 where
+  pub tables : PolicyTables
+  pub secret : List ℕ
+  pub policy : IsLoadPolicy tables secret
+  pub opened : ServiceWorld
+  pub disk : DiskEnd
+  pub opens : Opens before opened disk
+  pub steps : Steps
+  pub run : LoadRun (λ exchanges. IsHistory tables opened (AreSteps first_step) disk exchanges
+      (AreSteps steps) after) secret asked.number asked.count ran
+
+-- What was told of a workload: its line, as far as the output took it; or nothing, where it
+-- stopped.
+abbrev pub TellsLoad : Result Load Stop → Ends → LoadEnding → Ends → Type 0
+TellsLoad (Ok load) before ending after =
+    (written : Result (Unit {0}) WriteEnd) × (ending ≡ loads.Told written)
+    × ShowsText (load_text load) before written after
+TellsLoad (Err stop) before ending after = (ending ≡ loads.Stopped stop) × (after ≡ before)
+
+-- A run whose words ask for a workload, whose journal was opened. The line tells what was counted,
+-- and what the last world has; the clock that was handed in wasn't asked.
+pub record LoadsJournal (ending : LoadEnding) (words : List (List ℕ))
+    (before : Work) (tells_before : List ℤ → Type 0)
+    (after : Work) (tells_after : List ℤ → Type 0) : Type 0 where
+  pub asked : WorkloadWords
+  pub words_are : Says words (Workload asked)
+  pub config : after.config ≡ before.config
+  pub ran : Result Tally Stop
+  pub runs : RunsLoad asked before.disk ran after.disk
+  pub load : Result Load Stop
+  pub comes : ComesBy asked runs.run.told.last.world after.disk.told ran load
+  pub told : TellsLoad load before.ends ending after.ends
+  pub clocked : IsClocked tells_before [] tells_after
+
 -- What a run did that dialled nothing, served no doors and ended so. For want of memory it may have
 -- ended at its words, of which nothing is said then.
 abbrev pub IsRun : Ending → List (List ℕ)
@@ -255,6 +306,8 @@ IsRun (Counted result) words before tells_before after tells_after =
     CountsJournal result words before tells_before after tells_after
 IsRun (Served ended) words before tells_before after tells_after =
     Serves ended words before tells_before after tells_after
+IsRun (Loaded ending) words before tells_before after tells_after =
+    LoadsJournal ending words before tells_before after tells_after
 IsRun (DoorsServed ending) words before tells_before after tells_after = ⊥
 IsRun (Uploaded ending) words before tells_before after tells_after = ⊥
 

@@ -1,5 +1,5 @@
 -- What each exit status says of the words, the configuration, the input and the output.
-use Rattle.std.specs.Prelude.{◌≡◌, ◌≢◌, ℕ, ◌⊎◌, List, Some, length}
+use Rattle.std.specs.Prelude.{◌≡◌, ◌≢◌, ℕ, ◌⊎◌, List, Some, Ok, length}
 use Rattle.fault_counts.specs.Causes.{Rose}
 use Rattle.outside.specs.Bytes.{Took, IsEnd}
 use Rattle.outside.specs.Ends.{Ends}
@@ -14,8 +14,9 @@ use Rattle.http_wire.specs.declared.message.WireFault.{WireFault}
 use Rattle.journal_book.specs.Books.{IsOpenFault}
 use Rattle.program_words.specs.Grammar.{Says}
 use Rattle.program_words.specs.declared.command.Command.{Command}
-use Rattle.program_words.specs.declared.command.Command.TheVariants.{Sink}
+use Rattle.program_words.specs.declared.command.Command.TheVariants.{Sink, Workload}
 use Rattle.program_words.specs.declared.sink_words.SinkWords.{SinkWords}
+use Rattle.program_words.specs.declared.workload_words.WorkloadWords.{WorkloadWords}
 use Rattle.result_journal.specs.Grammar.{records}
 use Rattle.result_journal.specs.Journals.{Leaves, ReadsAs}
 use Rattle.result_journal.specs.declared.opening.OpenFault.{OpenFault}
@@ -23,11 +24,15 @@ use Rattle.service_effects.specs.Service.{ServiceWorld, empty_service}
 use Rattle.serve_runs.specs.ServiceMachine.Machines.{Plays}
 use Rattle.serve_runs.specs.Statuses.{DoorFailed, IsServed, NoneFailed}
 use Rattle.sink_runs.specs.Statuses.{SinkSays}
+use Rattle.workload_runs.specs.Lines.{load_text}
+use Rattle.workload_runs.specs.WorkloadTurns.declared.tally.Tally.{Tally}
+use Rattle.workload_runs.specs.declared.line.Load.{Load}
 use Rattle.rdb_program.specs.Causes.{opening_row}
 use Rattle.rdb_program.specs.Configured.{Accepts}
 use Rattle.rdb_program.specs.Counted.{world_text}
-use Rattle.rdb_program.specs.Words.{SayNothing, IsAnswerWords, IsCheckWords, IsServeWords, IsSinkWords, AskForText}
-use Rattle.rdb_program.specs.Run.{DiskEnd, Links, Opens, Outside, Telling, Work, IsReported, premises, refusal_line, sending}
+use Rattle.rdb_program.specs.Loads.{ComesTo}
+use Rattle.rdb_program.specs.Words.{SayNothing, IsAnswerWords, IsCheckWords, IsServeWords, IsSinkWords, IsWorkloadWords, AskForText}
+use Rattle.rdb_program.specs.Run.{DiskEnd, Links, Opens, Outside, RunsLoad, Telling, Work, IsReported, premises, refusal_line, sending}
 
 -- The stream that was to be read, where it is told, is messages to its end.
 abbrev pub IsWhole : Ends → Type 0
@@ -66,20 +71,30 @@ pub record IsCounted (before after : Work) : Type 0 where
   pub leaves : Leaves after.disk.told (ReadsAs commands)
   pub shown : IsShown (world_text world (length (records commands))) before after
 
+-- The requests of a workload were asked to their end, and the output got the line of it.
+pub record IsLoaded (asked : WorkloadWords) (before after : Work) : Type 0 where
+  pub tally : Tally
+  pub runs : RunsLoad asked before.disk (Ok tally) after.disk
+  pub load : Load
+  pub comes : ComesTo asked tally runs.run.told.last.world after.disk.told load
+  pub shown : IsShown (load_text load) before after
+
 -- The text that the words ask for was shown, or the count; or the connection that they ask for was
--- served to its end.
+-- served to its end, or the workload run to its end.
 abbrev pub IsWorkDone : List (List ℕ) → Work → Work → Type 0
 IsWorkDone words before after =
     ((text : List ℕ) × AskForText words text × IsShown text before after)
     ⊎ ((IsCheckWords words × IsCounted before after)
-    ⊎ (IsAnswerWords words × IsDone before.ends after.ends))
+    ⊎ ((IsAnswerWords words × IsDone before.ends after.ends)
+    ⊎ ((asked : WorkloadWords) × Says words (Workload asked) × IsLoaded asked before after)))
 
 -- A read of the configuration failed, and then the connection wasn't touched.
 pub record ConfigFailed (before after : Work) : Type 0 where
   pub rose : Rose before.config.faults after.config.faults
   pub ends : after.ends ≡ before.ends
 
--- A call on the disk failed while the journal was opened, and then the connection wasn't touched.
+-- A call on the disk failed while the journal was opened, or in a workload, and then the connection
+-- wasn't touched.
 pub record DiskFailed (before after : Work) : Type 0 where
   pub rose : Rose before.disk.faults after.disk.faults
   pub ends : after.ends ≡ before.ends
@@ -91,7 +106,8 @@ EndsFailed before after =
     ⊎ Rose before.outgoing.faults after.outgoing.faults
 
 -- A read of the configuration or of the input failed, or a write to the output did, or a call on
--- the disk while the journal was opened. A configuration of which a read failed isn't served.
+-- the disk while the journal was opened or in a workload. A configuration of which a read failed
+-- isn't served.
 abbrev pub HasFailed : Work → Work → Type 0
 HasFailed before after =
     ConfigFailed before after ⊎ (DiskFailed before after ⊎ EndsFailed before.ends after.ends)
@@ -170,9 +186,9 @@ pub record StatusSays (status : ℕ) (words : List (List ℕ)) (before after : O
   pub no_stall : status ≢ 8 → status ≢ 9
       → after.work.ends.outgoing.stalls ≡ before.work.ends.outgoing.stalls
   -- Only words that ask for a connection have the configuration read, and only those and words that
-  -- ask for a count have the disk touched.
+  -- ask for a count or a workload have the disk touched.
   pub config_unread : ¬ IsAnswerWords words → after.work.config ≡ before.work.config
-  pub disk_unasked : ¬ IsAnswerWords words → ¬ IsCheckWords words
+  pub disk_unasked : ¬ IsAnswerWords words → ¬ IsCheckWords words → ¬ IsWorkloadWords words
       → after.work.disk ≡ before.work.disk
   -- Over ends that don't fail a text is shown, and a stream is answered as it deserves where its
   -- configuration isn't refused, unless memory is wanting.
@@ -180,6 +196,9 @@ pub record StatusSays (status : ℕ) (words : List (List ℕ)) (before after : O
       → ¬ HasFailed before.work after.work → ¬ HasStalled before.work after.work
       → (status ≡ 0) ⊎ (status ≡ 7)
   pub count_shown : IsCheckWords words → status ≢ 3
+      → ¬ HasFailed before.work after.work → ¬ HasStalled before.work after.work
+      → (status ≡ 0) ⊎ (status ≡ 7)
+  pub load_shown : IsWorkloadWords words → status ≢ 3
       → ¬ HasFailed before.work after.work → ¬ HasStalled before.work after.work
       → (status ≡ 0) ⊎ (status ≡ 7)
   pub whole_stream : IsAnswerWords words → status ≢ 2 → status ≢ 3

@@ -3,11 +3,12 @@ use Rattle.std.specs.Prelude.{◌≡◌, ℕ, ◌⊎◌, List, Result, Ok, Err}
 use Rattle.program_words.specs.Grammar.{Says}
 use Rattle.program_words.specs.Texts.{help_text, version_text}
 use Rattle.program_words.specs.declared.command.Command.{Command}
-use Rattle.program_words.specs.declared.command.Command.TheVariants.{Answer, Check, Serve, Sink, Help, Version}
+use Rattle.program_words.specs.declared.command.Command.TheVariants.{Answer, Check, Serve, Sink, Workload, Help, Version}
 use Rattle.program_words.specs.declared.command.WordFault.{WordFault}
 use Rattle.program_words.specs.declared.command.WordFault.TheVariants.{Refused, Memory}
 use Rattle.program_words.specs.declared.serve_words.ServeWords.{ServeWords}
 use Rattle.program_words.specs.declared.sink_words.SinkWords.{SinkWords}
+use Rattle.program_words.specs.declared.workload_words.WorkloadWords.{WorkloadWords}
 
 -- The words are outside the grammar.
 abbrev pub SayNothing : List (List ℕ) → Type 0
@@ -24,6 +25,10 @@ IsCheckWords words = (journal : List ℕ) × Says words (Check journal)
 -- The words ask for all that comes in at an address to be served.
 abbrev pub IsServeWords : List (List ℕ) → Type 0
 IsServeWords words = (serve : ServeWords) × Says words (Serve serve)
+
+-- The words ask for a workload.
+abbrev pub IsWorkloadWords : List (List ℕ) → Type 0
+IsWorkloadWords words = (load : WorkloadWords) × Says words (Workload load)
 
 -- The words ask for an upload.
 abbrev pub IsSinkWords : List (List ℕ) → Type 0

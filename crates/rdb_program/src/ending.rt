@@ -11,6 +11,7 @@ use permissions::PolicyFault;
 use result_journal::OpenFault;
 use serve_runs::ServeEnding;
 use sink_runs::SinkEnding;
+use workload_runs::LoadEnding;
 
 /// How a run ended. A fault of the configuration may hold a token, so nothing prints an ending
 /// whole.
@@ -36,6 +37,8 @@ pub enum Ending {
     DoorsServed(ServeEnding),
     /// The upload of a report ended so.
     Uploaded(SinkEnding),
+    /// A workload was run over the journal, and ended so.
+    Loaded(LoadEnding),
 }
 
 impl Ending {
@@ -54,6 +57,7 @@ impl Ending {
             Ending::Served(ended) => status(&ended.cause),
             Ending::DoorsServed(ending) => ending.status(),
             Ending::Uploaded(ending) => ending.status(),
+            Ending::Loaded(ending) => ending.status(),
         }
     }
 
@@ -72,6 +76,7 @@ impl Ending {
             Ending::Unstarted => "rdb: want of memory\n",
             Ending::Served(ended) => line(&ended.cause),
             Ending::DoorsServed(ending) => ending.line(),
+            Ending::Loaded(ending) => ending.line(),
         }
     }
 }

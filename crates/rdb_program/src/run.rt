@@ -1,14 +1,17 @@
 //! The top call: all that the program does, over ends that are handed in.
-ghost use Rattle.std.specs.Prelude.{◌≡◌, ◌≢◌, ◌≤◌, ℕ, List, map, string_bytes, Ok, IfErr, IfOk, MatchResult, vec_len};
+ghost use Rattle.std.specs.Prelude.{◌≡◌, ◌≢◌, ◌≤◌, ℕ, List, map, string_bytes, Ok, IfErr, IfOk, MatchResult, true, vec_len};
 ghost use Rattle.outside.specs.Ends.{Incoming};
-ghost use Rattle.result_journal.specs.Journals.{disk_of};
+ghost use Rattle.journal_book.specs.Books.{Stands};
+ghost use Rattle.program_words.specs.Grammar.{Says};
+ghost use Rattle.result_journal.specs.Journals.{disk_of, is_settled};
+ghost use Rattle.service_effects.specs.Service.{empty_service};
 ghost use Rattle.serve_runs.specs.ServiceCore.CoreState.{world_in};
 ghost use Rattle.serve_runs.specs.ServiceMachine.Machines.{Plays};
 ghost use Rattle.rdb_program.specs.Words.{IsAnswerWords, IsCheckWords, IsSaid, AskForText};
 ghost use Rattle.rdb_program.specs.Configured.{Accepts, IsUnserved};
 ghost use Rattle.rdb_program.specs.Run.{outside, line_of, status_of, IsRun, Shows, StopsAtConfig, IsReported};
-ghost use Rattle.rdb_program.specs.Run.{IsUnopened, ProgramRun, disk_end};
-ghost use Rattle.rdb_program.specs.Opening.{OpensBook};
+ghost use Rattle.rdb_program.specs.Run.{IsUnopened, ProgramRun, TellsLoad, disk_end};
+ghost use Rattle.rdb_program.specs.Opening.{OpensBook, RunsOver};
 ghost use Rattle.rdb_program.specs.Statuses.{ExitSays};
 
 use crate::ending::Ending;
@@ -19,11 +22,11 @@ use disks::Disk;
 use doors::Door;
 use http_workers::serve_connection;
 use journal_book::Book;
-use outside::{Clock, Link, PairLink, Sink, Source, put_whole, write_whole};
+use outside::{Clock, Link, PairLink, Sink, Source, StepClock, put_whole, write_whole};
 use permissions::{Policy, PolicyFault};
 use policy_reading::from_toml;
 use program_words::{
-    Command, ServeWords, SinkWords, WordFault, help_text, read_words, version_text,
+    Command, ServeWords, SinkWords, WordFault, WorkloadWords, help_text, read_words, version_text,
 };
 use serve_runs::record_desk::BookTeller;
 use serve_runs::service_core::Core;
@@ -33,9 +36,15 @@ use std::alloc::Global;
 use std::sync::Wait;
 use std::thread::Threads;
 use whole_reads::{ReadEnd, read_front};
+use workload_runs::{Asking, Load, LoadEnding, Stop, load_line, load_policy, run_load};
 
 /// The most that is read of a configuration: one byte more than it may have.
 const MOST_READ: usize = 4_194_305;
+
+/// When a workload begins, in microseconds since 1970, and how much later each of its requests is.
+const FIRST_MOMENT: i64 = 1_700_000_000_000_000;
+
+const STEP: i64 = 1_000;
 
 /// How many bytes stand before the first record of a journal.
 const HEAD: u64 = 8;
@@ -173,6 +182,87 @@ fn check<L: Link, D: Disk, C: Clock>(
     (ending, Lent { disk, clock })
 }
 
+/// Runs a workload over a book, under its policy and at moments of its own.
+fn run_over<D: Disk>(
+    alloc: Global,
+    policy: &Policy,
+    book: &mut Book<ServiceMachine, D>,
+    words: &WorkloadWords,
+) -> Result<Load, Stop>
+    requires stands { (commands : List (List ℕ)) × Stands D.told Plays empty_service
+        (world_in book.old.machine.core) book.old.journal commands }
+    requires settled { is_settled book.old.journal ≡ true }
+    ensures { RunsOver D.told D.faults policy.now words.now
+        (world_in book.old.machine.core) book.old.journal result
+        (world_in book.new.machine.core) book.new.journal }
+{
+    let mut clock = StepClock::new(FIRST_MOMENT, STEP);
+    let asking = Asking {
+        alloc,
+        secret: policy.secret(),
+    };
+    let mut teller = BookTeller::new(policy, book, &mut clock, alloc);
+    let tally = match run_load(&mut teller, asking, words.number, u64::from(words.count)) {
+        Ok(tally) => tally,
+        Err(stop) => return Err(stop),
+    };
+    Ok(Load {
+        number: words.number,
+        count: words.count,
+        tally,
+        finalized: book.machine.core.counts().finalized,
+        bytes: book.journal.end() - HEAD,
+    })
+}
+
+/// Tells what a workload came to, if it came to its end.
+fn tell_load<L: Link>(link: &mut L, ran: Result<Load, Stop>) -> LoadEnding
+    ensures told { TellsLoad ran (L.ends link.old) result (L.ends link.new) }
+    ensures holds { L.holds link.new ≡ L.holds link.old }
+{
+    match ran {
+        Ok(load) => LoadEnding::Told(write_whole(link, load_line(&load).as_slice())),
+        Err(stop) => LoadEnding::Stopped(stop),
+    }
+}
+
+/// Runs a workload over a journal, and tells what it came to. The clock isn't asked.
+fn load<L: Link, D: Disk, C: Clock>(
+    alloc: Global,
+    words: &WorkloadWords,
+    link: &mut L,
+    lent: Lent<D, C>,
+) -> (Ending, Lent<D, C>)
+    ensures run { (said : List (List ℕ)) (config : Incoming)
+        → Says said (Command.Workload words.now) → IsRun result.0 said
+        (record {
+          config = config;
+          ends = L.ends link.old;
+          disk = disk_end D.told D.faults lent.disk;
+        })
+        (C.tells (C.state lent.clock))
+        (record {
+          config = config;
+          ends = L.ends link.new;
+          disk = disk_end D.told D.faults result.1.disk;
+        })
+        (C.tells (C.state result.1.clock)) }
+    ensures holds { L.holds link.new ≡ L.holds link.old }
+{
+    let Ok(policy) = load_policy(alloc) else {
+        return (Ending::Unstarted, lent);
+    };
+    let Lent { disk, clock } = lent;
+    let mut book = match open_journal(alloc, disk) {
+        Ok(book) => book,
+        Err((ending, disk)) => return (ending, Lent { disk, clock }),
+    };
+    let ran = run_over(alloc, &policy, &mut book, words);
+    let ending = tell_load(link, ran);
+    let disk = close(book);
+    (Ending::Loaded(ending), Lent { disk, clock })
+}
+
 /// Serves one connection under the policy of the configuration.
 fn serve<I: Source, L: Link, D: Disk, C: Clock>(
     alloc: Global,
@@ -230,6 +320,7 @@ fn run_words<I: Source, L: Link, D: Disk, C: Clock>(
     match said {
         Ok(Command::Answer { .. }) => serve(alloc, config, link, lent),
         Ok(Command::Check { .. }) => check(alloc, link, lent),
+        Ok(Command::Workload(words)) => load(alloc, &words, link, lent),
         Ok(Command::Serve(_) | Command::Sink(_)) => unreachable!(),
         Ok(Command::Help) => (
             Ending::Shown(write_whole(link, help_text().as_bytes())),
@@ -285,19 +376,21 @@ fn finish<O: Sink, A, D, C>(
 /// `input`, and writes their replies to `output`. What a request changes is recorded in the journal
 /// before it is answered. `serve` reads the configuration, opens the journal, and then serves every
 /// link that comes in at the doors, each door in a thread of its own, and writes to `output` how
-/// many there were. `check` opens the journal, and writes to `output` how much it holds. `sink`
-/// reads the configuration, and then a report from `input`, uploads its cases over links of
-/// `dialer`, and writes to `output` how many were sent. `--help` and `--version` write a text to
-/// `output`.
+/// many there were. `check` opens the journal, and writes to `output` how much it holds. `workload`
+/// opens the journal, asks the requests that its two numbers stand for of the service over it, at
+/// moments of its own, and writes to `output` what came. `sink` reads the configuration, and then a
+/// report from `input`, uploads its cases over links of `dialer`, and writes to `output` how many
+/// were sent. `--help` and `--version` write a text to `output`.
 ///
 /// | Status | |
 /// |---|---|
 /// | 0 | each message was answered, to the end or the reply that closes; or the text was written |
-/// | 0 | all doors were served to their ends, and that was told |
+/// | 0 | all doors were served to their ends, or a workload was run to its end, and that was told |
 /// | 1 | the words are outside the grammar |
 /// | 2 | the configuration is refused |
 /// | 3 | the journal is refused |
 /// | 4 | a read of configuration or input failed, a write to output, or the disk at its opening |
+/// | 4 | the disk failed in a workload |
 /// | 4 | a door failed, or the upload gave up, since too many links failed |
 /// | 5 | the report is refused |
 /// | 6 | a batch was refused, or what came is no reply |

@@ -3,7 +3,8 @@
 //! A value stands behind its name and `=`. What isn't there is empty, 0 or `-`. Words that say
 //! nothing are `refused`.
 use program_words::{
-    Command, Places, ReportFormat, ServeWords, SinkWords, WordFault, places, read_words,
+    Command, Places, ReportFormat, ServeWords, SinkWords, WordFault, WorkloadWords, places,
+    read_words,
 };
 use std::alloc::{AllocError, Global};
 
@@ -75,6 +76,7 @@ fn put_command(alloc: Global, command: &Command, out: &mut Vec<u8>) -> Result<()
         }
         Command::Serve(serve) => put_serve(alloc, serve, out),
         Command::Sink(sink) => put_sink(sink, out),
+        Command::Workload(load) => put_workload(alloc, load, out),
         Command::Help => out.extend_from_slice(b"help"),
         Command::Version => out.extend_from_slice(b"version"),
     }
@@ -99,6 +101,14 @@ fn put_sink(sink: &SinkWords, out: &mut Vec<u8>) -> Result<(), AllocError> {
     };
     put_value("format", format, out)?;
     put_value("prefix", sink.prefix.as_str().as_bytes(), out)
+}
+
+fn put_workload(alloc: Global, load: &WorkloadWords, out: &mut Vec<u8>) -> Result<(), AllocError> {
+    let WorkloadWords { number, count, .. } = load;
+    out.extend_from_slice(b"workload")?;
+    put_value("journal", load.journal.as_slice(), out)?;
+    put_value("number", format!(in alloc; "{number}")?.as_bytes(), out)?;
+    put_value("count", format!(in alloc; "{count}")?.as_bytes(), out)
 }
 
 /// Puts all places, also those that the words don't name.

@@ -23,12 +23,17 @@ read_sink-requires c =
     first_word c.args.words.now c.command-item-4.result (codes "sink") (omega arith) c.command-item-4.is
     (sym c.as_str-4.ensures.value ∙ text_is _ _ (sym c.eq-4.ensures ∙ c.if-eq-4.true))
 
+pub read_workload-requires : goal.read_workload-requires
+read_workload-requires c =
+    first_word c.args.words.now c.command-item-5.result (codes "workload") (omega arith) c.command-item-5.is
+    (sym c.as_str-5.ensures.value ∙ text_is _ _ (sym c.eq-5.ensures ∙ c.if-eq-5.true))
+
 pub returns-in-len1-clause-said : goal.returns-in-len1-clause-said
 returns-in-len1-clause-said c =
     one_word c.args.words.now c.word-item.result (codes "--help") (omega arith) c.word-item.is
-    (sym c.as_str-then-words-lt2.ensures.value ∙ text_is _ _ (sym c.eq-then-words-lt2.ensures ∙ c.if-eq-5.true))
+    (sym c.as_str-then-words-lt2.ensures.value ∙ text_is _ _ (sym c.eq-then-words-lt2.ensures ∙ c.if-eq-6.true))
 
 pub returns-in-len1-2-clause-said : goal.returns-in-len1-2-clause-said
 returns-in-len1-2-clause-said c =
     one_word c.args.words.now c.word-item-then-words-lt2.result (codes "--version") (omega arith) c.word-item-then-words-lt2.is
-    (sym c.as_str-then-words-lt2-2.ensures.value ∙ text_is _ _ (sym c.eq-then-words-lt2-2.ensures ∙ c.if-eq-6.true))
+    (sym c.as_str-then-words-lt2-2.ensures.value ∙ text_is _ _ (sym c.eq-then-words-lt2-2.ensures ∙ c.if-eq-7.true))

@@ -4,7 +4,8 @@ use Rattle.serve_runs.specs.ServiceCore.CoreState.{world_in}
 use Rattle.serve_runs.specs.ServiceCore.Service.{service_of}
 use Rattle.http_workers.proofs.FramingLaws.{asked_so}
 use Rattle.rdb_program.specs.Run.{disk_end}
-use Rattle.rdb_program.proofs.RunLaws.{begun, history_from, unopened_run}
+use Rattle.rdb_program.proofs.BookLaws.{begun, history_from}
+use Rattle.rdb_program.proofs.RunLaws.{unopened_run}
 use Rattle.rdb_program.proofs.run.answer.Goals as goal
 
 pub returns-in-Err-clause-run : goal.returns-in-Err-clause-run

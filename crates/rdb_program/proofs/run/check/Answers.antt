@@ -1,8 +1,12 @@
-use Rattle.std.proofs.Common.{subst}
+use Rattle.std.proofs.Common.{inl, subst}
 use Rattle.outside.specs.Whole.{WritesWhole}
 use Rattle.serve_runs.specs.ServiceCore.CoreState.{world_in}
-use Rattle.rdb_program.proofs.RunLaws.{counted_run}
+use Rattle.rdb_program.proofs.RunLaws.{counted_run, unopened_here}
 use Rattle.rdb_program.proofs.run.check.Goals as goal
+
+pub returns-in-Err-clause-run : goal.returns-in-Err-clause-run
+returns-in-Err-clause-run g c = λ words config are.
+    unopened_here c.in-Err.ending words config (g.L.Link.ends c.args.link.now) _ _ _ (inl are) c.in-Err.ensures.err
 
 pub returns-clause-run : goal.returns-clause-run
 returns-clause-run g c = λ words config are.

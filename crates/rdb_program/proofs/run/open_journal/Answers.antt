@@ -5,7 +5,7 @@ use Rattle.service_effects.specs.Service.{ServiceWorld}
 use Rattle.serve_runs.specs.ServiceCore.CoreState.{world_in}
 use Rattle.serve_runs.specs.ServiceMachine.Machines.{Plays}
 use Rattle.rdb_program.specs.Run.{disk_end}
-use Rattle.rdb_program.proofs.RunLaws.{opens_from}
+use Rattle.rdb_program.proofs.BookLaws.{opens_from}
 use Rattle.rdb_program.proofs.run.open_journal.Goals as goal
 
 pub returns-in-Ok-open-clause-ok : goal.returns-in-Ok-open-clause-ok

@@ -1,0 +1,8 @@
+use Rattle.std.proofs.Common.{◌≡◌, Some, subst}
+use Rattle.program_words.specs.Serves.{IsUpTo}
+use Rattle.program_words.specs.Workloads.{most_invocations}
+use Rattle.program_words.proofs.workload_words.named_count.Goals as goal
+
+pub returns-in_err-number-clause-refused : goal.returns-in_err-number-clause-refused
+returns-in_err-number-clause-refused c = λ is n up found.
+    c.in_err-number.ensures.refused (Some n) (λ m same. let here : n ≡ m = cc in subst (IsUpTo most_invocations) here up) found
