@@ -1,9 +1,7 @@
 pub mod UserLaws
 pub mod MaskLaws
-pub mod ListLaws
 pub mod NamedLaws
 pub mod CreateLaws
 pub mod UpdateLaws
 pub mod IncludedLaws
-pub mod TextLaws
 pub mod Opened

@@ -1,17 +1,17 @@
 -- The names of users are ASCII, and what a row shows is UTF-8.
-use Rattle.std.proofs.Common.{◌≡◌, ◌<◌, ℕ, zero, suc, Bool, true, false, List, [], ◌∷◌, IsUtf8, slice_index_or, refl, arith, lit<}
+use Rattle.std.proofs.Common.{◌≡◌, ◌<◌, ℕ, zero, suc, true, List, [], ◌∷◌, IsUtf8, slice_index_or, arith, lit<}
 use Rattle.std.specs.List.{list_all}
 use Rattle.std.specs.Char.{is_ascii_lowercase}
-use Rattle.std.specs.Str.{IsAscii, is_utf8}
+use Rattle.std.specs.Str.{IsAscii}
 use Rattle.std.proofs.lemmas.Bool.{and_parts}
 use Rattle.std.proofs.lemmas.Bool.Decides.{nat_tests}
-use Rattle.std.proofs.lemmas.Str.{IsUtf8-from_ascii, IsUtf8-from_is_utf8, is_utf8-from_IsUtf8}
+use Rattle.std.proofs.lemmas.Str.{IsUtf8-from_ascii}
 use Rattle.name_parts.proofs.PartLemmas.{IsPart-utf8}
 use Rattle.name_parts.specs.declared.parts.PartForm.TheVariants.{PairKey}
 use Rattle.names_realms.specs.declared.pairs.Pair.{Pair}
 use Rattle.json_fields.specs.Tags.{IsPairOfGrammar}
 use Rattle.invocation_forms.specs.Laws.{RowIsShowable}
-use Rattle.invocation_forms.specs.Shown.{IsUtf8Pair, as_text}
+use Rattle.invocation_forms.specs.Shown.{IsUtf8Pair}
 use Rattle.invocation_forms.specs.Users.{is_user_name, may_follow}
 
 follows_small : (b : ℕ) → may_follow b ≡ true → b < 128
@@ -41,14 +41,3 @@ row_is_showable s named tags = record {
   creator = user_utf8 s.creator named;
   tags = λ k d below. pair_utf8 (slice_index_or s.tags k d) (tags k d below);
 }
-
--- a text as it is shown
-pub as_text-utf8 : (bytes : List ℕ) → IsUtf8 bytes → as_text bytes ≡ bytes
-as_text-utf8 bytes is = rw (is_utf8-from_IsUtf8 bytes is) refl
-
-other_text : (bytes : List ℕ) (b : Bool) → is_utf8 bytes ≡ b → (IsUtf8 bytes → ⊥) → as_text bytes ≡ []
-other_text bytes true e ill = absurd (ill (IsUtf8-from_is_utf8 bytes e))
-other_text bytes false e ill = rw e refl
-
-pub as_text-other : (bytes : List ℕ) → (IsUtf8 bytes → ⊥) → as_text bytes ≡ []
-as_text-other bytes ill = other_text bytes (is_utf8 bytes) refl ill

@@ -8,9 +8,9 @@ ghost use Rattle.invocation_forms.specs.Names.{add_invocations};
 ghost use Rattle.invocation_forms.specs.Named.{an_invocation_name, IsNameOf};
 ghost use Rattle.invocation_forms.specs.Included.{an_include_request, IsInclude, include_data};
 
+use crate::name_values::put_names;
 use crate::named::put_name;
 use crate::names::{add_invocations, including_invocation, remove_invocations};
-use crate::shown::put_names;
 use json_fields::{
     Form, InvocationName, ReadFault, UnbuiltList, ids_from, object, optional, optional_list,
     required,

@@ -7,14 +7,14 @@ mod create;
 mod included;
 pub mod laws;
 mod masks;
+mod name_values;
 mod named;
 mod names;
 mod replies;
-mod shown;
 mod updates;
 
 pub use create::{CreateInvocation, NewInvocation};
 pub use included::IncludingInvocation;
 pub use named::NamedInvocation;
-pub use replies::{ShownInvocation, invocation_value, state_name};
+pub use replies::{ShownInvocation, state_name};
 pub use updates::UpdateInvocation;

@@ -6,8 +6,8 @@ ghost use Rattle.json_fields.specs.Kinds.{empty_text, never_empty};
 ghost use Rattle.json_fields.specs.Writing.{IsWritten, put_required};
 ghost use Rattle.invocation_forms.specs.Named.{an_invocation_name, IsNameOf, a_named, IsNamed, name_data, named_data};
 
+use crate::name_values::name_value;
 use crate::names::name;
-use crate::shown::name_value;
 use json_fields::{Form, InvocationName, Name, ReadFault, object, put, required};
 use names_realms::InvocationId;
 use serde_json::{Map, Value};

@@ -1,8 +1,7 @@
 //! The names of the members of messages.
 ghost use Rattle.std.specs.Prelude.{◌≡◌};
 ghost use Rattle.invocation_forms.specs.Names.{request_id, invocation_id, invocation, realm, deadline, tags};
-ghost use Rattle.invocation_forms.specs.Names.{create_time, created_by, finalize_start_time, finalize_time};
-ghost use Rattle.invocation_forms.specs.Names.{included_invocations, name, state, update_mask, including_invocation};
+ghost use Rattle.invocation_forms.specs.Names.{name, update_mask, including_invocation};
 ghost use Rattle.invocation_forms.specs.Names.{add_invocations, remove_invocations};
 
 use json_fields::Name;
@@ -43,46 +42,10 @@ pub(crate) fn tags() -> Name
     Name::word("tags")
 }
 
-pub(crate) fn create_time() -> Name
-    ensures { result ≡ create_time }
-{
-    Name::new("createTime", "create_time")
-}
-
-pub(crate) fn created_by() -> Name
-    ensures { result ≡ created_by }
-{
-    Name::new("createdBy", "created_by")
-}
-
-pub(crate) fn finalize_start_time() -> Name
-    ensures { result ≡ finalize_start_time }
-{
-    Name::new("finalizeStartTime", "finalize_start_time")
-}
-
-pub(crate) fn finalize_time() -> Name
-    ensures { result ≡ finalize_time }
-{
-    Name::new("finalizeTime", "finalize_time")
-}
-
-pub(crate) fn included_invocations() -> Name
-    ensures { result ≡ included_invocations }
-{
-    Name::new("includedInvocations", "included_invocations")
-}
-
 pub(crate) fn name() -> Name
     ensures { result ≡ name }
 {
     Name::word("name")
-}
-
-pub(crate) fn state() -> Name
-    ensures { result ≡ state }
-{
-    Name::word("state")
 }
 
 pub(crate) fn update_mask() -> Name

@@ -2,5 +2,4 @@ pub use Rattle.artifact_replies.proofs.TextKinds
 pub mod MethodLaws
 pub mod RequestLaws
 pub mod FaultLaws
-pub mod TextLaws
 pub mod FormLaws

@@ -1,17 +1,15 @@
 //! Replies and their texts.
-ghost use Rattle.std.specs.Prelude.{◌≡◌, ◌++◌, false, IfOk};
-ghost use Rattle.serde_json.specs.View.{view};
-ghost use Rattle.serde_json.specs.Written.{compact_text, has_float};
-ghost use Rattle.message_forms.specs.Replies.{reply_prefix, reply_text};
+ghost use Rattle.std.specs.Prelude.{◌≡◌, IfOk};
+ghost use Rattle.message_forms.specs.Replies.{reply_text};
 
 use crate::batches::{ShownExonerations, ShownResults};
 use crate::names::{test_exonerations, test_results};
 use artifact_replies::artifacts::Artifact;
 use artifact_replies::{ShownArtifacts, append_artifact, append_artifacts};
+use invocation_texts::append_invocation;
 use lists::Bytes;
-use query_forms::invocation_forms::{ShownInvocation, invocation_value};
+use query_forms::invocation_forms::ShownInvocation;
 use result_texts::{append_exonerations, append_results};
-use serde_json::{Map, Value};
 use std::alloc::{AllocError, Global};
 use std::marker::Model;
 
@@ -46,16 +44,21 @@ pub enum Reply<'r, 'i> {
     Artifact(ShownArtifact<'r>),
 }
 
-/// The text of a reply that shows a value.
-fn write_value(alloc: Global, value: &Value) -> Result<Bytes, AllocError>
-    requires { has_float (view value.now) ≡ false }
-    ensures { IfOk result (λ text. text ≡ reply_prefix ++ compact_text (view value.now)) }
+/// The text of a reply that shows nothing.
+fn write_empty(alloc: Global) -> Result<Bytes, AllocError>
+    ensures { IfOk result (λ text. text ≡ reply_text Reply.Empty) }
 {
-    let text = value.to_vec(alloc)?;
-    let mut out = Vec::with_capacity(alloc, text.len().saturating_add(5))?;
-    out.extend_from_slice(b")]}'\n")?;
-    out.extend_from_slice(text.as_slice())?;
-    Ok(Bytes::new(out))
+    let text = Vec::from_slice(alloc, b")]}'\n{}")?;
+    Ok(Bytes::new(text))
+}
+
+/// The text of a reply that shows an invocation.
+fn write_invocation(alloc: Global, shown: &ShownInvocation) -> Result<Bytes, AllocError>
+    ensures { IfOk result (λ text. text ≡ reply_text (Reply.Invocation shown.now)) }
+{
+    let prefix = Vec::from_slice(alloc, b")]}'\n")?;
+    let text = append_invocation(alloc, prefix, shown)?;
+    Ok(Bytes::new(text))
 }
 
 /// The text of a reply that shows results.
@@ -104,8 +107,8 @@ pub fn write_reply(alloc: Global, reply: &Reply) -> Result<Bytes, AllocError>
     ensures { IfOk result (λ text. text ≡ reply_text reply.now) }
 {
     match reply {
-        Reply::Empty => write_value(alloc, &Value::Object(Map::new(alloc))),
-        Reply::Invocation(shown) => write_value(alloc, &invocation_value(alloc, shown)?),
+        Reply::Empty => write_empty(alloc),
+        Reply::Invocation(shown) => write_invocation(alloc, shown),
         Reply::Results(shown) => write_results(alloc, shown),
         Reply::Exonerations(shown) => write_exonerations(alloc, shown),
         Reply::Artifacts(shown) => write_artifacts(alloc, shown),

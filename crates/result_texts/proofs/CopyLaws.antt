@@ -8,7 +8,7 @@ use Rattle.json.specs.Json.{Json, null, boolean, number, string, array, object, 
 use Rattle.json.specs.Token.{Token, bad}
 use Rattle.json.specs.Tree.{json_tokens, items_tokens, members_tokens}
 use Rattle.json.specs.Written.{Written}
-use Rattle.result_texts.specs.Tokens.{IsAdded}
+use Rattle.token_texts.specs.Tokens.{IsAdded}
 
 -- what is left of the tokens, behind those that were added
 pub record IsCopied (old new : Written) (all left : List Token) : Type 0 where

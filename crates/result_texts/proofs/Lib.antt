@@ -1,5 +1,3 @@
-pub mod TokenLaws
-pub mod ObjectLaws
 pub mod ListLaws
 pub mod NameLaws
 pub mod ValueLaws

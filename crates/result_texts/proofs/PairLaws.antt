@@ -17,7 +17,8 @@ use Rattle.json_fields.specs.NamesRealms.Variants.{IsAscending}
 use Rattle.json_fields.specs.NamesRealms.declared.pairs.Pair.{Pair}
 use Rattle.result_forms.specs.Shown.{as_text, put_pair, variant_shown}
 use Rattle.result_forms.proofs.ShownLaws.{as_text-utf8}
-use Rattle.result_texts.specs.Tokens.{pair_tokens, member_tokens, have_text_keys}
+use Rattle.result_texts.specs.Pairs.{pair_tokens, have_text_keys}
+use Rattle.token_texts.specs.Tokens.{member_tokens}
 
 -- the pairs as members, in their order
 abbrev pairs_members : List Pair → Members

@@ -2,16 +2,16 @@
 ghost use Rattle.std.specs.Prelude.{OnOk};
 ghost use Rattle.std.specs.List.{flat_map};
 ghost use Rattle.result_forms.specs.Replies.{exoneration_data};
-ghost use Rattle.result_texts.specs.Tokens.{tokens_of, IsAdded};
+ghost use Rattle.token_texts.specs.Tokens.{tokens_of, IsAdded};
 
 use crate::names::{NameRoom, id_of_exoneration, put_exoneration_name};
 use crate::pairs::put_variant;
-use crate::tokens::{begin_object, end_object, put_text};
 use crate::values::{put_bytes, put_label};
 use json::Writer;
 use json_fields::names_realms::InvocationId;
 use std::alloc::{AllocError, Global};
 use test_results::TestExoneration;
+use token_texts::{begin_object, end_object, put_text};
 
 /// Adds an exoneration. Its members stand in byte order of their names.
 fn put_exoneration(

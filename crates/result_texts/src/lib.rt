@@ -6,7 +6,6 @@ mod names;
 mod pairs;
 mod replies;
 mod results;
-mod tokens;
 mod values;
 
 pub use replies::{append_exonerations, append_results};

@@ -3,15 +3,15 @@ ghost use Rattle.std.specs.Prelude.{◌≡◌, ◌++◌, Some, OnOk, IfOk, codes
 ghost use Rattle.json_fields.specs.NameParts.Escapes.{escaped};
 ghost use Rattle.serde_json.specs.Data.{string};
 ghost use Rattle.result_forms.specs.Replies.{name_of_result, exoneration_id, name_of_exoneration};
-ghost use Rattle.result_texts.specs.Tokens.{member_tokens, IsAdded};
+ghost use Rattle.token_texts.specs.Tokens.{member_tokens, IsAdded};
 
-use crate::tokens::put_text;
 use json::Writer;
 use json_fields::name_parts::append_escaped;
 use json_fields::names_realms::{InvocationId, TestId};
 use std::alloc::{AllocError, Global};
 use std::str::from_utf8;
 use test_results::{TestExoneration, TestResult};
+use token_texts::put_text;
 
 /// Room for the names of rows, which is used again for each.
 #[derive(Drop)]

@@ -1,52 +1,19 @@
-//! Tags and variants.
+//! Variants.
 ghost use Rattle.std.specs.Prelude.{◌≡◌, ◌≢◌, [], true, OnOk};
 ghost use Rattle.std.specs.List.{flat_map};
 ghost use Rattle.std.specs.Str.{is_utf8};
 ghost use Rattle.json_fields.specs.NamesRealms.Variants.{IsAscending};
-ghost use Rattle.result_forms.specs.Shown.{pair_data, tags_shown, variant_shown};
-ghost use Rattle.result_texts.specs.Tokens.{tokens_of, member_tokens, pair_tokens, have_text_keys, IsAdded};
+ghost use Rattle.result_forms.specs.Shown.{variant_shown};
+ghost use Rattle.result_texts.specs.Pairs.{pair_tokens, have_text_keys};
+ghost use Rattle.token_texts.specs.Tokens.{member_tokens, IsAdded};
 
-use crate::tokens::{begin_array, begin_object, end_array, end_object, put_key, put_text};
-use crate::values::{put_bytes, put_value, text_of};
+use crate::values::put_value;
 use json::Writer;
 use json_fields::names_realms::{Pair, Variant};
 use result_forms::variant_value;
 use std::alloc::{AllocError, Global};
 use std::str::from_utf8;
-
-fn put_tag(out: &mut Writer, tag: &Pair) -> Result<(), AllocError>
-    ensures { OnOk result (IsAdded out.old out.new (tokens_of (pair_data tag.now))) }
-{
-    begin_object(out)?;
-    put_text(out, "key", text_of(tag.key.as_slice()))?;
-    put_bytes(out, "value", tag.value.as_slice())?;
-    end_object(out)?;
-    Ok(())
-}
-
-fn put_each_tag(out: &mut Writer, tags: &[Pair]) -> Result<(), AllocError>
-    ensures { OnOk result
-        (IsAdded out.old out.new (flat_map (λ tag. tokens_of (pair_data tag)) tags.now)) }
-{
-    for tag in tags {
-        put_tag(out, tag)?;
-    }
-    Ok(())
-}
-
-/// Adds the list of tags, where there are any.
-pub(crate) fn put_tags(out: &mut Writer, name: &str, tags: &[Pair]) -> Result<(), AllocError>
-    ensures { OnOk result (IsAdded out.old out.new (member_tokens name.now (tags_shown tags.now))) }
-{
-    if tags.is_empty() {
-        return Ok(());
-    }
-    put_key(out, name)?;
-    begin_array(out)?;
-    put_each_tag(out, tags)?;
-    end_array(out)?;
-    Ok(())
-}
+use token_texts::{begin_object, end_object, put_key, put_text, text_of};
 
 fn put_pair(out: &mut Writer, pair: &Pair) -> Result<(), AllocError>
     ensures { OnOk result (IsAdded out.old out.new (pair_tokens pair.now)) }

@@ -4,16 +4,16 @@ ghost use Rattle.serde_json.specs.Data.{object, no_members};
 ghost use Rattle.serde_json.specs.Written.{compact_text};
 ghost use Rattle.json_fields.specs.Writing.{put_list};
 ghost use Rattle.result_forms.specs.Replies.{result_data, exoneration_data};
-ghost use Rattle.result_texts.specs.Tokens.{member_tokens, list_shown, IsAdded};
+ghost use Rattle.token_texts.specs.Tokens.{member_tokens, list_shown, IsAdded};
 
 use crate::exonerations::put_exonerations;
 use crate::results::put_results;
-use crate::tokens::{begin_array, begin_object, end_array, end_object, put_key};
 use json::Writer;
 use json_fields::Name;
 use json_fields::names_realms::InvocationId;
 use std::alloc::{AllocError, Global};
 use test_results::{TestExoneration, TestResult};
+use token_texts::{begin_array, begin_object, end_array, end_object, put_key};
 
 /// Adds the list of results, where there are any.
 fn put_result_list(

@@ -2,18 +2,16 @@
 ghost use Rattle.std.specs.Prelude.{OnOk};
 ghost use Rattle.std.specs.List.{flat_map};
 ghost use Rattle.result_forms.specs.Replies.{result_data};
-ghost use Rattle.result_texts.specs.Tokens.{tokens_of, IsAdded};
+ghost use Rattle.token_texts.specs.Tokens.{tokens_of, IsAdded};
 
 use crate::names::{NameRoom, put_result_name};
-use crate::pairs::{put_tags, put_variant};
-use crate::tokens::{begin_object, end_object, put_text};
-use crate::values::{
-    put_bytes, put_flag, put_label, put_properties, put_reason, put_spelled, put_status,
-};
+use crate::pairs::put_variant;
+use crate::values::{put_bytes, put_flag, put_label, put_properties, put_reason, put_status};
 use json::Writer;
 use json_fields::names_realms::InvocationId;
 use std::alloc::{AllocError, Global};
 use test_results::TestResult;
+use token_texts::{begin_object, end_object, put_optional, put_tags, put_text};
 
 /// Adds a result. Its members stand in byte order of their names.
 fn put_result(
@@ -26,13 +24,13 @@ fn put_result(
     ensures { OnOk result (IsAdded out.old out.new (tokens_of (result_data id.now row.now))) }
 {
     begin_object(out)?;
-    put_spelled(alloc, out, "duration", &row.duration)?;
+    put_optional(alloc, out, "duration", &row.duration)?;
     put_flag(out, "expected", row.expected)?;
     put_reason(out, "failureReason", row.message.as_slice())?;
     put_result_name(out, room, id, row)?;
     put_properties(alloc, out, "properties", row.properties.as_slice())?;
     put_text(out, "resultId", row.result.as_str())?;
-    put_spelled(alloc, out, "startTime", &row.start)?;
+    put_optional(alloc, out, "startTime", &row.start)?;
     put_status(out, "status", row.status)?;
     put_bytes(out, "summaryHtml", row.summary.as_slice())?;
     put_tags(out, "tags", row.tags.as_slice())?;

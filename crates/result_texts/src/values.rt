@@ -1,5 +1,5 @@
 //! The values of a row, each as a member that is left out where it has none.
-ghost use Rattle.std.specs.Prelude.{◌≡◌, ◌∷◌, [], true, false, Some, OnOk, codes, option_map, length};
+ghost use Rattle.std.specs.Prelude.{◌≡◌, ◌∷◌, [], true, false, Some, OnOk, codes, length};
 ghost use Rattle.std.specs.List.{list_all};
 ghost use Rattle.json.specs.Align.{is_good};
 ghost use Rattle.serde_json.specs.Data.{string};
@@ -7,27 +7,16 @@ ghost use Rattle.serde_json.specs.View.{view};
 ghost use Rattle.serde_json.specs.Written.{has_float};
 ghost use Rattle.json_fields.specs.NamesRealms.Variants.{label_of};
 ghost use Rattle.result_forms.specs.TextKinds.Statuses.{status_name};
-ghost use Rattle.result_forms.specs.Shown.{as_text, text_shown, flag_shown, reason_shown, properties_shown};
-ghost use Rattle.result_texts.specs.Tokens.{tokens_of, member_tokens, IsAdded};
+ghost use Rattle.result_forms.specs.Shown.{text_shown, flag_shown, reason_shown, properties_shown};
+ghost use Rattle.token_texts.specs.Tokens.{tokens_of, member_tokens, IsAdded};
 
-use crate::tokens::{begin_object, end_object, put_key, put_text, put_true};
 use json::{Reader, Scratch, Token, Writer};
-use json_fields::SpelledOut;
 use json_fields::names_realms::{Status, Variant};
 use result_forms::properties_value;
 use serde_json::Value;
 use std::alloc::{AllocError, Global};
 use std::str::from_utf8;
-
-/// The text of bytes: the empty one where they aren't UTF-8.
-pub(crate) fn text_of(bytes: &[u8]) -> &str
-    ensures { result.now ≡ as_text bytes.now }
-{
-    match from_utf8(bytes) {
-        Ok(text) => text,
-        Err(_) => "",
-    }
-}
+use token_texts::{begin_object, end_object, put_filled, put_key, put_text, put_true, text_of};
 
 /// The name of a status.
 fn status_text(status: Status) -> &'static str
@@ -46,11 +35,7 @@ pub(crate) fn put_bytes(out: &mut Writer, name: &str, bytes: &[u8]) -> Result<()
     ensures { OnOk result
         (IsAdded out.old out.new (member_tokens name.now (text_shown bytes.now))) }
 {
-    let text = text_of(bytes);
-    if text.is_empty() {
-        return Ok(());
-    }
-    put_text(out, name, text)
+    put_filled(out, name, text_of(bytes))
 }
 
 pub(crate) fn put_flag(out: &mut Writer, name: &str, on: bool) -> Result<(), AllocError>
@@ -69,26 +54,6 @@ pub(crate) fn put_status(out: &mut Writer, name: &str, status: Status) -> Result
         (IsAdded out.old out.new (member_tokens name.now (Some (string (status_name status))))) }
 {
     put_text(out, name, status_text(status))
-}
-
-/// Adds a value with one text, where there is one.
-pub(crate) fn put_spelled<T: SpelledOut>(
-    alloc: Global,
-    out: &mut Writer,
-    name: &str,
-    x: &Option<T>,
-) -> Result<(), AllocError>
-    ensures { OnOk result (IsAdded out.old out.new
-        (member_tokens name.now (option_map (λ a. string (T.spelling a)) x.now))) }
-{
-    match x {
-        Some(x) => {
-            let text = x.to_spelling(alloc)?;
-            put_text(out, name, text.as_str())?;
-            Ok(())
-        }
-        None => Ok(()),
-    }
 }
 
 /// Adds the reason of a failure by its message.

@@ -3,8 +3,8 @@ use Rattle.std.specs.Prelude.{ℕ, List, Some, codes}
 use Rattle.serde_json.specs.Data.{string}
 use Rattle.result_forms.specs.Shown.{text_shown}
 use Rattle.result_forms.specs.Replies.{exoneration_id}
-use Rattle.result_texts.specs.Tokens.{member_tokens}
-use Rattle.result_texts.proofs.TokenLaws.{added_as, added_at, also}
+use Rattle.token_texts.specs.Tokens.{member_tokens}
+use Rattle.token_texts.proofs.TokenLaws.{added_as, added_at, also}
 use Rattle.result_texts.proofs.RowLaws.{exoneration_tokens}
 use Rattle.result_texts.proofs.exonerations.put_exoneration.Goals as goal
 

@@ -1,7 +1,7 @@
 use Rattle.test_results.specs.declared.exoneration.TestExoneration.{TestExoneration}
 use Rattle.result_forms.specs.Replies.{exoneration_data}
-use Rattle.result_texts.specs.Tokens.{tokens_of}
-use Rattle.result_texts.proofs.ListLaws.{rows_none, rows_more, rows_all}
+use Rattle.token_texts.specs.Tokens.{tokens_of}
+use Rattle.token_texts.proofs.ListLaws.{rows_none, rows_more, rows_all}
 use Rattle.result_texts.proofs.exonerations.put_exonerations.Goals as goal
 
 pub loop-row-init : goal.loop-row-init

@@ -1,7 +1,7 @@
 use Rattle.std.proofs.Common.{sym, subst}
 use Rattle.std.specs.Str.{IsUtf8}
 use Rattle.std.proofs.lemmas.Str.{is_utf8-from_IsUtf8}
-use Rattle.result_texts.proofs.ValueLaws.{not_utf8}
+use Rattle.token_texts.proofs.MemberLaws.{not_utf8}
 use Rattle.result_texts.proofs.pairs.has_text_key.Goals as goal
 
 pub returns-in-Ok : goal.returns-in-Ok

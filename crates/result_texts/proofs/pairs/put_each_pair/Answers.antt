@@ -1,5 +1,5 @@
-use Rattle.result_texts.specs.Tokens.{pair_tokens}
-use Rattle.result_texts.proofs.ListLaws.{rows_none, rows_more, rows_all}
+use Rattle.result_texts.specs.Pairs.{pair_tokens}
+use Rattle.token_texts.proofs.ListLaws.{rows_none, rows_more, rows_all}
 use Rattle.result_texts.proofs.pairs.put_each_pair.Goals as goal
 
 pub loop-pair-init : goal.loop-pair-init

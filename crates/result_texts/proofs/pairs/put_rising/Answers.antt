@@ -1,4 +1,4 @@
-use Rattle.result_texts.proofs.TokenLaws.{added_as, also}
+use Rattle.token_texts.proofs.TokenLaws.{added_as, also}
 use Rattle.result_texts.proofs.PairLaws.{variant_tokens}
 use Rattle.result_texts.proofs.pairs.put_rising.Goals as goal
 

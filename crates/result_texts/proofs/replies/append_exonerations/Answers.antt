@@ -1,5 +1,5 @@
 use Rattle.result_forms.specs.Replies.{exoneration_data}
-use Rattle.result_texts.proofs.TokenLaws.{also}
+use Rattle.token_texts.proofs.TokenLaws.{also}
 use Rattle.result_texts.proofs.ListLaws.{batch_done}
 use Rattle.result_texts.proofs.replies.append_exonerations.Goals as goal
 

@@ -2,8 +2,8 @@ use Rattle.std.proofs.Common.{sym, ◌∙◌}
 use Rattle.result_forms.specs.Replies.{exoneration_data}
 use Rattle.json.specs.Token.{key}
 use Rattle.std.specs.Prelude.{◌∷◌, []}
-use Rattle.result_texts.proofs.TokenLaws.{added_as, added_at, also}
-use Rattle.result_texts.proofs.ListLaws.{list_member}
+use Rattle.token_texts.proofs.TokenLaws.{added_as, added_at, also}
+use Rattle.token_texts.proofs.ListLaws.{list_member}
 use Rattle.result_texts.proofs.replies.put_exoneration_list.Goals as goal
 
 pub returns : goal.returns

@@ -1,5 +1,5 @@
 use Rattle.std.proofs.Common.{sym, ◌∙◌}
-use Rattle.result_texts.proofs.TokenLaws.{added_as, also}
+use Rattle.token_texts.proofs.TokenLaws.{added_as, also}
 use Rattle.result_texts.proofs.ValueLaws.{reason_tokens}
 use Rattle.result_texts.proofs.values.put_reason.Goals as goal
 

@@ -6,8 +6,8 @@ use Rattle.json.specs.Token.{Token}
 use Rattle.serde_json.specs.View.{view}
 use Rattle.serde_json.specs.Written.{outline}
 use Rattle.serde_json.proofs.Texts.{tokens_from_order}
-use Rattle.result_texts.specs.Tokens.{tokens_of}
-use Rattle.result_texts.proofs.TokenLaws.{added_as}
+use Rattle.token_texts.specs.Tokens.{tokens_of}
+use Rattle.token_texts.proofs.TokenLaws.{added_as}
 use Rattle.result_texts.proofs.CopyLaws.{good_tokens}
 use Rattle.result_texts.proofs.values.put_value.Goals as goal
 

@@ -1,7 +1,0 @@
-use Rattle.std.proofs.Common.{◌≡◌, map, take}
-use Rattle.serde_json.specs.View.{view}
-use Rattle.invocation_forms.specs.Shown.{pair_data}
-use Rattle.invocation_forms.proofs.shown.pairs_value.Given as goal
-
-abbrev pub invariant-loop-pair : goal.invariant-loop-pair
-invariant-loop-pair l = map view l.list.items ≡ map pair_data (take l.pair-index l.pairs)
