@@ -84,6 +84,15 @@ pub struct PatientStream<C: Clock + Drop, S: Read + Write + OpenStream + Drop> {
     reads: Duration,
     writes: Duration,
     has_parted: Cell<bool>,
+    told: Told,
+}
+
+/// How long a stream was last told that its reads, and its writes, may wait. To tell it so again is
+/// a call of the system, and most reads and writes may wait as long as the last one.
+#[derive(Drop)]
+struct Told {
+    read: Cell<Option<Duration>>,
+    write: Cell<Option<Duration>>,
 }
 
 impl<C: Clock + Drop, S: Read + Write + OpenStream + Drop> Model for PatientStream<C, S> {
@@ -133,6 +142,10 @@ impl<C: Clock + Drop, S: Read + Write + OpenStream + Drop> PatientStream<C, S> {
             reads: Duration::ZERO,
             writes: Duration::ZERO,
             has_parted: Cell::new(false),
+            told: Told {
+                read: Cell::new(None),
+                write: Cell::new(None),
+            },
         }
     }
 
@@ -157,7 +170,7 @@ impl<C: Clock + Drop, S: Read + Write + OpenStream + Drop> Read for PatientStrea
     {
         self.writes = Duration::ZERO;
         let (left, begin) = self.begin_read()?;
-        self.stream.set_read_timeout(Some(left))?;
+        self.set_read_timeout(Some(left))?;
         let given = self.stream.read(room);
         self.reads = end_wait(&self.clock, self.reads, begin);
         given
@@ -172,7 +185,7 @@ impl<C: Clock + Drop, S: Read + Write + OpenStream + Drop> Write for PatientStre
     {
         self.reads = Duration::ZERO;
         let (left, begin) = begin_wait(&self.clock, self.limits.turn, self.writes)?;
-        self.stream.set_write_timeout(Some(left))?;
+        self.set_write_timeout(Some(left))?;
         let taken = self.stream.write(piece);
         self.writes = end_wait(&self.clock, self.writes, begin);
         taken
@@ -197,11 +210,21 @@ impl<C: Clock + Drop, S: Read + Write + OpenStream + Drop> OpenStream for Patien
 
     /// A read sets this time by itself.
     fn set_read_timeout(&self, most: Option<Duration>) -> io::Result<()> {
-        self.stream.set_read_timeout(most)
+        if self.told.read.get() != most {
+            self.told.read.set(None);
+            self.stream.set_read_timeout(most)?;
+            self.told.read.set(most);
+        }
+        Ok(())
     }
 
     /// A write sets this time by itself.
     fn set_write_timeout(&self, most: Option<Duration>) -> io::Result<()> {
-        self.stream.set_write_timeout(most)
+        if self.told.write.get() != most {
+            self.told.write.set(None);
+            self.stream.set_write_timeout(most)?;
+            self.told.write.set(most);
+        }
+        Ok(())
     }
 }

@@ -284,6 +284,63 @@ fn a_slow_peer_gets_no_further_time(rt: HostRuntime) {
     assert_eq!(rt; passed.get(), 200);
 }
 
+/// A stream that gives and takes a byte at once, and counts how often it is told how long to wait.
+#[derive(Drop)]
+struct Prompt<'a> {
+    told: &'a Cell<(u64, u64)>,
+}
+
+impl<'a> Read for Prompt<'a> {
+    fn read(&mut self, room: &mut [u8]) -> io::Result<usize> {
+        Ok(room.len().min(1))
+    }
+}
+
+impl<'a> Write for Prompt<'a> {
+    fn write(&mut self, piece: &[u8]) -> io::Result<usize> {
+        Ok(piece.len().min(1))
+    }
+
+    fn flush(&mut self) -> io::Result<()> {
+        Ok(())
+    }
+}
+
+impl<'a> OpenStream for Prompt<'a> {
+    fn set_read_timeout(&self, _most: Option<Duration>) -> io::Result<()> {
+        let (reads, writes) = self.told.get();
+        self.told.set((reads.saturating_add(1), writes));
+        Ok(())
+    }
+
+    fn set_write_timeout(&self, _most: Option<Duration>) -> io::Result<()> {
+        let (reads, writes) = self.told.get();
+        self.told.set((reads, writes.saturating_add(1)));
+        Ok(())
+    }
+}
+
+#[test]
+fn a_stream_is_told_anew_only_where_its_time_changes(rt: HostRuntime) {
+    let passed = Cell::new(0u64);
+    let told = Cell::new((0, 0));
+    let seconds = Seconds { passed: &passed };
+    let prompt = Prompt { told: &told };
+    let mut stream = PatientStream::new(seconds, prompt, Limits::standard());
+    let mut room = [0u8; 4];
+    for _ in 0..3 {
+        assert!(rt; stream.read(&mut room).is_ok() && stream.write(b"abc").is_ok());
+    }
+    assert_eq!(rt; told.get(), (1, 1));
+    assert!(rt;
+        stream
+            .set_read_timeout(Some(Duration::from_secs(1)))
+            .is_ok()
+    );
+    assert!(rt; stream.read(&mut room).is_ok() && stream.write(b"abc").is_ok());
+    assert_eq!(rt; told.get(), (3, 1));
+}
+
 #[test]
 fn a_peer_that_still_sends_gets_the_last_reply(rt: HostRuntime) -> Result<(), Fail> {
     let limits = Limits {

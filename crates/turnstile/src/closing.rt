@@ -1,5 +1,5 @@
 //! The beginning and the end of a turnstile.
-ghost use Rattle.std.specs.Prelude.{◌≡◌, ℕ, ◌<◌, ◌≤◌, ◌^◌, List, [], ◌∷◌, Some, None, IfOk, IfErr, length};
+ghost use Rattle.std.specs.Prelude.{◌≡◌, ℕ, ◌≤◌, ◌^◌, List, [], ◌∷◌, Some, None, IfOk, IfErr};
 ghost use Rattle.turnstile.specs.Rule.{IsOf, own_of, idle, ending};
 ghost use Rattle.turnstile.specs.Seats.{first_known, IsWhole};
 
@@ -12,7 +12,6 @@ use atomic_table::{Refused, Table};
 use std::alloc::Global;
 use std::snapshot::Snapshot;
 use std::sync::Wait;
-use std::sync::atomic::AtomicU64;
 
 /// A table with the value at home, and its first seat. Hands the value back for want of memory.
 pub(crate) fn open<T: Held>(alloc: Global, held: T) -> Result<(Board<T>, Place<T>), T>
@@ -49,10 +48,8 @@ fn only_one<T>(mut slots: Vec<Option<T>>) -> T
 pub(crate) fn take_last<T: Held, R: Wait>(
     rt: &R,
     board: &Board<T>,
-    bells: &[AtomicU64],
     place: &mut Place<T>,
 ) -> T
-    requires bells { 0 < length bells.now }
     requires table { IsOf place.old.table_id board.now.shared.table_id }
     requires idle { place.old.me ≡ (idle (own_of place.old.me.0), []) }
     requires low { (own_of place.old.me.0).drawn ≤ 2 ^ 63 }
@@ -63,7 +60,7 @@ pub(crate) fn take_last<T: Held, R: Wait>(
         × IsWhole T.by (own_of place.old.me.0) log }
 {
     let ticket = draw_last(rt, board, place);
-    wait(rt, board, bells, place, ticket);
+    wait(rt, board, place, ticket);
     let Some(value) = take(board, place, ticket) else {
         unreachable!()
     };

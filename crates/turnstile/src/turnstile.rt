@@ -8,24 +8,23 @@ use crate::closing::{free, open, take_last};
 use crate::seat::{SPLITS, Seat, first_seat, split_seat};
 use crate::steps::{join, split};
 use crate::turns::{draw_next, serve};
-use crate::waiting::{quiet_bells, ring, wait};
+use crate::waiting::{enter, wait};
 use crate::{Call, Held, Spent};
 use std::alloc::Global;
 use std::marker::Model;
-use std::sync::Wait;
-use std::sync::atomic::AtomicU64;
+use std::sync::{Mutex, Wait};
 
 /// A value that callers take turns with. Contracts see which turnstile it is, and the start of its
 /// history.
 #[derive(Drop)]
 pub struct Turnstile<T: Held> {
     board: Board<T>,
-    bells: Vec<AtomicU64>,
+    /// Who draws a ticket has it to itself, so that nobody waits with one.
+    entrance: Mutex<()>,
 }
 
 impl<T: Held> Model for Turnstile<T> {
     ghost use Rattle.turnstile.specs.Seats.{Origin};
-    ghost use Rattle.std.specs.Prelude.{◌<◌, length};
     ghost use Rattle.turnstile.specs.Rule.{HasShape};
 
     ghost Value = { Origin T.Start };
@@ -35,7 +34,7 @@ impl<T: Held> Model for Turnstile<T> {
       start = T.start t.board.shared.key.value;
     } };
 
-    ghost invariant = { λ t. HasShape t.board.shared.table_id × (0 < length t.bells.items) };
+    ghost invariant = { λ t. HasShape t.board.shared.table_id };
 }
 
 impl<T: Held> Turnstile<T> {
@@ -47,11 +46,11 @@ impl<T: Held> Turnstile<T> {
             × (r.1.knows ≡ first_known)) }
         ensures memory { IfErr result (λ v. v ≡ held) }
     {
-        let Ok(bells) = quiet_bells(alloc) else {
-            return Err(held);
-        };
         match open(alloc, held) {
-            Ok((board, place)) => Ok((Turnstile { board, bells }, first_seat(place))),
+            Ok((board, place)) => {
+                let entrance = Mutex::new(());
+                Ok((Turnstile { board, entrance }, first_seat(place)))
+            }
             Err(held) => Err(held),
         }
     }
@@ -80,18 +79,13 @@ impl<T: Held> Turnstile<T> {
         ensures spent { IfErr result (λ _. (seat.new.knows.drawn ≡ 2 ^ 63)
             × (seat.new.knows.seen ≡ seat.old.knows.seen)) }
     {
+        let inside = enter(rt, &self.entrance);
         let Some(ticket) = draw_next(rt, &self.board, &mut seat.place) else {
             return Err(Spent);
         };
-        wait(
-            rt,
-            &self.board,
-            self.bells.as_slice(),
-            &mut seat.place,
-            ticket,
-        );
+        wait(rt, &self.board, &mut seat.place, ticket);
         let answer = serve(&self.board, &mut seat.place, ticket, seat.number, call);
-        ring(self.bells.as_slice(), ticket + 1);
+        drop(inside);
         Ok(answer)
     }
 
@@ -128,8 +122,8 @@ impl<T: Held> Turnstile<T> {
             × (T.entries result ≡ length log) × IsWhole T.by seat.knows log }
     {
         let mut place = seat.into_place();
-        let Turnstile { board, bells } = self;
-        let held = take_last(rt, &board, bells.as_slice(), &mut place);
+        let Turnstile { board, entrance: _ } = self;
+        let held = take_last(rt, &board, &mut place);
         free(board, place);
         held
     }

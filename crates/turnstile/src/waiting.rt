@@ -1,47 +1,45 @@
-//! How callers wait for their turn, and who wakes them.
-ghost use Rattle.std.specs.Prelude.{◌≡◌, ℕ, ◌<◌, [], ◌∷◌, Some, length, IfOk};
+//! How callers come to their turn.
+ghost use Rattle.std.specs.Prelude.{◌≡◌, [], ◌∷◌, Some};
 ghost use Rattle.turnstile.specs.Rule.{IsOf, own_of, waiting, holding};
 ghost use Rattle.turnstile.specs.Steps.{Finds};
 
 use crate::Held;
 use crate::board::{Board, Place};
 use crate::steps::look;
-use std::alloc::{AllocError, Global};
-use std::sync::Wait;
-use std::sync::atomic::{AtomicU64, Ordering};
+use std::hint::spin_loop;
+use std::sync::{Mutex, MutexGuard, Wait};
 
-/// Callers sleep at so many bells. Those whose tickets are so many apart share one.
-const BELLS: usize = 64;
+/// So often a caller looks whether the entrance is free before it sleeps: for as long as a few
+/// turns take, since to sleep and be woken takes longer than one.
+const LOOKS: u32 = 60;
 
-/// A sleep compares 32 bits of a bell.
-const LOW: u64 = 0xffff_ffff;
+/// So many pauses of the processor lie between two looks, each of which takes the word away from
+/// whoever leaves.
+const PAUSES: u32 = 4;
 
-/// The bells, which nobody has rung.
-pub(crate) fn quiet_bells(alloc: Global) -> Result<Vec<AtomicU64>, AllocError>
-    ensures { IfOk result (λ v. 0 < length v.items) }
-{
-    let mut bells = Vec::new(alloc);
-    for _ in 0..BELLS {
-        bells.push(AtomicU64::new(0))?;
+/// Waits until the caller has the entrance to itself, as long as it keeps the guard.
+///
+/// Whoever is there first goes in, also before one that is still being woken: in the order of
+/// their tickets each turn would wait until the next caller is awake.
+pub(crate) fn enter<'a, R: Wait>(rt: &R, entrance: &'a Mutex<()>) -> MutexGuard<'a, ()> {
+    for _ in 0..LOOKS {
+        if let Some(inside) = entrance.try_lock() {
+            return inside;
+        }
+        for _ in 0..PAUSES {
+            spin_loop();
+        }
     }
-    Ok(bells)
+    entrance.lock(rt)
 }
 
-fn bell_of(bells: &[AtomicU64], ticket: u64) -> &AtomicU64
-    requires { 0 < length bells.now }
-{
-    &bells[(ticket % bells.len() as u64) as usize]
-}
-
-/// Sleeps at the ticket's bell until it is the ticket's turn.
+/// Looks until it is the ticket's turn. Who has the entrance to itself finds it at the first look.
 pub(crate) fn wait<T: Held, R: Wait>(
     rt: &R,
     board: &Board<T>,
-    bells: &[AtomicU64],
     place: &mut Place<T>,
     ticket: u64,
 )
-    requires bells { 0 < length bells.now }
     requires table { IsOf place.old.table_id board.now.shared.table_id }
     requires waits { place.old.me ≡ (waiting ticket (own_of place.old.me.0), []) }
     ensures table { place.new.table_id ≡ place.old.table_id }
@@ -50,30 +48,11 @@ pub(crate) fn wait<T: Held, R: Wait>(
         × T.stands v (T.start board.now.shared.key.value) (own_of place.new.me.0).seen
         × Finds T.by ticket (own_of place.old.me.0) (own_of place.new.me.0) }
 {
-    let bell = bell_of(bells, ticket);
     for _ in rt.forever() {
-        // First the bell, then the look: a pass that the look misses rings after the bell was read
-        // here, so that the sleep below sees another number, or is woken.
-        let rung = bell.load(Ordering::SeqCst);
-        // One look: each further one before a sleep made turns slower.
         if look(board, place, ticket) == ticket {
             return;
         }
-        // It ends at a ring, for this ticket or for another one of the bell, or for no reason:
-        // hence the loop.
-        bell.park(rt, (rung & LOW) as u32);
+        spin_loop();
     }
     unreachable!()
-}
-
-/// Wakes the callers at the ticket's bell. It is called after the turn was passed.
-pub(crate) fn ring(bells: &[AtomicU64], ticket: u64)
-    requires { 0 < length bells.now }
-{
-    let bell = bell_of(bells, ticket);
-    // First the number: who has read the old one and doesn't sleep yet won't.
-    bell.fetch_add(1, Ordering::SeqCst);
-    // All: another ticket of this bell may sleep here too, and to wake that one alone would leave
-    // the turn unused.
-    bell.wake_all();
 }
