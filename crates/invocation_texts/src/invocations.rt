@@ -10,6 +10,9 @@ use json::Writer;
 use std::alloc::{AllocError, Global};
 use token_texts::{begin_object, end_object, put_optional, put_spelled, put_tags, put_text};
 
+/// Room for the name of an invocation, whose id has at most 100 bytes, and for most creators.
+const NAME_ROOM: usize = 128;
+
 /// Adds an invocation. Its members stand in byte order of their names.
 fn put_invocation(
     alloc: Global,
@@ -45,7 +48,7 @@ pub fn append_invocation(
         (λ whole. whole.items ≡ text.items ++ compact_text (invocation_data shown.now)) }
 {
     let mut out = Writer::new(text);
-    let mut room = String::new(alloc);
+    let mut room = String::with_capacity(alloc, NAME_ROOM)?;
     put_invocation(alloc, &mut out, &mut room, shown)?;
     Ok(out.into_inner())
 }

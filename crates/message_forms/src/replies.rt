@@ -52,11 +52,15 @@ fn write_empty(alloc: Global) -> Result<Bytes, AllocError>
     Ok(Bytes::new(text))
 }
 
+/// Room for the text of most invocations.
+const INVOCATION_ROOM: usize = 512;
+
 /// The text of a reply that shows an invocation.
 fn write_invocation(alloc: Global, shown: &ShownInvocation) -> Result<Bytes, AllocError>
     ensures { IfOk result (λ text. text ≡ reply_text (Reply.Invocation shown.now)) }
 {
-    let prefix = Vec::from_slice(alloc, b")]}'\n")?;
+    let mut prefix = Vec::with_capacity(alloc, INVOCATION_ROOM)?;
+    prefix.extend_from_slice(b")]}'\n")?;
     let text = append_invocation(alloc, prefix, shown)?;
     Ok(Bytes::new(text))
 }

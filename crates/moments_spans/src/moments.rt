@@ -14,6 +14,9 @@ use name_parts::{NameFault, append};
 use std::alloc::{AllocError, Global};
 use std::marker::Model;
 
+/// How many bytes the longest text of a moment has: one with six decimals.
+const LONGEST: usize = 27;
+
 /// A moment of a year from 1 to 9999, in microseconds since 1970-01-01T00:00:00Z.
 #[derive(Clone, Copy, Debug, PartialEq, Eq, PartialOrd, Ord)]
 pub struct Moment {
@@ -221,8 +224,9 @@ impl Moment {
         ensures range { IsInYears self.now }
         ensures text { IfOk result (λ text. string_bytes text ≡ moment_text self.now) }
     {
-        let mut text = String::new(alloc);
-        push_moment(&mut text, self.micros)?;
+        let micros = self.micros;
+        let mut text = String::with_capacity(alloc, LONGEST)?;
+        push_moment(&mut text, micros)?;
         Ok(text)
     }
 
