@@ -8,7 +8,7 @@ use Rattle.result_journal.specs.Steps.{OtherStays}
 use Rattle.result_journal.specs.declared.journal.Journal.{Journal}
 use Rattle.policy_tables.specs.declared.tables.PolicyTables.{PolicyTables}
 use Rattle.journal_book.specs.Books.{HasWorldOf, Stands}
-use Rattle.service_effects.specs.Service.{ServiceWorld, empty_service}
+use Rattle.serve_runs.specs.ServiceMachine.ServiceEffects.Service.{ServiceWorld, empty_service}
 use Rattle.serve_runs.specs.ServiceMachine.Machines.{Plays}
 use Rattle.serve_runs.specs.ServiceCore.Service.{Service, service_of}
 use Rattle.serve_runs.specs.RecordDesk.Clocked.{IsClocked}

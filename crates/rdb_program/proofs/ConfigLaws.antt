@@ -6,7 +6,7 @@ use Rattle.outside.specs.Ends.{Incoming}
 use Rattle.policy_tables.specs.declared.tables.PolicyTables.{PolicyTables}
 use Rattle.policy_document.specs.Document.{tables_of}
 use Rattle.permissions.specs.Faults.{IsSound}
-use Rattle.policy_reading.specs.Reading.{IsPolicyOf, IsFirstFault, IsTablesFault, size, toml, shape, tables, text, cycle, owners, shape_fault, most_bytes}
+use Rattle.workload_runs.specs.PolicyReading.Reading.{IsPolicyOf, IsFirstFault, IsTablesFault, size, toml, shape, tables, text, cycle, owners, shape_fault, most_bytes}
 use Rattle.permissions.specs.declared.faults.PolicyFault.{PolicyFault}
 use Rattle.permissions.specs.declared.faults.PolicyFault.TheVariants as faults
 use Rattle.rdb_program.specs.Configured.{Accepts, Refuses, most_read}

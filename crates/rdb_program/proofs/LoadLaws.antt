@@ -11,7 +11,7 @@ use Rattle.journal_book.specs.Worlds.{Play}
 use Rattle.journal_book.proofs.StepLaws.{settled_reads}
 use Rattle.outside.specs.Ends.{Ends, Incoming}
 use Rattle.outside.specs.Moments.{AreSteps}
-use Rattle.policy_reading.specs.Reading.{IsPolicyOf}
+use Rattle.workload_runs.specs.PolicyReading.Reading.{IsPolicyOf}
 use Rattle.program_words.specs.Grammar.{Says}
 use Rattle.program_words.specs.declared.command.Command.TheVariants.{Workload}
 use Rattle.program_words.specs.declared.workload_words.WorkloadWords.{WorkloadWords}
@@ -20,7 +20,7 @@ use Rattle.result_journal.specs.Journals.{disk_of, end_of, is_settled}
 use Rattle.result_journal.specs.declared.journal.Journal.{Journal}
 use Rattle.policy_tables.specs.declared.tables.PolicyTables.{PolicyTables}
 use Rattle.serve_runs.specs.RecordDesk.RequestDemands.Settings.{Settings}
-use Rattle.service_effects.specs.Service.{ServiceWorld}
+use Rattle.serve_runs.specs.ServiceMachine.ServiceEffects.Service.{ServiceWorld}
 use Rattle.serve_runs.specs.ServiceCore.History.{Entry, IsTimed, Leads, Tells}
 use Rattle.serve_runs.specs.RecordDesk.Standing.{HasBook, HasServed, MayStand, Rises, RoseIf, exchange_of}
 use Rattle.serve_runs.specs.ServiceCore.Counting.{counts_of}

@@ -7,7 +7,7 @@ use Rattle.outside.specs.declared.whole.WriteEnd.{WriteEnd}
 use Rattle.outside.specs.declared.whole.WriteEnd.TheVariants as write_ends
 use Rattle.fault_counts.specs.Causes.{Rose}
 use Rattle.policy_tables.specs.declared.tables.PolicyTables.{PolicyTables}
-use Rattle.policy_reading.specs.Reading.{IsPolicyOf, IsFirstFault}
+use Rattle.workload_runs.specs.PolicyReading.Reading.{IsPolicyOf, IsFirstFault}
 use Rattle.permissions.specs.declared.faults.PolicyFault.{PolicyFault}
 use Rattle.disks.specs.Moments.{AtEachMoment, Told}
 use Rattle.result_journal.specs.Grammar.{head, records}
@@ -18,7 +18,7 @@ use Rattle.result_journal.specs.declared.journal.Journal.{Journal}
 use Rattle.result_journal.specs.declared.opening.OpenFault.{OpenFault}
 use Rattle.result_journal.specs.declared.opening.OpenFault.TheVariants as openings
 use Rattle.journal_book.specs.Books.{HasWorldOf, Stands}
-use Rattle.service_effects.specs.Service.{ServiceWorld, empty_service}
+use Rattle.serve_runs.specs.ServiceMachine.ServiceEffects.Service.{ServiceWorld, empty_service}
 use Rattle.serve_runs.specs.ServiceMachine.Machines.{Plays}
 use Rattle.serve_runs.specs.ServiceCore.Service.{Service, service_of}
 use Rattle.tellers.specs.Exchange.{Exchange}

@@ -4,7 +4,7 @@ use Rattle.fault_counts.specs.Causes.{Rose}
 use Rattle.outside.specs.Bytes.{Gave, IsEnd}
 use Rattle.outside.specs.Ends.{Incoming}
 use Rattle.policy_tables.specs.declared.tables.PolicyTables.{PolicyTables}
-use Rattle.policy_reading.specs.Reading.{IsPolicyOf, IsFirstFault}
+use Rattle.workload_runs.specs.PolicyReading.Reading.{IsPolicyOf, IsFirstFault}
 use Rattle.permissions.specs.declared.faults.PolicyFault.{PolicyFault}
 use Rattle.rdb_program.specs.declared.ending.Ending.{Ending}
 use Rattle.rdb_program.specs.declared.ending.Ending.TheVariants.{WordsRefused, Shown, ConfigFault}

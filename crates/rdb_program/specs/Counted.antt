@@ -1,6 +1,6 @@
 -- What is printed of a journal that is counted.
 use Rattle.std.specs.Prelude.{ℕ, List, ◌++◌, codes, decimal}
-use Rattle.service_effects.specs.Service.{ServiceWorld}
+use Rattle.serve_runs.specs.ServiceMachine.ServiceEffects.Service.{ServiceWorld}
 use Rattle.serve_runs.specs.ServiceCore.Counting.{counts_of}
 use Rattle.serve_runs.specs.ServiceCore.declared.counting.Counts.{Counts}
 

@@ -4,14 +4,14 @@ use Rattle.hex.specs.Hex.{decode_of}
 use Rattle.disks.specs.Moments.{Told}
 use Rattle.journal_book.specs.Worlds.{Leads}
 use Rattle.outside.specs.Moments.{Steps}
-use Rattle.policy_reading.specs.Reading.{IsPolicyOf}
+use Rattle.workload_runs.specs.PolicyReading.Reading.{IsPolicyOf}
 use Rattle.policy_tables.specs.declared.tables.PolicyTables.{PolicyTables}
 use Rattle.program_words.specs.declared.workload_words.WorkloadWords.{WorkloadWords}
 use Rattle.result_journal.specs.Grammar.{records}
 use Rattle.result_journal.specs.Journals.{Leaves, ReadsAs}
 use Rattle.serve_runs.specs.ServiceCore.Counting.{counts_of}
 use Rattle.serve_runs.specs.ServiceMachine.Machines.{Plays}
-use Rattle.service_effects.specs.Service.{ServiceWorld, empty_service}
+use Rattle.serve_runs.specs.ServiceMachine.ServiceEffects.Service.{ServiceWorld, empty_service}
 use Rattle.workload_runs.specs.Policies.{policy_text}
 use Rattle.workload_runs.specs.WorkloadTurns.declared.stops.Stop.{Stop}
 use Rattle.workload_runs.specs.WorkloadTurns.declared.tally.Tally.{Tally}

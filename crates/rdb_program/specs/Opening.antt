@@ -13,7 +13,7 @@ use Rattle.serve_runs.specs.RecordDesk.Standing.{HasServed}
 use Rattle.serve_runs.specs.ServiceCore.Counting.{counts_of}
 use Rattle.serve_runs.specs.ServiceCore.Service.{Service, service_of}
 use Rattle.serve_runs.specs.ServiceMachine.Machines.{Plays}
-use Rattle.service_effects.specs.Service.{ServiceWorld, empty_service}
+use Rattle.serve_runs.specs.ServiceMachine.ServiceEffects.Service.{ServiceWorld, empty_service}
 use Rattle.workload_runs.specs.WorkloadTurns.Runs.{LoadRun}
 use Rattle.workload_runs.specs.WorkloadTurns.declared.stops.Stop.{Stop}
 use Rattle.workload_runs.specs.WorkloadTurns.declared.tally.Tally.{Tally}

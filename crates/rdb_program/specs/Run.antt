@@ -15,7 +15,7 @@ use Rattle.result_journal.specs.Openings.{AlikeOnceSynced, FaultCause, LeftBefor
 use Rattle.result_journal.specs.Steps.{OtherStays}
 use Rattle.result_journal.specs.declared.opening.OpenFault.{OpenFault}
 use Rattle.journal_book.specs.Books.{HasWorldOf, IsOpenFault}
-use Rattle.service_effects.specs.Service.{ServiceWorld, empty_service}
+use Rattle.serve_runs.specs.ServiceMachine.ServiceEffects.Service.{ServiceWorld, empty_service}
 use Rattle.serve_runs.specs.ServiceMachine.Machines.{Plays}
 use Rattle.serve_runs.specs.ServiceCore.Service.{Service, service_of}
 use Rattle.tellers.specs.Exchange.{Exchange}

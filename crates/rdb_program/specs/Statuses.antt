@@ -4,7 +4,7 @@ use Rattle.fault_counts.specs.Causes.{Rose}
 use Rattle.outside.specs.Bytes.{Took, IsEnd}
 use Rattle.outside.specs.Ends.{Ends}
 use Rattle.policy_tables.specs.declared.tables.PolicyTables.{PolicyTables}
-use Rattle.policy_reading.specs.Reading.{IsPolicyOf, IsFirstFault}
+use Rattle.workload_runs.specs.PolicyReading.Reading.{IsPolicyOf, IsFirstFault}
 use Rattle.permissions.specs.declared.faults.PolicyFault.{PolicyFault}
 use Rattle.http_wire.specs.Stream.{Framed}
 use Rattle.http_wire.specs.declared.message.End.{End}
@@ -20,7 +20,7 @@ use Rattle.program_words.specs.declared.workload_words.WorkloadWords.{WorkloadWo
 use Rattle.result_journal.specs.Grammar.{records}
 use Rattle.result_journal.specs.Journals.{Leaves, ReadsAs}
 use Rattle.result_journal.specs.declared.opening.OpenFault.{OpenFault}
-use Rattle.service_effects.specs.Service.{ServiceWorld, empty_service}
+use Rattle.serve_runs.specs.ServiceMachine.ServiceEffects.Service.{ServiceWorld, empty_service}
 use Rattle.serve_runs.specs.ServiceMachine.Machines.{Plays}
 use Rattle.serve_runs.specs.Statuses.{DoorFailed, IsServed, NoneFailed}
 use Rattle.sink_runs.specs.Statuses.{SinkSays}

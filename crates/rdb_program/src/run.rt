@@ -4,7 +4,7 @@ ghost use Rattle.outside.specs.Ends.{Incoming};
 ghost use Rattle.journal_book.specs.Books.{Stands};
 ghost use Rattle.program_words.specs.Grammar.{Says};
 ghost use Rattle.result_journal.specs.Journals.{disk_of, is_settled};
-ghost use Rattle.service_effects.specs.Service.{empty_service};
+ghost use Rattle.serve_runs.specs.ServiceMachine.ServiceEffects.Service.{empty_service};
 ghost use Rattle.serve_runs.specs.ServiceCore.CoreState.{world_in};
 ghost use Rattle.serve_runs.specs.ServiceMachine.Machines.{Plays};
 ghost use Rattle.rdb_program.specs.Words.{IsAnswerWords, IsCheckWords, IsSaid, AskForText};
@@ -24,7 +24,6 @@ use http_workers::serve_connection;
 use journal_book::Book;
 use outside::{Clock, Link, PairLink, Sink, Source, StepClock, put_whole, write_whole};
 use permissions::{Policy, PolicyFault};
-use policy_reading::from_toml;
 use program_words::{
     Command, ServeWords, SinkWords, WordFault, WorkloadWords, help_text, read_words, version_text,
 };
@@ -36,6 +35,7 @@ use std::alloc::Global;
 use std::sync::Wait;
 use std::thread::Threads;
 use whole_reads::{ReadEnd, read_front};
+use workload_runs::policy_reading::from_toml;
 use workload_runs::{Asking, Load, LoadEnding, Stop, load_line, load_policy, run_load};
 
 /// The most that is read of a configuration: one byte more than it may have.

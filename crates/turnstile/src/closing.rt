@@ -45,11 +45,7 @@ fn only_one<T>(mut slots: Vec<Option<T>>) -> T
 }
 
 /// Takes the last turn, and in it the value for good.
-pub(crate) fn take_last<T: Held, R: Wait>(
-    rt: &R,
-    board: &Board<T>,
-    place: &mut Place<T>,
-) -> T
+pub(crate) fn take_last<T: Held, R: Wait>(rt: &R, board: &Board<T>, place: &mut Place<T>) -> T
     requires table { IsOf place.old.table_id board.now.shared.table_id }
     requires idle { place.old.me ≡ (idle (own_of place.old.me.0), []) }
     requires low { (own_of place.old.me.0).drawn ≤ 2 ^ 63 }

@@ -11,11 +11,11 @@ use std::sync::{Mutex, MutexGuard, Wait};
 
 /// So often a caller looks whether the entrance is free before it sleeps: for as long as a few
 /// turns take, since to sleep and be woken takes longer than one.
-const LOOKS: u32 = 60;
+const LOOKS: u32 = 100;
 
 /// So many pauses of the processor lie between two looks, each of which takes the word away from
 /// whoever leaves.
-const PAUSES: u32 = 4;
+const PAUSES: u32 = 8;
 
 /// Waits until the caller has the entrance to itself, as long as it keeps the guard.
 ///
@@ -34,12 +34,7 @@ pub(crate) fn enter<'a, R: Wait>(rt: &R, entrance: &'a Mutex<()>) -> MutexGuard<
 }
 
 /// Looks until it is the ticket's turn. Who has the entrance to itself finds it at the first look.
-pub(crate) fn wait<T: Held, R: Wait>(
-    rt: &R,
-    board: &Board<T>,
-    place: &mut Place<T>,
-    ticket: u64,
-)
+pub(crate) fn wait<T: Held, R: Wait>(rt: &R, board: &Board<T>, place: &mut Place<T>, ticket: u64)
     requires table { IsOf place.old.table_id board.now.shared.table_id }
     requires waits { place.old.me ≡ (waiting ticket (own_of place.old.me.0), []) }
     ensures table { place.new.table_id ≡ place.old.table_id }

@@ -1,7 +1,7 @@
 use Rattle.std.proofs.Common.{subst}
 use Rattle.result_journal.specs.Journals.{disk_of}
 use Rattle.journal_book.specs.Books.{IsOpenFault}
-use Rattle.service_effects.specs.Service.{ServiceWorld}
+use Rattle.serve_runs.specs.ServiceMachine.ServiceEffects.Service.{ServiceWorld}
 use Rattle.serve_runs.specs.ServiceCore.CoreState.{world_in}
 use Rattle.serve_runs.specs.ServiceMachine.Machines.{Plays}
 use Rattle.rdb_program.specs.Run.{disk_end}
