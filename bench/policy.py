@@ -4,7 +4,7 @@ time and the megabytes that reading each takes; and what it costs to ask them fo
 
     bench/policy.py PROGRAM
 
-PROGRAM is the built crate `policy_trial`, which reads a configuration from its input and prints what became of it.
+PROGRAM is the built crate `policies_table`, which reads a configuration from its input and prints what became of it.
 A configuration has at most 4 MiB and 65,536 entries: users, groups, roles, realms and bindings.
 """
 import os

@@ -5,7 +5,7 @@ reports with many long names take.
     bench/reports.py [KIND..]
 
 Prints for each kind the megabytes a second at each size, and the time at 64 MiB as a ratio to the time at 8 MiB, which
-is 8 where the time is linear; for a small report the processor time and the peak of its memory. The program is the built crate `report_trial`, which prints the number of cases, or the
+is 8 where the time is linear; for a small report the processor time and the peak of its memory. The program is the built crate `reports_table`, which prints the number of cases, or the
 report's fault.
 """
 
@@ -77,7 +77,7 @@ def spent(words, report):
 
 def main(words):
     # rt looks for itself whether the program is current.
-    program = harness.built("report_trial", "none", "none", is_current=lambda _: False)
+    program = harness.built("reports_table", "none", "none", is_current=lambda _: False)
     for name, (form, report) in SMALL.items():
         if not words or name in words:
             seconds, megabytes, told = spent([program, form, "count"], report)

@@ -46,7 +46,7 @@ def configurations_at_their_bounds(folder):
         (" " * 4_194_305, b"7 TooMany 4194305\n"),
         (many, b"7 TooMany 65537\n"),
     ):
-        done = subprocess.run([built("policy_trial")], input=text.encode(), capture_output=True, timeout=SECONDS)
+        done = subprocess.run([built("policies_table")], input=text.encode(), capture_output=True, timeout=SECONDS)
         expect((done.stdout, done.stderr, done.returncode), told, b"", 0)
 
 

@@ -1,5 +1,5 @@
 #!/usr/bin/env python3
-"""The reports of examples/reports/, read by the built program report_trial, against the cases that stand beside them;
+"""The reports of examples/reports/, read by the built program reports_table, against the cases that stand beside them;
 and reports of 64 MiB and of more.
 """
 
@@ -8,7 +8,7 @@ import sys
 
 import harness
 
-CRATE = "report_trial"
+CRATE = "reports_table"
 REPORTS = harness.EXAMPLES / "reports"
 FORMS = {".tap": "tap", ".xml": "junit"}
 SECONDS = 60

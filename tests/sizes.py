@@ -35,7 +35,7 @@ LISTED = {
     },
     "wide lines": {
         "call_forms": 4,
-        "core_trial": 5,
+        "requests_table": 5,
         "disks": 33,
         "fault_counts": 3,
         "field_kinds": 2,
@@ -46,7 +46,7 @@ LISTED = {
         "names_realms": 14,
         "outside": 38,
         "permissions": 3,
-        "policy_trial": 2,
+        "policies_table": 2,
         "program_words": 8,
         "result_journal": 23,
         "tellers": 1,

@@ -3,7 +3,7 @@
 //! The code is that of gRPC, and the update token `-` where none is given. The body has `\n` for each
 //! end of a line and `\\` for each backslash, and else its bytes as they are.
 ghost use Rattle.std.specs.Prelude.{◌≡◌, [], ◌∷◌, ◌++◌, OnOk, IfOk, codes, decimal, string_bytes};
-ghost use Rattle.core_trial.specs.Telling.{answer_text, body_text, escaped, front_text, told_text, token_text};
+ghost use Rattle.requests_table.specs.Telling.{answer_text, body_text, escaped, front_text, told_text, token_text};
 
 use call_forms::{Answer, Told};
 use std::alloc::{AllocError, Global};

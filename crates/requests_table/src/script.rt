@@ -3,7 +3,7 @@
 //! A request is `SECONDS BEARER TOKEN TARGET BODY`, parted by one blank each, and the body is the rest
 //! of the line, with the blanks that it has; behind the target a blank and the body may be wanting.
 ghost use Rattle.std.specs.Prelude.{◌≡◌, IfOk};
-ghost use Rattle.core_trial.specs.Lines.{begins_comment, IsLineOf};
+ghost use Rattle.requests_table.specs.Lines.{begins_comment, IsLineOf};
 
 use call_forms::Asked;
 use lists::Bytes;

@@ -1,7 +1,7 @@
 -- Which lines of a script are which.
 use Rattle.std.specs.Prelude.{◌≡◌, ℕ, List, [], ◌∷◌, Bool, true, false, ◌==◌}
-use Rattle.core_trial.specs.declared.script.Line.{Line}
-use Rattle.core_trial.specs.declared.script.Line.TheVariants.{Comment, Request, Odd}
+use Rattle.requests_table.specs.declared.script.Line.{Line}
+use Rattle.requests_table.specs.declared.script.Line.TheVariants.{Comment, Request, Odd}
 
 -- A comment begins with '#'.
 abbrev pub begins_comment : List ℕ → Bool
