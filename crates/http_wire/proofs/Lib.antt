@@ -14,4 +14,3 @@ pub mod HeadSearchLaws
 pub mod BodyLaws
 pub mod NextLaws
 pub mod PlainLaws
-pub mod FirstFormLaws

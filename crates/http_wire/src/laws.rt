@@ -1,9 +1,6 @@
 //! Laws of streams.
-ghost use Rattle.std.specs.Prelude.{◌≡◌, ℕ, false, List, ◌++◌, length};
-ghost use Rattle.httparse.specs.Grammar.{RequestHead, print_request};
-ghost use Rattle.http_wire.specs.FirstForm.{IsFirstForm};
-ghost use Rattle.http_wire.specs.Says.{IsMessageOf};
-ghost use Rattle.http_wire.specs.Stream.{IsMessage, Framed, FramedFrom, Spells, StayOpen};
+ghost use Rattle.std.specs.Prelude.{◌≡◌, ℕ, List, ◌++◌, length};
+ghost use Rattle.http_wire.specs.Stream.{Framed, FramedFrom, Spells, StayOpen};
 ghost use Rattle.http_wire.specs.declared.message.Message.{Message};
 ghost use Rattle.http_wire.specs.declared.message.End.{End};
 
@@ -46,10 +43,4 @@ pub fn front_of_reading()
         → (others : List Message) × (ns ≡ ms ++ others) × FramedFrom (length ms) rest others e }
     ensures whole { (text rest : List ℕ) (ms ns : List Message) (e : End) → Spells ms text
         → StayOpen 0 ms → FramedFrom (length ms) rest ns e → Framed (text ++ rest) (ms ++ ns) e }
-{}
-
-/// A message of the one form that was read at first is read, and doesn't close.
-pub fn first_form_is_read()
-    ensures { (h : RequestHead) (body : List ℕ) (m : Message) → IsFirstForm h (length body)
-        → IsMessageOf h body m → IsMessage (print_request h ++ body) m × (m.close ≡ false) }
 {}

@@ -21,7 +21,7 @@ mod request;
 mod said;
 mod wire;
 
-pub use laws::{first_form_is_read, front_of_reading, one_reading, there_is_a_reading};
+pub use laws::{front_of_reading, one_reading, there_is_a_reading};
 pub use message::{End, Message, WireFault, closes};
 pub use out::{write_farewell, write_response, write_standin};
 pub use plain::read_stream;
