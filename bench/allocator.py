@@ -20,7 +20,7 @@ import harness  # noqa: E402
 SETTINGS = {
     "MALLOC_TRIM_THRESHOLD_": "268435456",
     "MALLOC_TOP_PAD_": "62914560",
-    "MALLOC_ARENA_MAX": "4",
+    "MALLOC_ARENA_MAX": "8",
     "GLIBC_TUNABLES": "glibc.malloc.tcache_count=0",
 }
 REQUESTS, BODY, ROUNDS = 400, 144_000, 5

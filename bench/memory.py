@@ -30,14 +30,14 @@ DEEP = 120  # levels of an item; 127 may be open
 TRIM = {"MALLOC_TRIM_THRESHOLD_": "268435456"}
 HEAP = {"MALLOC_TOP_PAD_": "67108864"}  # a whole heap of an arena, which then never goes back
 LESS = {"MALLOC_TOP_PAD_": "62914560"}
-ARENAS = {"MALLOC_ARENA_MAX": "4"}
+ARENAS = {"MALLOC_ARENA_MAX": "8"}
 CACHES = {"GLIBC_TUNABLES": "glibc.malloc.tcache_count=0"}
 RDB = TRIM | LESS | ARENAS | CACHES
 SETTINGS = {
     "none": {},
     "64 MiB": TRIM | HEAP,
-    "64 MiB, 4 arenas": TRIM | HEAP | ARENAS,
-    "60 MiB, 4 arenas": TRIM | LESS | ARENAS,
+    "64 MiB, 8 arenas": TRIM | HEAP | ARENAS,
+    "60 MiB, 8 arenas": TRIM | LESS | ARENAS,
     "those of ./rdb": RDB,
 }
 
