@@ -4,6 +4,7 @@
 
 mod board;
 mod closing;
+mod entrance;
 mod held;
 mod seat;
 mod steps;

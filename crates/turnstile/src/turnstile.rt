@@ -5,14 +5,15 @@ ghost use Rattle.turnstile.specs.Seats.{Agrees, IsWhole};
 
 use crate::board::Board;
 use crate::closing::{free, open, take_last};
+use crate::entrance::Entrance;
 use crate::seat::{SPLITS, Seat, first_seat, split_seat};
 use crate::steps::{join, split};
 use crate::turns::{draw_next, serve};
-use crate::waiting::{enter, wait};
+use crate::waiting::wait;
 use crate::{Call, Held, Spent};
 use std::alloc::Global;
 use std::marker::Model;
-use std::sync::{Mutex, Wait};
+use std::sync::Wait;
 
 /// A value that callers take turns with. Contracts see which turnstile it is, and the start of its
 /// history.
@@ -20,7 +21,7 @@ use std::sync::{Mutex, Wait};
 pub struct Turnstile<T: Held> {
     board: Board<T>,
     /// Who draws a ticket has it to itself, so that nobody waits with one.
-    entrance: Mutex<()>,
+    entrance: Entrance,
 }
 
 impl<T: Held> Model for Turnstile<T> {
@@ -48,7 +49,7 @@ impl<T: Held> Turnstile<T> {
     {
         match open(alloc, held) {
             Ok((board, place)) => {
-                let entrance = Mutex::new(());
+                let entrance = Entrance::new();
                 Ok((Turnstile { board, entrance }, first_seat(place)))
             }
             Err(held) => Err(held),
@@ -79,7 +80,7 @@ impl<T: Held> Turnstile<T> {
         ensures spent { IfErr result (λ _. (seat.new.knows.drawn ≡ 2 ^ 63)
             × (seat.new.knows.seen ≡ seat.old.knows.seen)) }
     {
-        let inside = enter(rt, &self.entrance);
+        let inside = self.entrance.enter(rt);
         let Some(ticket) = draw_next(rt, &self.board, &mut seat.place) else {
             return Err(Spent);
         };
