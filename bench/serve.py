@@ -26,6 +26,7 @@ CONNECTIONS = (1, 8, 64)
 HELD = 1_000  # results of the invocation whose verdicts are read
 CALLS = {"reads": 40_000, "batches of 1": 4_000, "batches of 500": 160, "pages": 2_000, "mixed": 4_000}
 APPENDS = 2_000
+TURNS = 3  # of each run and of what stands beside it, one after the other; the fastest of each counts
 READ, PAGE = 305, 25_000  # about how many bytes the reply to a read and to a page has
 
 
@@ -112,18 +113,24 @@ def measured(load, kind, connections, folder):
     return requests / seconds, half, most, used / requests * 1e6
 
 
-def beside(load, kind, connections, folder, rate):
-    """What a rate is a part of, as a text."""
+def beside(load, kind, connections, folder):
+    """The calls a second of what a run is a part of, where there is such a thing."""
     if kind in ("reads", "pages"):
         with echoing(load, READ if kind == "reads" else PAGE) as port:
             streams = [b"".join(calls(kind, "", CALLS[kind] // connections)) for _ in range(connections)]
             requests, seconds, *_ = asked(load, port, streams, folder)
-        return f", {rate / (requests / seconds):.2f} of a plain server"
-    if kind == "batches of 1":
-        return f", {rate / appends(folder, 250):.2f} of appends with two syncs"
+        return requests / seconds
+    return appends(folder, 250) if kind == "batches of 1" else None
+
+
+def part(kind, rate, others):
+    """What a rate is a part of, as a text."""
     if kind == "batches of 500":
         return f", {rate * 500:.0f} results a second"
-    return ""
+    if None in others:
+        return ""
+    plain = "appends with two syncs" if kind == "batches of 1" else "a plain server"
+    return f", {rate / max(others):.2f} of {plain} ({max(others):.0f})"
 
 
 def main():
@@ -134,11 +141,14 @@ def main():
         subprocess.run(words, check=True)
         for kind in CALLS:
             for connections in CONNECTIONS:
-                with tempfile.TemporaryDirectory(dir=folder) as own:
-                    rate, half, most, used = measured(load, kind, connections, own)
-                    print(f"{kind}, {connections} connections: {rate:.0f} calls a second, half within {half:.0f} µs, 99 of "
-                          f"100 within {most:.0f} µs, {used:.1f} µs of processor a call"
-                          f"{beside(load, kind, connections, own, rate)}", flush=True)
+                runs, others = [], []
+                for _ in range(TURNS):
+                    with tempfile.TemporaryDirectory(dir=folder) as own:
+                        runs.append(measured(load, kind, connections, own))
+                        others.append(beside(load, kind, connections, own))
+                rate, half, most, used = max(runs)
+                print(f"{kind}, {connections} connections: {rate:.0f} calls a second, half within {half:.0f} µs, 99 of 100 "
+                      f"within {most:.0f} µs, {used:.1f} µs of processor a call{part(kind, rate, others)}", flush=True)
     return 0
 
 

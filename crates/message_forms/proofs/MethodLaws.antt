@@ -1,7 +1,8 @@
 -- The laws of each method's form, in the order of the table.
-use Rattle.std.proofs.Common.{◌≡◌, Some, refl}
+use Rattle.std.proofs.Common.{◌≡◌, ℕ, List, Bool, false, ◌&&◌, bytes_eq, Some, refl, ap, ◌∙◌}
+use Rattle.std.proofs.Math.Bool.{and-false}
 use Rattle.serde_json.specs.Data.{Data}
-use Rattle.message_forms.specs.Methods.{included_form, row_of, by_method, by_request, method_asked, said_in, request_data, method_of, service_of, name_of, AsksFor, CanBeAsked, Means}
+use Rattle.message_forms.specs.Methods.{included_form, row_of, by_method, by_request, method_asked, said_in, request_data, is_called, method_of, service_of, name_of, AsksFor, CanBeAsked, Means}
 use Rattle.message_forms.specs.declared.requests.Method.{Method}
 use Rattle.message_forms.specs.declared.requests.Request.{Request}
 use Rattle.json_fields.proofs.PlainLaws.{IsPlain}
@@ -47,3 +48,8 @@ pub request_plain : (q : Request) → IsPlain 68 (request_data q)
 request_plain = by_request (λ q. IsPlain 68 (request_data q))
     create_lawful.plain update_lawful.plain named_lawful.plain included_lawful.plain results_lawful.plain exonerations_lawful.plain artifacts_lawful.plain named_lawful.plain
     single_lawful.plain rows_lawful.plain variants_lawful.plain artifact_lawful.plain list_lawful.plain
+
+-- a method of another name isn't the one that is called
+pub not_named : (service name : List ℕ) (m : Method) → bytes_eq (name_of m) name ≡ false → is_called service name m ≡ false
+not_named service name m other =
+    ap (λ (b : Bool). bytes_eq (service_of m) service && b) other ∙ and-false (bytes_eq (service_of m) service)

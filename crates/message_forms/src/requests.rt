@@ -109,7 +109,7 @@ fn find_method(methods: &[Method], service: &[u8], name: &[u8]) -> Option<Method
     ensures { result ≡ find (is_called service.now name.now) methods.now }
 {
     for method in methods {
-        if method.service().as_bytes() == service && method.name().as_bytes() == name {
+        if method.is_called(service, name) {
             return Some(*method);
         }
     }
@@ -122,6 +122,18 @@ impl Method {
         ensures { result ≡ method_of service.now name.now }
     {
         find_method(EVERY.as_slice(), service, name)
+    }
+
+    /// Whether it is the method of this name of this service.
+    #[tactic(auto, using(crate::proofs::MethodLaws::not_named))]
+    fn is_called(self, service: &[u8], name: &[u8]) -> bool
+        ensures { result ≡ is_called service.now name.now self }
+    {
+        // Few names have the same length, and the names of both services do.
+        if self.name().as_bytes() != name {
+            return false;
+        }
+        self.service().as_bytes() == service
     }
 
     /// The service that has the method, and the method's name there.
