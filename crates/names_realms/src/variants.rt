@@ -1,5 +1,5 @@
 //! Variants of tests, and their labels.
-ghost use Rattle.std.specs.Prelude.{◌≡◌, ◌≢◌, ◌++◌, ◌≤◌, ◌<◌, ℕ, List, ◌∷◌, [], take, drop, length, slice_get};
+ghost use Rattle.std.specs.Prelude.{◌≡◌, ◌≢◌, ◌++◌, ◌≤◌, ◌<◌, ℕ, List, ◌∷◌, [], take, drop, length, slice_get, true};
 ghost use Rattle.std.specs.Prelude.{IsPermutation, IfOk, IfErr, Some, map};
 ghost use Rattle.std.specs.List.{flat_map};
 ghost use Rattle.sha2.specs.Sha256.{sha256};
@@ -11,6 +11,7 @@ use crate::pairs::Pair;
 use name_parts::{Bytes, NameFault};
 use sha2::{Digest, Sha256};
 use std::alloc::{AllocError, Global};
+use std::cmp::Ordering;
 use std::collections::BTreeMap;
 use std::marker::Model;
 
@@ -46,6 +47,23 @@ fn in_order(alloc: Global, sorted: BTreeMap<Vec<u8>, Bytes>) -> Result<Vec<Pair>
             value,
         })
         .collect(alloc)
+}
+
+/// Whether the keys of pairs rise.
+fn are_rising(pairs: &[Pair]) -> bool
+    ensures { result ≡ true → IsAscending pairs.now }
+{
+    let Some((first, rest)) = pairs.split_first() else {
+        return true;
+    };
+    let mut last = first;
+    for pair in rest {
+        if last.key.as_slice().cmp(pair.key.as_slice()) != Ordering::Less {
+            return false;
+        }
+        last = pair;
+    }
+    true
 }
 
 /// Feeds one pair to a hasher.
@@ -92,9 +110,17 @@ fn label_text(pairs: &[Pair]) -> [u8; 16]
 }
 
 impl Variant {
-    /// The variant of these pairs, in the order of their keys. `NotCanonical` at the first place,
-    /// counted from 0, whose key an earlier pair has; `Memory` where there is none for the order.
-    pub fn from_pairs(alloc: Global, pairs: Vec<Pair>) -> Result<Variant, NameFault>
+    /// The variant of pairs whose keys rise.
+    fn of_rising(pairs: Vec<Pair>) -> Variant
+        requires { IsAscending pairs.items }
+        ensures { result ≡ pairs.items }
+    {
+        let label = label_text(pairs.as_slice());
+        Variant { pairs, label }
+    }
+
+    /// The variant of pairs in any order.
+    fn put_in_order(alloc: Global, pairs: Vec<Pair>) -> Result<Variant, NameFault>
         ensures ok { IfOk result (λ v. IsPermutation pairs.items v × IsAscending v) }
         ensures fault { IfErr result
             (λ f. f ≢ NameFault.Memory
@@ -108,8 +134,21 @@ impl Variant {
             }
         }
         let pairs = in_order(alloc, sorted)?;
-        let label = label_text(pairs.as_slice());
-        Ok(Variant { pairs, label })
+        Ok(Variant::of_rising(pairs))
+    }
+
+    /// The variant of these pairs, in the order of their keys. `NotCanonical` at the first place,
+    /// counted from 0, whose key an earlier pair has; `Memory` where there is none for the order.
+    pub fn from_pairs(alloc: Global, pairs: Vec<Pair>) -> Result<Variant, NameFault>
+        ensures ok { IfOk result (λ v. IsPermutation pairs.items v × IsAscending v) }
+        ensures fault { IfErr result
+            (λ f. f ≢ NameFault.Memory
+            → (at : ℕ) × (f ≡ NameFault.NotCanonical at) × IsFirstRepeat pairs.items at) }
+    {
+        if are_rising(pairs.as_slice()) {
+            return Ok(Variant::of_rising(pairs));
+        }
+        Variant::put_in_order(alloc, pairs)
     }
 
     /// The pairs, in the order of their keys.

@@ -4,9 +4,9 @@ use Rattle.std.proofs.lemmas.List.{length-map, nil_from_length}
 use Rattle.std.proofs.lemmas.List.Sorted.{length_permutation}
 use Rattle.name_parts.specs.declared.faults.NameFault.TheVariants.{NotCanonical}
 use Rattle.names_realms.specs.declared.pairs.Pair.{Pair}
-use Rattle.names_realms.specs.Variants.{IsAscending, label_of, pair_of}
+use Rattle.names_realms.specs.Variants.{IsAscending, pair_of}
 use Rattle.names_realms.proofs.VariantLemmas.{ascending_entries, first_repeat, none_of, one_more, some_of}
-use Rattle.names_realms.proofs.variants.Variant.from_pairs.Goals as goal
+use Rattle.names_realms.proofs.variants.Variant.put_in_order.Goals as goal
 
 pub loop-pair-preserved : goal.loop-pair-preserved
 loop-pair-preserved c =
@@ -35,9 +35,9 @@ returns-then-is_some-clause-fault c _ =
       first_repeat c.args.pairs.items passed c.next.new.self.rest.items entries c.into_vec.result pair old.0 whole c.into_vec.ensures (sym c.in_ok-insert.ensures.old ∙ old.1) c.loop-pair.invariant.same c.loop-pair.invariant.ordered,
     )
 
-pub invariant_of-result : goal.invariant_of-result
-invariant_of-result c =
-    (subst (λ (ps : List Pair). IsAscending ps) (sym c.in_ok-pairs.ensures) (ascending_entries c.loop-pair.sorted.entries c.loop-pair.invariant.ordered), c.label_text-label.ensures ∙ ap label_of c.as_slice.ensures.value)
+pub of_rising-requires : goal.of_rising-requires
+of_rising-requires c =
+    subst (λ (ps : List Pair). IsAscending ps) (sym c.in_ok-pairs.ensures) (ascending_entries c.loop-pair.sorted.entries c.loop-pair.invariant.ordered)
 
 pub returns-clause-ok : goal.returns-clause-ok
 returns-clause-ok c =
@@ -46,4 +46,4 @@ returns-clause-ok c =
     let all : c.args.pairs.items ≡ c.loop-pair.yielded = c.loop-pair.invariant.whole ∙ ap (λ (ps : List Pair). c.loop-pair.yielded ++ ps) none ∙ append-nil c.loop-pair.yielded in
     let both : IsPermutation c.args.pairs.items (map pair_of entries) × IsAscending (map pair_of entries) =
     (subst (λ (ps : List Pair). IsPermutation ps (map pair_of entries)) (sym all) c.loop-pair.invariant.same, ascending_entries entries c.loop-pair.invariant.ordered) in
-    subst (λ (ps : List Pair). IsPermutation c.args.pairs.items ps × IsAscending ps) (sym c.in_ok-pairs.ensures) both
+    subst (λ (ps : List Pair). IsPermutation c.args.pairs.items ps × IsAscending ps) (sym (c.of_rising.ensures ∙ c.in_ok-pairs.ensures)) both

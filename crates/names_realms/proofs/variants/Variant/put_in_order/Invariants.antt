@@ -4,7 +4,7 @@ use Rattle.std.specs.List.Sorted.{IsStrictlySortedBy}
 use Rattle.std.specs.Map.{keys_of}
 use Rattle.names_realms.specs.Variants.{pair_of}
 use Rattle.names_realms.proofs.VariantLemmas.{key_cmp}
-use Rattle.names_realms.proofs.variants.Variant.from_pairs.Given as goal
+use Rattle.names_realms.proofs.variants.Variant.put_in_order.Given as goal
 
 abbrev pub invariant-loop-pair : goal.invariant-loop-pair
 invariant-loop-pair l = record {
