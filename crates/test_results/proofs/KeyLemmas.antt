@@ -15,8 +15,8 @@ use Rattle.test_results.proofs.OrderLemmas.{nat_equal, none_equal, one_more_inse
 
 pub key_order_total : IsTotalOrder key_order
 key_order_total =
-    then_total (then_total (on_total (λ (k : Key). k.holder) nat_cmp_total) (on_total (λ (k : Key). k.test) nat_list_cmp_total))
-    (on_total (λ (k : Key). k.id) nat_list_cmp_total)
+    then_total (then_total (on_total (λ (k : Key). k.holder) nat_cmp_total) (on_total (λ (k : Key). k.id) nat_list_cmp_total))
+    (on_total (λ (k : Key). k.test) nat_list_cmp_total)
 
 places_order_total : (keys : List Key) → IsTotalOrder (places_order keys)
 places_order_total keys = on_total (λ (p : ℕ). key_at keys p) key_order_total
@@ -30,11 +30,11 @@ key_same a b e f g =
 
 pub same_key : (a b : Key) → key_order a b ≡ Equal → a ≡ b
 same_key a b e =
-    let parts = then_equal (ordering_then (nat_cmp a.holder b.holder) (slice_cmp nat_cmp a.test b.test)) (slice_cmp nat_cmp a.id b.id) e in
-    let firsts = then_equal (nat_cmp a.holder b.holder) (slice_cmp nat_cmp a.test b.test) parts.0 in
+    let parts = then_equal (ordering_then (nat_cmp a.holder b.holder) (slice_cmp nat_cmp a.id b.id)) (slice_cmp nat_cmp a.test b.test) e in
+    let firsts = then_equal (nat_cmp a.holder b.holder) (slice_cmp nat_cmp a.id b.id) parts.0 in
     let holders : a.holder ≡ b.holder = nat_equal a.holder b.holder firsts.0 in
-    let tests : a.test ≡ b.test = same_text a.test b.test firsts.1 in
-    let ids : a.id ≡ b.id = same_text a.id b.id parts.1 in
+    let tests : a.test ≡ b.test = same_text a.test b.test parts.1 in
+    let ids : a.id ≡ b.id = same_text a.id b.id firsts.1 in
     key_same a b holders tests ids
 
 equal_key : (a b : Key) → a ≡ b → key_order a b ≡ Equal

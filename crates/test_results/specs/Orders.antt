@@ -26,11 +26,11 @@ IsSlot order xs found =
 abbrev pub HasOneMore : {X : Type 0} → List X → X → List X → Type 0
 HasOneMore {X} old x new = (y : X) → Contains new y ↔ (Contains old y ⊎ (y ≡ x))
 
--- keys by holder, test and id
+-- keys by holder, id and test: ids differ sooner than tests, which often begin alike
 abbrev pub key_order : Key → Key → Ordering
 key_order a b =
-    ordering_then (ordering_then (nat_cmp a.holder b.holder) (slice_cmp nat_cmp a.test b.test))
-    (slice_cmp nat_cmp a.id b.id)
+    ordering_then (ordering_then (nat_cmp a.holder b.holder) (slice_cmp nat_cmp a.id b.id))
+    (slice_cmp nat_cmp a.test b.test)
 
 abbrev pub no_key : Key
 no_key = named 0 [] []

@@ -1,8 +1,8 @@
 //! Keys that stand twice in a batch.
 ghost use Rattle.std.specs.Prelude.{◌≡◌, ◌≤◌, ◌<◌, ◌+◌, MatchOption, length, vec_len, vec_capacity};
 ghost use Rattle.test_results.specs.Batches.{AreOnce, IsRepeat};
-ghost use Rattle.test_results.specs.Orders.{IsFrontIndex, IsRising, IsSlot, order_at, places_order};
-ghost use Rattle.test_results.specs.Results.{keys_of, named};
+ghost use Rattle.test_results.specs.Orders.{IsFrontIndex, IsRising, IsSlot, key_order, order_at, places_order};
+ghost use Rattle.test_results.specs.Results.{key_of, keys_of, named};
 
 use crate::result::TestResult;
 use std::cmp::Ordering;
@@ -14,18 +14,25 @@ pub(crate) struct Repeat {
     pub(crate) second: usize,
 }
 
+/// The key of a row, compared with a key: by the holder, then by the id, and where these are equal
+/// by the test.
+fn compare_row(row: &TestResult, holder: u32, test: &str, id: &str) -> Ordering
+    ensures { result ≡ key_order (key_of row.now) (named holder test.now id.now) }
+{
+    match row.holder.cmp(&holder).then(row.result.as_str().cmp(id)) {
+        Ordering::Equal => row.test.as_str().cmp(test),
+        unequal => unequal,
+    }
+}
+
 /// The key of the row at a place, compared with a key. Where there is no row it has the holder 0
 /// and empty texts.
 fn compare(rows: &[TestResult], place: u32, holder: u32, test: &str, id: &str) -> Ordering
     ensures { result ≡ order_at (keys_of rows.now) (named holder test.now id.now) place }
 {
     match rows.get(place as usize) {
-        Some(row) => row
-            .holder
-            .cmp(&holder)
-            .then(row.test.as_str().cmp(test))
-            .then(row.result.as_str().cmp(id)),
-        None => 0u32.cmp(&holder).then("".cmp(test)).then("".cmp(id)),
+        Some(row) => compare_row(row, holder, test, id),
+        None => 0u32.cmp(&holder).then("".cmp(id)).then("".cmp(test)),
     }
 }
 
