@@ -220,7 +220,7 @@ fn append_spelling(out: &mut Vec<u8>, byte: u8) -> Result<(), AllocError>
     ensures err { OnErr result (out.new.items ≡ out.old.items) }
 {
     if stands_as_itself(byte) {
-        append(out, &[byte])
+        Ok(out.push(byte)?)
     } else {
         append(out, percent_encode_byte(byte).as_bytes())
     }
