@@ -2,7 +2,7 @@
 use Rattle.std.proofs.Common.{◌≡◌, ◌⊎◌, ◌<◌, ◌≤◌, ◌+◌, ℕ, zero, suc, false, List, [], ◌∷◌, ◌++◌, length, take, drop, get_or, Contains, Result, Ok, Err, Ordering, refl, sym, ap, ◌∙◌, subst, inl, inr, arith, add-one}
 use Rattle.std.specs.Cmp.{IsTotalOrder}
 use Rattle.std.specs.Cmp.Lexicographic.{slice_cmp, bytes_decides}
-use Rattle.std.specs.List.{AllByRecursion, AllWithin, insert}
+use Rattle.std.specs.List.{All, AllByRecursion, AllWithin, insert}
 use Rattle.std.specs.List.Sorted.{IsBinarySearchResult, IsPartitionPoint, IsSearchInRange, IsSortedBy}
 use Rattle.std.specs.Ordering.{nat_cmp, ordering_then, is_lt, is_eq, ordering_reverse, MatchOrdering}
 use Rattle.std.proofs.lemmas.Bool.{cases_lt}
@@ -10,7 +10,7 @@ use Rattle.std.specs.declared.cmp.Ordering.TheVariants.{Less, Equal, Greater}
 use Rattle.std.proofs.lemmas.Cmp.{ranked}
 use Rattle.std.proofs.lemmas.Map.Text.{is_eq-slice_cmp}
 use Rattle.std.proofs.lemmas.List.{get_or-take, get_or-drop, length-take, length-drop, take-append-drop}
-use Rattle.std.proofs.lemmas.List.Elements.{recursion_from_All, Contains-append_left, Contains-append_right, Contains-append_cases}
+use Rattle.std.proofs.lemmas.List.Elements.{All-from_recursion, recursion_from_All, Contains-append_left, Contains-append_right, Contains-append_cases}
 use Rattle.std.proofs.lemmas.List.Sorted.{searchable_from_sorted}
 use Rattle.test_results.specs.Orders.{IsRising, IsSlot, HasOneMore}
 
@@ -27,6 +27,25 @@ rising_next R [] h k d within = absurd (omega arith)
 rising_next R (x ∷ []) h k d within = absurd (omega arith)
 rising_next R (x ∷ (y ∷ ys)) h zero d within = h.0.0
 rising_next R (x ∷ (y ∷ ys)) h (suc k) d within = rising_next R (y ∷ ys) h.1 k d (omega arith)
+
+-- each is below those behind it
+rising_at : {X : Type 0} (R : X → X → Ordering) (xs : List X) → IsRising R xs → (k j : ℕ) (d : X) → k < j → j < length xs
+    → R (get_or xs k d) (get_or xs j d) ≡ Less
+rising_at R [] h k j d low high = absurd (omega (arith, high))
+rising_at R (x ∷ xs) h k zero d low high = absurd (omega (arith, low))
+rising_at R (x ∷ xs) h zero (suc j) d low high = All-from_recursion (λ y. R x y ≡ Less) xs h.0 j d (omega (arith, high))
+rising_at R (x ∷ xs) h (suc k) (suc j) d low high = rising_at R xs h.1 k j d (omega (arith, low)) (omega (arith, high))
+
+-- where the last of rising values is below one, all are
+pub all_below : {K : Type 0} {R : K → K → Ordering} → IsTotalOrder R → {X : Type 0} (key : X → K) (xs : List X) (x : K) (last : ℕ)
+    → IsRising (λ a b. R (key a) (key b)) xs → last + 1 ≡ length xs → ((d : X) → R (key (get_or xs last d)) x ≡ Less)
+    → All (λ y. R (key y) x ≡ Less) xs
+all_below {K} {R} o key xs x last h is below = λ k d within.
+    elim (cases_lt k last) [
+      | inl lt ↦ o.trans (key (get_or xs k d)) (key (get_or xs last d)) x
+          (rising_at (λ a b. R (key a) (key b)) xs h k last d lt (omega (arith, is))) (below d)
+      | inr ge ↦ let same : k ≡ last = omega (arith, ge, is, within) in rw same (below d)
+    ]
 
 not_below : {K : Type 0} {R : K → K → Ordering} → IsTotalOrder R → (x y : K) → R x y ≡ Less → is_lt (R y x) ≡ false
 not_below {K} {R} o x y e = ap is_lt (o.antisymm y x ∙ ap (λ r. ordering_reverse r) e)

@@ -1,5 +1,7 @@
 //! Keys that stand twice in a batch.
-ghost use Rattle.std.specs.Prelude.{◌≡◌, ◌≤◌, ◌<◌, ◌+◌, MatchOption, length, vec_len, vec_capacity};
+ghost use Rattle.std.specs.Prelude.{◌≡◌, ◌≤◌, ◌<◌, ◌+◌, MatchOption, true, length, vec_len, vec_capacity};
+ghost use Rattle.std.specs.List.{All};
+ghost use Rattle.std.specs.declared.cmp.Ordering.TheVariants.{Less};
 ghost use Rattle.test_results.specs.Batches.{AreOnce, IsRepeat};
 ghost use Rattle.test_results.specs.Orders.{IsFrontIndex, IsRising, IsSlot, key_order, order_at, places_order};
 ghost use Rattle.test_results.specs.Results.{key_of, keys_of, named};
@@ -36,7 +38,20 @@ fn compare(rows: &[TestResult], place: u32, holder: u32, test: &str, id: &str) -
     }
 }
 
-/// Where the place of a key stands, or where it would go.
+/// Whether a key stands behind those at all places.
+fn is_behind(places: &[u32], rows: &[TestResult], holder: u32, test: &str, id: &str) -> bool
+    requires { IsRising (places_order (keys_of rows.now)) places.now }
+    ensures { result ≡ true → All (λ place.
+        order_at (keys_of rows.now) (named holder test.now id.now) place ≡ Less) places.now }
+{
+    match places.last() {
+        Some(last) => compare(rows, *last, holder, test, id).is_lt(),
+        None => true,
+    }
+}
+
+/// Where the place of a key stands, or where it would go. Rows often come in the order of their
+/// ids, so the end is looked at first.
 fn search(
     places: &[u32],
     rows: &[TestResult],
@@ -48,6 +63,9 @@ fn search(
     ensures { IsSlot (order_at (keys_of rows.now) (named holder test.now id.now)) places.now
         result }
 {
+    if is_behind(places, rows, holder, test, id) {
+        return Err(places.len());
+    }
     places.binary_search_by(|place| compare(rows, *place, holder, test, id))
 }
 
