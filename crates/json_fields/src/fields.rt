@@ -40,7 +40,11 @@ fn member<'v>(value: &'v Value, name: &Name) -> Option<&'v Value>
 {
     match value.get(name.camel()) {
         Some(found) => Some(found),
-        None => value.get(name.proto()),
+        None => if name.camel() == name.proto() {
+            None
+        } else {
+            value.get(name.proto())
+        },
     }
 }
 
