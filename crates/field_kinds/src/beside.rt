@@ -14,6 +14,10 @@ use json_fields::{FaultKind, Name, ReadFault, Step, UnbuiltList, Why, filled_at,
 use serde_json::Value;
 use std::alloc::{AllocError, Global};
 
+/// For how many elements room is made before any is read: as many as most lists that are read
+/// whole have at most. A longer list, which may well be refused, gets more as it is read.
+const AT_FIRST: usize = 500;
+
 /// What is read from a JSON value beside a context: `fault` and `means` are as of a `Form`, but
 /// for the context.
 pub trait FormBeside<C>: Sized + Drop {
@@ -47,7 +51,7 @@ fn read_all_beside<C, T: FormBeside<C>>(
     ensures err { IfErr result (λ e.
         Says e (fault_from 0 (T.fault context.now) (map view list.now))) }
 {
-    let mut found = Vec::new(alloc);
+    let mut found = Vec::with_capacity(alloc, list.len().min(AT_FIRST))?;
     for i in 0..list.len() {
         match T::read_beside(alloc, context, &list[i]) {
             Ok(one) => add(&mut found, one)?,
