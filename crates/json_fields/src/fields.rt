@@ -39,12 +39,8 @@ fn member<'v>(value: &'v Value, name: &Name) -> Option<&'v Value>
     ensures { option_map (λ v. view v.now) result ≡ member name.now (view value.now) }
 {
     match value.get(name.camel()) {
-        Some(found) => Some(found),
-        None => if name.camel() == name.proto() {
-            None
-        } else {
-            value.get(name.proto())
-        },
+        None if name.camel() != name.proto() => value.get(name.proto()),
+        found => found,
     }
 }
 
