@@ -1,5 +1,5 @@
 -- A teller over a book that was opened stands for nothing.
-use Rattle.std.proofs.Common.{◌≡◌, ℕ, ℤ, true, false, List, [], Option, sym, ap, subst, ◌∙◌}
+use Rattle.std.proofs.Common.{◌≡◌, ℕ, ℤ, true, List, [], Option, sym, ap, subst, ◌∙◌}
 use Rattle.disks.specs.Moments.{Told}
 use Rattle.result_journal.specs.Journals.{is_settled}
 use Rattle.result_journal.specs.declared.journal.Journal.{Journal}

@@ -1,5 +1,5 @@
 -- The calls of seats that are joined, in one history.
-use Rattle.std.proofs.Common.{◌≡◌, ℕ, ◌+◌, ◌-◌, ◌<◌, ◌≤◌, ◌==◌, Bool, true, false, not, nat_lt, List, [], ◌∷◌, ◌++◌, length, map, cond, refl, sym, ap, subst, ◌∙◌, arith, All}
+use Rattle.std.proofs.Common.{◌≡◌, ℕ, ◌+◌, ◌-◌, ◌<◌, ◌≤◌, ◌==◌, Bool, true, false, not, nat_lt, List, [], ◌∷◌, ◌++◌, length, cond, refl, sym, ap, subst, ◌∙◌, arith, All}
 use Rattle.std.specs.Prelude.{filter}
 use Rattle.std.specs.List.{AllByRecursion, AllZip}
 use Rattle.std.proofs.lemmas.List.{length-map}
@@ -10,8 +10,8 @@ use Rattle.call_forms.specs.declared.forms.Told.TheVariants.{Made, Standin as In
 use Rattle.atomic_table.specs.Seated.{TableId}
 use Rattle.tellers.specs.Exchange.{Exchange, StandsForSome}
 use Rattle.turnstile.specs.declared.board.Known.{Known}
-use Rattle.turnstile.specs.Histories.{AtMost, Begins}
-use Rattle.turnstile.specs.Seats.{Agrees, IsWhole, Seated, first_known, joined, names, split_left, split_right}
+use Rattle.turnstile.specs.Histories.{AtMost}
+use Rattle.turnstile.specs.Seats.{Agrees, Seated, first_known, joined, split_left, split_right}
 use Rattle.service_desk.specs.ServiceCore.History.{Entry}
 use Rattle.service_desk.specs.RecordDesk.Standing.{exchange_of}
 use Rattle.service_desk.specs.Turns.{HasAsked, HasCalls, had_turns, is_spent, made_by}

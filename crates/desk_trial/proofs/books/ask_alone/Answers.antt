@@ -1,4 +1,4 @@
-use Rattle.std.proofs.Common.{[], sym, ap}
+use Rattle.std.proofs.Common.{[], ap}
 use Rattle.service_desk.specs.ServiceCore.CoreState.{world_in}
 use Rattle.desk_trial.proofs.BookLaws.{opened_asks}
 use Rattle.desk_trial.proofs.books.ask_alone.Goals as goal

@@ -1,4 +1,4 @@
-use Rattle.std.proofs.Common.{sym, subst}
+use Rattle.std.proofs.Common.{subst}
 use Rattle.journal_book.specs.Books.{Stands}
 use Rattle.service_desk.specs.ServiceEffects.Service.{ServiceWorld}
 use Rattle.service_desk.specs.ServiceCore.CoreState.{world_in}

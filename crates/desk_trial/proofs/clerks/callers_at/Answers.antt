@@ -1,4 +1,4 @@
-use Rattle.std.proofs.Common.{◌≡◌, ◌+◌, ◌≤◌, ◌++◌, ◌∷◌, [], length, vec_len, arith, sym, ap, subst, ◌∙◌, length-append}
+use Rattle.std.proofs.Common.{◌≡◌, ◌+◌, ◌≤◌, length, vec_len, arith, sym, ap, subst, ◌∙◌, length-append}
 use Rattle.desk_trial.specs.Seats.{EachFrom, Sits, first_after, seat_of}
 use Rattle.desk_trial.proofs.CountLaws.{each_push, first_unsplit, left_by, right_by}
 use Rattle.desk_trial.proofs.clerks.callers_at.Goals as goal

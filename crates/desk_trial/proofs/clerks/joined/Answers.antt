@@ -1,4 +1,4 @@
-use Rattle.std.proofs.Common.{◌≡◌, ◌+◌, ◌≤◌, ◌++◌, ◌∷◌, [], length, arith, sym, ap, subst, ◌∙◌, refl, rules, append_assoc, length-append}
+use Rattle.std.proofs.Common.{◌≡◌, ◌+◌, ◌++◌, ◌∷◌, [], length, arith, sym, ap, subst, ◌∙◌, refl, rules, append_assoc, length-append}
 use Rattle.desk_trial.specs.Seats.{EachFrom, HadTurns, StandBelow}
 use Rattle.desk_trial.proofs.CountLaws.{join_more}
 use Rattle.desk_trial.proofs.clerks.joined.Goals as goal
