@@ -109,3 +109,15 @@ pub invocation_without_slash : (bs : List ℕ) → IsPart (Letters alphabet.Invo
 invocation_without_slash [] part = refl
 invocation_without_slash (b ∷ bs) part =
     let parts = and_parts _ _ part.letters in and_from _ _ (begin_no_slash b parts.0) (follow_all bs parts.1)
+
+outcome_no_slash : (b : ℕ) → may_follow alphabet.Outcome b ≡ true → IsNoSlash b
+outcome_no_slash b e = grind (arith, nat_tests)
+
+outcome_all : (bs : List ℕ) → list_all (may_follow alphabet.Outcome) bs ≡ true → list_all (λ x. not (x == 47)) bs ≡ true
+outcome_all [] e = refl
+outcome_all (b ∷ bs) e = let parts = and_parts _ _ e in and_from _ _ (outcome_no_slash b parts.0) (outcome_all bs parts.1)
+
+pub result_without_slash : (bs : List ℕ) → IsPart (Letters alphabet.Outcome) bs → list_all (λ x. not (x == 47)) bs ≡ true
+result_without_slash [] is = refl
+result_without_slash (b ∷ bs) is =
+    let parts = and_parts _ _ is.letters in and_from _ _ (outcome_no_slash b parts.0) (outcome_all bs parts.1)

@@ -3,9 +3,12 @@ pub mod KeyLemmas
 pub mod PartLemmas
 pub mod CutLemmas
 pub mod SequenceLemmas
+pub mod WritingLemmas
 pub mod SpellingLemmas
 pub mod EscapeLemmas
 pub mod ByteLemmas
 pub mod PlaceLaws
 pub mod FrontLemmas
 pub mod SpellingLaws
+pub mod CutLaws
+pub mod NameLemmas

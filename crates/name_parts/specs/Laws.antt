@@ -1,12 +1,15 @@
 -- Laws of parts: the bad place that a fault names is the first that breaks the grammar.
-use Rattle.std.specs.Prelude.{◌≡◌, ◌≢◌, ◌⊎◌, ◌<◌, ◌≤◌, ◌++◌, ℕ, List, length, take, drop, Some, true}
+use Rattle.std.specs.Prelude.{◌≡◌, ◌≢◌, ◌⊎◌, ◌<◌, ◌≤◌, ◌++◌, ◌∷◌, ℕ, List, length, take, drop, Some, None, true}
+use Rattle.std.specs.List.{list_all}
 use Rattle.name_parts.specs.declared.alphabets.Alphabet.{Alphabet}
 use Rattle.name_parts.specs.declared.faults.NameFault.TheVariants.{BadByte, NotCanonical}
+use Rattle.name_parts.specs.declared.names.Piece.{Piece}
 use Rattle.name_parts.specs.declared.parts.PartForm.{PartForm}
 use Rattle.percent_encoding.specs.Percent.{percent_decode}
 use Rattle.name_parts.specs.Grammar.{GoesOn, IsFirstBadPlace}
 use Rattle.name_parts.specs.Parts.{alphabet_place, bad_place, has_alphabet, has_letters, is_key, key_place_from}
 use Rattle.name_parts.specs.Escapes.{escaped, escaped_fault, spelling}
+use Rattle.name_parts.specs.Pieces.{AreParts, begins_with_slash, name_fault, name_text}
 
 -- The bad place of a text is the first that breaks the grammar of the alphabet.
 abbrev pub LettersBreakFirst : Type 0
@@ -46,3 +49,16 @@ EscapesBreakFirst =
     → (escaped_fault form text ≡ Some (BadByte place))
     ⊎ (escaped_fault form text ≡ Some (NotCanonical place))
     → IsFirstBadSpelling form text place
+
+-- A name has no fault, and so is read.
+abbrev pub NameHasNoFault : Type 0
+NameHasNoFault =
+    (p : Piece) (ps : List Piece) (parts : List (List ℕ)) → list_all begins_with_slash ps ≡ true
+    → AreParts (p ∷ ps) parts → name_fault (p ∷ ps) (name_text (p ∷ ps) parts) ≡ None
+
+-- Two lists of parts never spell one name.
+abbrev pub OneListOfParts : Type 0
+OneListOfParts =
+    (p : Piece) (ps : List Piece) (parts others : List (List ℕ))
+    → list_all begins_with_slash ps ≡ true → AreParts (p ∷ ps) parts → AreParts (p ∷ ps) others
+    → name_text (p ∷ ps) parts ≡ name_text (p ∷ ps) others → parts ≡ others

@@ -4,4 +4,5 @@ pub mod Parts
 pub mod Escapes
 pub mod Spellings
 pub mod Sequences
+pub mod Pieces
 pub mod Laws

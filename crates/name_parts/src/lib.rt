@@ -8,6 +8,7 @@ mod alphabets;
 mod escapes;
 mod faults;
 pub mod laws;
+mod names;
 mod parts;
 mod sequences;
 mod texts;
@@ -16,6 +17,7 @@ pub use alphabets::Alphabet;
 pub use escapes::{append_escaped, escaped_len, read_escaped};
 pub use faults::NameFault;
 pub use lists::{self, Bytes, Numbers};
+pub use names::{NameParts, Piece, append_piece, piece_len, read_name_parts};
 pub use parts::{
     PartForm, fault_of_part, fault_unless_empty, first_bad, limited, moved, read_part,
     shifted_fault,

@@ -1,54 +1,24 @@
--- The name of an artifact has no fault.
-use Rattle.std.proofs.Common.{◌≡◌, ℕ, ◌+◌, ◌≤◌, ◌<◌, cond, get_or, inl, inr, length, true, false, not, List, [], ◌∷◌, ◌++◌, drop, codes, None, refl, ap, ◌∙◌, append_assoc, arith}
+-- The name of an artifact has no fault, and a text without one is such a name.
+use Rattle.std.proofs.Common.{◌≡◌, ℕ, ◌+◌, ◌≤◌, ◌<◌, Bool, if◌then◌else◌, cond, get_or, inl, inr, length, true, false, List, [], ◌∷◌, ◌++◌, drop, codes, Some, None, refl, sym, ap, ◌∙◌, append_assoc, arith}
 use Rattle.std.specs.Prelude.{◌==◌, nat_lt}
-use Rattle.std.specs.List.{list_all}
-use Rattle.std.proofs.lemmas.Bool.{and_parts, and_from, cases_Bool, eqb-true}
+use Rattle.std.proofs.lemmas.Bool.{cases_Bool, eqb-true}
 use Rattle.std.proofs.lemmas.Bool.Decides.{nat_tests}
-use Rattle.name_parts.specs.declared.alphabets.Alphabet.TheVariants as alphabet
-use Rattle.name_parts.specs.declared.parts.PartForm.TheVariants.{Letters, TestId}
+use Rattle.name_parts.specs.declared.names.Piece.{Piece}
+use Rattle.name_parts.specs.declared.names.Piece.TheVariants as piece
 use Rattle.names_realms.specs.declared.artifact_names.ArtifactName.{ArtifactName}
 use Rattle.names_realms.specs.declared.parents.Parent.{Parent}
 use Rattle.names_realms.specs.declared.parents.Parent.TheVariants as parent
 use Rattle.names_realms.specs.declared.result_names.ResultName.{ResultName}
-use Rattle.name_parts.specs.Alphabets.{may_follow}
-use Rattle.name_parts.specs.Escapes.{escaped, escaped_fault}
-use Rattle.names_realms.specs.Names.{IsArtifactId, IsInvocationId, IsResultId, IsTestId, invocation_name, invocation_id_fault, result_id_fault}
-use Rattle.names_realms.specs.ResultNames.{IsResultName, result_name}
-use Rattle.names_realms.specs.Parents.{IsParentName, parent_name}
-use Rattle.names_realms.specs.ArtifactNames.{goes_to_tests, artifact_tail, artifact_name, IsArtifactName, artifact_tail_fault, result_and_artifact_fault, result_artifact_tail_fault, test_and_rest_fault, test_artifact_tail_fault, behind_id_fault, artifact_parts_fault, artifact_named_fault, artifact_name_fault}
-use Rattle.name_parts.proofs.PartLemmas.{IsPart-part_fault}
-use Rattle.name_parts.proofs.EscapeLemmas.{escaped-fault}
-use Rattle.name_parts.proofs.ByteLemmas.{IsPart-bytes, escaped_without_slash, invocation_without_slash}
-use Rattle.name_parts.proofs.SequenceLemmas.{behind-None, unless_empty-cons}
-use Rattle.names_realms.proofs.ResultNameLemmas.{up_to_slash-None}
-
-follow_no_slash : (b : ℕ) → may_follow alphabet.Outcome b ≡ true → not (b == 47) ≡ true
-follow_no_slash b e = grind (arith, nat_tests)
-
-follow_all : (bs : List ℕ) → list_all (may_follow alphabet.Outcome) bs ≡ true → list_all (λ x. not (x == 47)) bs ≡ true
-follow_all [] e = refl
-follow_all (b ∷ bs) e = let parts = and_parts _ _ e in and_from _ _ (follow_no_slash b parts.0) (follow_all bs parts.1)
-
-pub result_without_slash : (id : List ℕ) → IsResultId id → list_all (λ x. not (x == 47)) id ≡ true
-result_without_slash [] is = refl
-result_without_slash (b ∷ bs) is = let parts = and_parts _ _ is.letters in and_from _ _ (follow_no_slash b parts.0) (follow_all bs parts.1)
-
-tail-None : (id : List ℕ) → IsArtifactId id → artifact_tail_fault (artifact_tail id) ≡ None
-unfolding artifact_tail_fault
-tail-None id is =
-    behind-None (codes "/artifacts/") (escaped id) (escaped_fault (Letters alphabet.Artifact)) (escaped-fault (Letters alphabet.Artifact) id (IsPart-bytes (Letters alphabet.Artifact) id is) is)
-
--- what stands behind an invocation's id in the name of a result's artifact
-long_tail : List ℕ → List ℕ → List ℕ → List ℕ
-long_tail test result artifact = codes "/tests/" ++ (escaped test ++ (codes "/results/" ++ (result ++ artifact_tail artifact)))
-
-long-None : (test result artifact : List ℕ) → IsTestId test → IsResultId result → IsArtifactId artifact → test_artifact_tail_fault (long_tail test result artifact) ≡ None
-unfolding long_tail test_artifact_tail_fault test_and_rest_fault result_artifact_tail_fault result_and_artifact_fault
-long-None test result artifact is is' is'' =
-    let last = up_to_slash-None result_id_fault artifact_tail_fault result _ (result_without_slash result is') (IsPart-part_fault (Letters alphabet.Outcome) result is') (tail-None artifact is'') in
-    let middle = behind-None (codes "/results/") (result ++ artifact_tail artifact) result_and_artifact_fault last in
-    behind-None (codes "/tests/") (escaped test ++ (codes "/results/" ++ (result ++ artifact_tail artifact))) test_and_rest_fault
-    (up_to_slash-None (escaped_fault TestId) result_artifact_tail_fault (escaped test) _ (escaped_without_slash test) (escaped-fault TestId test (IsPart-bytes TestId test is) is) middle)
+use Rattle.name_parts.specs.declared.faults.NameFault.{NameFault}
+use Rattle.name_parts.specs.Sequences.{unless_empty}
+use Rattle.name_parts.specs.Pieces.{AreParts, name_fault, name_text, piece_text}
+use Rattle.names_realms.specs.Names.{IsArtifactId, IsInvocationId}
+use Rattle.names_realms.specs.ResultNames.{result_name}
+use Rattle.names_realms.specs.Parents.{IsParentName, behind_id, parent_name}
+use Rattle.names_realms.specs.ArtifactNames.{IsArtifactName, artifact_name, artifact_name_fault, artifact_pieces, goes_to_tests, long_pieces, short_pieces}
+use Rattle.name_parts.proofs.NameLemmas.{name_fault-None, name_has_no_fault}
+use Rattle.name_parts.proofs.SequenceLemmas.{unless_empty-cons}
+use Rattle.names_realms.proofs.ParentLemmas.{id_before}
 
 -- which of the two a text goes on as, by its first two bytes
 not_more : (n : ℕ) → nat_lt (1 + n) 1 ≡ false
@@ -95,39 +65,90 @@ pub goes-other : (text : List ℕ) → (get_or text 0 0 == 47) ≡ false → goe
 goes-other [] other = no_byte
 goes-other (b ∷ bs) other = other_first b bs other
 
-tests-None : (test result artifact : List ℕ) → IsTestId test → IsResultId result → IsArtifactId artifact → behind_id_fault (long_tail test result artifact) ≡ None
-unfolding long_tail behind_id_fault
-tests-None test result artifact is is' is'' = rw (by_second 116 (drop 2 (codes "/tests/") ++ (escaped test ++ (codes "/results/" ++ (result ++ artifact_tail artifact))))) (long-None test result artifact is is' is'')
+-- the pieces and parts of an artifact's name
+abbrev pub pieces_of : Parent → List Piece
+pieces_of (parent.Invocation id) = short_pieces
+pieces_of (parent.Result r) = long_pieces
 
-artifacts-None : (artifact : List ℕ) → IsArtifactId artifact → behind_id_fault (artifact_tail artifact) ≡ None
-unfolding behind_id_fault
-artifacts-None artifact is = rw (by_second 97 (drop 2 (artifact_tail artifact))) (tail-None artifact is)
+abbrev pub parts_of : Parent → List ℕ → List (List ℕ)
+parts_of (parent.Invocation id) artifact = id ∷ artifact ∷ []
+parts_of (parent.Result r) artifact = r.invocation ∷ r.test ∷ r.result ∷ artifact ∷ []
 
--- an invocation's id, and what stands behind it
-named-None : (id tail : List ℕ) → IsInvocationId id → behind_id_fault (47 ∷ tail) ≡ None → artifact_name_fault (codes "invocations/" ++ (id ++ 47 ∷ tail)) ≡ None
-unfolding artifact_named_fault artifact_parts_fault
-named-None id tail is none =
-    unless_empty-cons artifact_named_fault _ _
-    (behind-None (codes "invocations/") (id ++ 47 ∷ tail) artifact_parts_fault
-    (up_to_slash-None invocation_id_fault behind_id_fault id tail (invocation_without_slash id is) (IsPart-part_fault (Letters alphabet.Invocation) id is) none))
+pub regrouped : (p : Parent) (artifact : List ℕ) → parent_name p ++ piece_text piece.Artifact artifact ≡ name_text (pieces_of p) (parts_of p artifact)
+unfolding result_name
+regrouped (parent.Invocation id) artifact = simp append_assoc
+regrouped (parent.Result r) artifact = simp append_assoc
 
-of_invocation : (id artifact : List ℕ) → IsInvocationId id → IsArtifactId artifact → artifact_name_fault (invocation_name id ++ artifact_tail artifact) ≡ None
-of_invocation id artifact is is' = named-None id _ is (artifacts-None artifact is')
+pub are_parts : (p : Parent) (text artifact : List ℕ) → IsParentName p text → IsArtifactId artifact → AreParts (pieces_of p) (parts_of p artifact)
+are_parts (parent.Invocation id) text artifact is is' = (is.1, (is', tt))
+are_parts (parent.Result r) text artifact is is' = (is.invocation, (is.test, (is.result, (is', tt))))
 
-regrouped : (r : ResultName) (artifact : List ℕ) → result_name r ++ artifact_tail artifact ≡ codes "invocations/" ++ (r.invocation ++ long_tail r.test r.result artifact)
-unfolding result_name long_tail
-regrouped r artifact = simp append_assoc
+-- what an artifact's name goes on with behind the id
+goes_on : (id tail : List ℕ) (c : ℕ) → IsInvocationId id → goes_to_tests (behind_id (codes "invocations/" ++ (id ++ 47 ∷ c ∷ tail))) ≡ (c == 116)
+goes_on id tail c is = ap goes_to_tests (id_before id (c ∷ tail) is) ∙ by_second c tail
 
-of_result : (r : ResultName) (text artifact : List ℕ) → IsResultName r text → IsArtifactId artifact → artifact_name_fault (result_name r ++ artifact_tail artifact) ≡ None
-unfolding long_tail
-of_result r text artifact is is' =
-    ap artifact_name_fault (regrouped r artifact) ∙ named-None r.invocation _ is.invocation (tests-None r.test r.result artifact is.test is.result is')
-
-of_parent : (p : Parent) (text artifact : List ℕ) → IsParentName p text → IsArtifactId artifact → artifact_name_fault (parent_name p ++ artifact_tail artifact) ≡ None
-of_parent (parent.Invocation id) text artifact is is' = of_invocation id artifact is.1 is'
-of_parent (parent.Result r) text artifact is is' = of_result r text artifact is is'
+fault_of : (p : Parent) (text artifact : List ℕ) → IsParentName p text → IsArtifactId artifact → artifact_name_fault (name_text (pieces_of p) (parts_of p artifact)) ≡ None
+fault_of (parent.Invocation id) text artifact is is' =
+    let name : List ℕ = name_text short_pieces (id ∷ artifact ∷ []) in
+    let none : name_fault (artifact_pieces name) name ≡ None =
+    ap (λ (t : Bool). name_fault (if t then long_pieces else short_pieces) name) (goes_on id (drop 2 (piece_text piece.Artifact artifact)) 97 is.1)
+    ∙ name_has_no_fault piece.Invocation (piece.Artifact ∷ []) (id ∷ artifact ∷ []) refl (are_parts (parent.Invocation id) text artifact is is') in
+    unless_empty-cons (λ t. name_fault (artifact_pieces t) t) 105 (drop 1 name) none
+fault_of (parent.Result r) text artifact is is' =
+    let name : List ℕ = name_text long_pieces (parts_of (parent.Result r) artifact) in
+    let none : name_fault (artifact_pieces name) name ≡ None =
+    ap (λ (t : Bool). name_fault (if t then long_pieces else short_pieces) name)
+    (goes_on r.invocation (drop 2 (name_text (piece.Test ∷ piece.Result ∷ piece.Artifact ∷ []) (r.test ∷ r.result ∷ artifact ∷ []))) 116 is.invocation)
+    ∙ name_has_no_fault piece.Invocation (piece.Test ∷ piece.Result ∷ piece.Artifact ∷ []) (parts_of (parent.Result r) artifact) refl (are_parts (parent.Result r) text artifact is is') in
+    unless_empty-cons (λ t. name_fault (artifact_pieces t) t) 105 (drop 1 name) none
 
 pub IsArtifactName-fault : (a : ArtifactName) (text : List ℕ) → IsArtifactName a text → artifact_name_fault text ≡ None
 unfolding artifact_name
 IsArtifactName-fault a text is =
-    ap artifact_name_fault is.spelling ∙ of_parent a.parent (parent_name a.parent) a.artifact is.parent is.artifact
+    ap artifact_name_fault (is.spelling ∙ regrouped a.parent a.artifact) ∙ fault_of a.parent (parent_name a.parent) a.artifact is.parent is.artifact
+
+-- a text whose pieces are these, and which has a fault, is no artifact's name
+pub no_artifact : (t : Bool) (text : List ℕ) (f : NameFault) → goes_to_tests (behind_id text) ≡ t → unless_empty (name_fault (if t then long_pieces else short_pieces)) text ≡ Some f → (a : ArtifactName) → IsArtifactName a text → ⊥
+no_artifact t text f is e a named =
+    let none : artifact_name_fault text ≡ None = IsArtifactName-fault a text named in
+    let both : None ≡ Some f = sym none ∙ ap (λ (b : Bool). unless_empty (name_fault (if b then long_pieces else short_pieces)) text) is ∙ e in cc
+
+-- an artifact by its parts
+pub short_named : (x y : List ℕ) (rest : List (List ℕ)) → AreParts short_pieces (x ∷ y ∷ rest) → IsArtifactName (record { parent = parent.Invocation x; artifact = y }) (name_text short_pieces (x ∷ y ∷ rest))
+unfolding artifact_name
+short_named x y rest are = record { spelling = sym (regrouped (parent.Invocation x) y); parent = (refl, are.0); artifact = are.1.0 }
+
+pub long_named : (x y z w : List ℕ) (rest : List (List ℕ)) → AreParts long_pieces (x ∷ y ∷ z ∷ w ∷ rest) → IsArtifactName (record { parent = parent.Result (record { invocation = x; test = y; result = z }); artifact = w }) (name_text long_pieces (x ∷ y ∷ z ∷ w ∷ rest))
+unfolding artifact_name
+long_named x y z w rest are =
+    let r : ResultName = record { invocation = x; test = y; result = z } in
+    record {
+      spelling = sym (regrouped (parent.Result r) w);
+      parent = record { spelling = refl; invocation = are.0; test = are.1.0; result = are.1.1.0 };
+      artifact = are.1.1.1.0;
+    }
+
+of_invocation : (parts : List (List ℕ)) → AreParts short_pieces parts → (a : ArtifactName) × IsArtifactName a (name_text short_pieces parts)
+of_invocation [] are = absurd are
+of_invocation (x ∷ []) are = absurd are.1
+of_invocation (x ∷ y ∷ rest) are = (record { parent = parent.Invocation x; artifact = y }, short_named x y rest are)
+
+of_result : (parts : List (List ℕ)) → AreParts long_pieces parts → (a : ArtifactName) × IsArtifactName a (name_text long_pieces parts)
+of_result [] are = absurd are
+of_result (x ∷ []) are = absurd are.1
+of_result (x ∷ y ∷ []) are = absurd are.1.1
+of_result (x ∷ y ∷ z ∷ []) are = absurd are.1.1.1
+of_result (x ∷ y ∷ z ∷ w ∷ rest) are =
+    (record { parent = parent.Result (record { invocation = x; test = y; result = z }); artifact = w }, long_named x y z w rest are)
+
+moved_name : (text other : List ℕ) → text ≡ other → (a : ArtifactName) × IsArtifactName a other → (a : ArtifactName) × IsArtifactName a text
+moved_name text other e found = (found.0, record { spelling = e ∙ found.1.spelling; parent = found.1.parent; artifact = found.1.artifact })
+
+named_either : (t : Bool) (text : List ℕ) → name_fault (if t then long_pieces else short_pieces) text ≡ None → (a : ArtifactName) × IsArtifactName a text
+named_either true text none =
+    let has = name_fault-None piece.Invocation (piece.Test ∷ piece.Result ∷ piece.Artifact ∷ []) text none in moved_name text _ has.spelling (of_result has.parts has.are)
+named_either false text none =
+    let has = name_fault-None piece.Invocation (piece.Artifact ∷ []) text none in moved_name text _ has.spelling (of_invocation has.parts has.are)
+
+pub artifact_by_name : (text : List ℕ) → name_fault (artifact_pieces text) text ≡ None → (a : ArtifactName) × IsArtifactName a text
+artifact_by_name text none = named_either (goes_to_tests (behind_id text)) text none

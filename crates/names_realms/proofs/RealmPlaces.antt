@@ -20,7 +20,7 @@ use Rattle.std.proofs.lemmas.List.Sums.{prefix_len-le-length}
 use Rattle.name_parts.proofs.PlaceLaws.{letters_break_first}
 use Rattle.names_realms.specs.Realms.{IsRealm, IsSubrealm, bad_subrealm_place, colon_fault, project_len, realm_fault}
 use Rattle.names_realms.specs.Laws.{RealmBreaksFirst}
-use Rattle.names_realms.proofs.CutLaws.{Lacks, cut_alike}
+use Rattle.name_parts.proofs.CutLaws.{Lacks, cut_alike}
 use Rattle.names_realms.proofs.RealmLemmas.{IsRealm-realm_fault, filled, no_at, project_without_colon}
 
 abbrev root : List ℕ

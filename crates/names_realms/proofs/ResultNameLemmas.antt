@@ -1,51 +1,40 @@
--- The name of a result has no fault.
-use Rattle.std.proofs.Common.{◌≡◌, ℕ, true, not, List, ◌∷◌, ◌++◌, length, codes, Option, None, refl, ap, ◌∙◌}
-use Rattle.std.specs.Prelude.{◌==◌}
-use Rattle.std.specs.List.{list_all}
-use Rattle.std.proofs.lemmas.List.{take_at, drop_at}
-use Rattle.name_parts.specs.declared.faults.NameFault.{NameFault}
-use Rattle.name_parts.specs.declared.alphabets.Alphabet.TheVariants as alphabet
-use Rattle.name_parts.specs.declared.parts.PartForm.TheVariants.{Letters, TestId}
+-- The name of a result has no fault, and a text without one is such a name.
+use Rattle.std.proofs.Common.{◌≡◌, ℕ, List, [], ◌∷◌, None, refl, ap, ◌∙◌}
+use Rattle.name_parts.specs.declared.names.Piece.TheVariants as piece
 use Rattle.names_realms.specs.declared.result_names.ResultName.{ResultName}
-use Rattle.name_parts.specs.Escapes.{escaped, escaped_fault}
-use Rattle.names_realms.specs.Names.{IsInvocationId, IsTestId, IsResultId, invocation_id_fault, result_id_fault}
-use Rattle.name_parts.specs.Sequences.{up_to_slash}
-use Rattle.names_realms.specs.ResultNames.{result_tail, test_tail, result_name, IsResultName, result_tail_fault, test_and_result_fault, test_tail_fault, all_parts_fault, named_fault, result_name_fault}
-use Rattle.name_parts.proofs.PartLemmas.{IsPart-part_fault}
-use Rattle.name_parts.proofs.CutLemmas.{cut_before}
-use Rattle.name_parts.proofs.EscapeLemmas.{escaped-fault}
-use Rattle.name_parts.proofs.ByteLemmas.{IsPart-bytes, escaped_without_slash, invocation_without_slash}
-use Rattle.name_parts.proofs.SequenceLemmas.{behind-None, unless_empty-cons}
+use Rattle.name_parts.specs.Pieces.{AreParts, name_fault, name_text}
+use Rattle.names_realms.specs.ResultNames.{IsResultName, result_name, result_name_fault, result_pieces}
+use Rattle.name_parts.proofs.NameLemmas.{name_fault-None, name_has_no_fault}
+use Rattle.name_parts.proofs.SequenceLemmas.{unless_empty-cons}
 
-pub up_to_slash-None : (first rest : List ℕ → Option NameFault) (part tail : List ℕ) → list_all (λ x. not (x == 47)) part ≡ true → first part ≡ None → rest (47 ∷ tail) ≡ None → up_to_slash first rest (part ++ 47 ∷ tail) ≡ None
-unfolding up_to_slash
-up_to_slash-None first rest part tail without e f =
-    rw (cut_before 47 part tail without, take_at part (47 ∷ tail) (length part) refl, drop_at part (47 ∷ tail) (length part) refl, e, f) refl
+abbrev pub result_parts : ResultName → List (List ℕ)
+result_parts r = r.invocation ∷ r.test ∷ r.result ∷ []
 
-pub result_tail-None : (id : List ℕ) → IsResultId id → result_tail_fault (result_tail id) ≡ None
-unfolding result_tail_fault
-result_tail-None id is = behind-None (codes "/results/") id result_id_fault (IsPart-part_fault (Letters alphabet.Outcome) id is)
+pub IsResultName-parts : (r : ResultName) (text : List ℕ) → IsResultName r text → AreParts result_pieces (result_parts r)
+IsResultName-parts r text is = (is.invocation, (is.test, (is.result, tt)))
 
-pub test_tail-None : (test id : List ℕ) → IsTestId test → IsResultId id → test_tail_fault (test_tail test id) ≡ None
-unfolding test_tail_fault test_and_result_fault
-test_tail-None test id is is' =
-    behind-None (codes "/tests/") (escaped test ++ result_tail id) test_and_result_fault
-    (up_to_slash-None (escaped_fault TestId) result_tail_fault (escaped test) _ (escaped_without_slash test) (escaped-fault TestId test (IsPart-bytes TestId test is) is) (result_tail-None id is'))
-
-pub all_parts-None : (r : ResultName) → IsInvocationId r.invocation → IsTestId r.test → IsResultId r.result → all_parts_fault (r.invocation ++ test_tail r.test r.result) ≡ None
-unfolding all_parts_fault
-all_parts-None r is test result =
-    up_to_slash-None invocation_id_fault test_tail_fault r.invocation _ (invocation_without_slash r.invocation is) (IsPart-part_fault (Letters alphabet.Invocation) r.invocation is) (test_tail-None r.test r.result test result)
-
-named-None : (r : ResultName) → IsInvocationId r.invocation → IsTestId r.test → IsResultId r.result → named_fault (result_name r) ≡ None
-unfolding named_fault result_name
-named-None r is test result =
-    behind-None (codes "invocations/") (r.invocation ++ test_tail r.test r.result) all_parts_fault (all_parts-None r is test result)
-
-not_empty_name : (r : ResultName) → named_fault (result_name r) ≡ None → result_name_fault (result_name r) ≡ None
+pub name-None : (r : ResultName) (text : List ℕ) → IsResultName r text → name_fault result_pieces (result_name r) ≡ None
 unfolding result_name
-not_empty_name r none = unless_empty-cons named_fault _ _ none
+name-None r text is = name_has_no_fault piece.Invocation (piece.Test ∷ piece.Result ∷ []) (result_parts r) refl (IsResultName-parts r text is)
+
+not_empty : (r : ResultName) → name_fault result_pieces (result_name r) ≡ None → result_name_fault (result_name r) ≡ None
+unfolding result_name
+not_empty r none = unless_empty-cons (name_fault result_pieces) _ _ none
 
 pub IsResultName-fault : (r : ResultName) (text : List ℕ) → IsResultName r text → result_name_fault text ≡ None
-IsResultName-fault r text is =
-    ap result_name_fault is.spelling ∙ not_empty_name r (named-None r is.invocation is.test is.result)
+IsResultName-fault r text is = ap result_name_fault is.spelling ∙ not_empty r (name-None r text is)
+
+-- a result by its parts
+pub result_of : (text : List ℕ) (parts : List (List ℕ)) → text ≡ name_text result_pieces parts → AreParts result_pieces parts → (r : ResultName) × IsResultName r text
+unfolding result_name
+result_of text [] e are = absurd are
+result_of text (x ∷ []) e are = absurd are.1
+result_of text (x ∷ y ∷ []) e are = absurd are.1.1
+result_of text (x ∷ y ∷ z ∷ []) e are =
+    (record { invocation = x; test = y; result = z }, record { spelling = e; invocation = are.0; test = are.1.0; result = are.1.1.0 })
+result_of text (x ∷ y ∷ z ∷ w ∷ ws) e are = absurd are.1.1.1
+
+pub result_named : (text : List ℕ) → name_fault result_pieces text ≡ None → (r : ResultName) × IsResultName r text
+result_named text none =
+    let has = name_fault-None piece.Invocation (piece.Test ∷ piece.Result ∷ []) text none in
+    result_of text has.parts has.spelling has.are

@@ -1,22 +1,18 @@
 -- Names of artifacts: `{parent}/artifacts/{escaped artifact id}`.
-use Rattle.std.specs.Prelude.{◌≡◌, ℕ, if◌then◌else◌, nat_eq, nat_lt, Bool, List, ◌++◌, codes, Option}
+use Rattle.std.specs.Prelude.{◌≡◌, ℕ, if◌then◌else◌, nat_eq, nat_lt, Bool, List, [], ◌∷◌, ◌++◌, codes, Option}
 use Rattle.std.specs.List.{common_prefix_len}
 use Rattle.name_parts.specs.declared.faults.NameFault.{NameFault}
-use Rattle.name_parts.specs.declared.alphabets.Alphabet.TheVariants as alphabet
-use Rattle.name_parts.specs.declared.parts.PartForm.TheVariants.{Letters, TestId}
+use Rattle.name_parts.specs.declared.names.Piece.{Piece}
+use Rattle.name_parts.specs.declared.names.Piece.TheVariants as piece
 use Rattle.names_realms.specs.declared.artifact_names.ArtifactName.{ArtifactName}
-use Rattle.name_parts.specs.Sequences.{behind, unless_empty, up_to_slash}
-use Rattle.name_parts.specs.Escapes.{escaped, escaped_fault}
-use Rattle.names_realms.specs.Names.{IsArtifactId, invocation_id_fault, result_id_fault}
-use Rattle.names_realms.specs.Parents.{IsParentName, parent_name}
-
--- what stands behind the parent's name
-abbrev pub artifact_tail : List ℕ → List ℕ
-artifact_tail artifact = codes "/artifacts/" ++ escaped artifact
+use Rattle.name_parts.specs.Pieces.{name_fault, piece_text}
+use Rattle.name_parts.specs.Sequences.{unless_empty}
+use Rattle.names_realms.specs.Names.{IsArtifactId}
+use Rattle.names_realms.specs.Parents.{IsParentName, behind_id, parent_name}
 
 -- the one spelling of a name
 unfoldable pub artifact_name : ArtifactName → List ℕ
-artifact_name a = parent_name a.parent ++ artifact_tail a.artifact
+artifact_name a = parent_name a.parent ++ piece_text piece.Artifact a.artifact
 
 -- the text is the name of an artifact
 pub record IsArtifactName (a : ArtifactName) (text : List ℕ) : Type 0 where
@@ -24,22 +20,12 @@ pub record IsArtifactName (a : ArtifactName) (text : List ℕ) : Type 0 where
   pub parent : IsParentName a.parent (parent_name a.parent)
   pub artifact : IsArtifactId a.artifact
 
--- what is wrong with a text, part by part
-unfoldable pub artifact_tail_fault : List ℕ → Option NameFault
-artifact_tail_fault text =
-    behind (codes "/artifacts/") (escaped_fault (Letters alphabet.Artifact)) text
+-- the pieces of an invocation's artifact, and of a result's
+abbrev pub short_pieces : List Piece
+short_pieces = piece.Invocation ∷ piece.Artifact ∷ []
 
-unfoldable pub result_and_artifact_fault : List ℕ → Option NameFault
-result_and_artifact_fault text = up_to_slash result_id_fault artifact_tail_fault text
-
-unfoldable pub result_artifact_tail_fault : List ℕ → Option NameFault
-result_artifact_tail_fault text = behind (codes "/results/") result_and_artifact_fault text
-
-unfoldable pub test_and_rest_fault : List ℕ → Option NameFault
-test_and_rest_fault text = up_to_slash (escaped_fault TestId) result_artifact_tail_fault text
-
-unfoldable pub test_artifact_tail_fault : List ℕ → Option NameFault
-test_artifact_tail_fault text = behind (codes "/tests/") test_and_rest_fault text
+abbrev pub long_pieces : List Piece
+long_pieces = piece.Invocation ∷ piece.Test ∷ piece.Result ∷ piece.Artifact ∷ []
 
 -- Behind an invocation's id go on both `/artifacts/` and `/tests/`: the one with which the text has
 -- the longer common front counts.
@@ -48,15 +34,8 @@ goes_to_tests text =
     nat_lt (common_prefix_len nat_eq text (codes "/artifacts/"))
     (common_prefix_len nat_eq text (codes "/tests/"))
 
-unfoldable pub behind_id_fault : List ℕ → Option NameFault
-behind_id_fault text =
-    if goes_to_tests text then test_artifact_tail_fault text else artifact_tail_fault text
-
-unfoldable pub artifact_parts_fault : List ℕ → Option NameFault
-artifact_parts_fault text = up_to_slash invocation_id_fault behind_id_fault text
-
-unfoldable pub artifact_named_fault : List ℕ → Option NameFault
-artifact_named_fault text = behind (codes "invocations/") artifact_parts_fault text
+abbrev pub artifact_pieces : List ℕ → List Piece
+artifact_pieces text = if goes_to_tests (behind_id text) then long_pieces else short_pieces
 
 abbrev pub artifact_name_fault : List ℕ → Option NameFault
-artifact_name_fault text = unless_empty artifact_named_fault text
+artifact_name_fault text = unless_empty (λ t. name_fault (artifact_pieces t) t) text

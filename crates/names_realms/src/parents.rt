@@ -1,15 +1,17 @@
 //! What holds artifacts.
-ghost use Rattle.std.specs.Prelude.{◌≡◌, ◌≢◌, ◌≤◌, ◌++◌, List, ℕ, codes, length, take, IfOk, IfErr, OnOk, OnErr, Some};
-ghost use Rattle.name_parts.specs.Parts.{place_of};
+ghost use Rattle.std.specs.Prelude.{◌≡◌, ◌≢◌, ◌≤◌, ◌++◌, ◌∷◌, [], length, take, IfOk, IfErr, OnOk, OnErr, Some};
+ghost use Rattle.name_parts.specs.Pieces.{AreParts, name_text};
+ghost use Rattle.name_parts.specs.declared.names.Piece.{Piece};
 ghost use Rattle.names_realms.specs.declared.parents.Parent.{Parent};
-ghost use Rattle.names_realms.specs.Parents.{IsParentName, parent_fault, parent_name, parent_named_fault};
-ghost use Rattle.names_realms.specs.Parents.{parent_parts_fault};
+ghost use Rattle.names_realms.specs.Names.{IsInvocationName};
+ghost use Rattle.names_realms.specs.Parents.{IsParentName, behind_id, from_slash, parent_fault, parent_name};
 
 use crate::ids::InvocationId;
-use crate::result_names::{
-    ResultName, push_result_name, read_all_parts, read_invocation, result_name_len,
+use crate::result_names::{ResultName, push_result_name, result_name_len, result_of};
+use name_parts::{
+    NameFault, NameParts, Piece, all_or_nothing, append_piece, len_before, piece_len,
+    read_name_parts,
 };
-use name_parts::{NameFault, all_or_nothing, append, len_before, moved, rest_behind};
 use std::alloc::{AllocError, Global};
 
 /// What holds artifacts: an invocation, or a result.
@@ -20,48 +22,25 @@ pub enum Parent {
     Result(ResultName),
 }
 
-/// Reads what stands behind `invocations/` in a parent's name.
-#[tactic(auto, unfolding(crate::specs::Parents::parent_parts_fault, crate::specs::ResultNames::result_name))]
-fn read_parts(alloc: Global, text: &[u8]) -> Result<Parent, NameFault>
-    ensures ok { IfOk result (λ p. IsParentName p (codes "invocations/" ++ text.now)) }
-    ensures fault { IfErr result
-        (λ f. f ≢ NameFault.Memory → parent_parts_fault text.now ≡ Some f) }
-    ensures within { IfErr result (λ f. place_of f ≤ length text.now) }
+/// What stands in a name behind an invocation's id, from its `/` on.
+pub(crate) fn behind_id(text: &[u8]) -> &[u8]
+    ensures { result.now ≡ behind_id text.now }
 {
-    if len_before(text, b'/') == text.len() {
-        let id = read_invocation(alloc, text)?;
-        return Ok(Parent::Invocation(id));
+    if text.len() < 12 {
+        return b"";
     }
-    let name = read_all_parts(alloc, text)?;
-    Ok(Parent::Result(name))
+    let rest = &text[12..];
+    &rest[len_before(rest, b'/')..]
 }
 
-/// Reads a parent's name.
-#[tactic(auto, unfolding(crate::specs::Parents::parent_named_fault, name_parts::specs::Sequences::behind))]
-fn read_named(alloc: Global, text: &[u8]) -> Result<Parent, NameFault>
-    ensures ok { IfOk result (λ p. IsParentName p text.now) }
-    ensures fault { IfErr result
-        (λ f. f ≢ NameFault.Memory → parent_named_fault text.now ≡ Some f) }
+/// The invocation with this one part.
+fn invocation_of(mut parts: NameParts) -> InvocationId
+    requires { AreParts (Piece.Invocation ∷ []) parts }
+    ensures { IsInvocationName result (name_text (Piece.Invocation ∷ []) parts) }
 {
-    let rest = match rest_behind(b"invocations/", text) {
-        Ok(rest) => rest,
-        Err(fault) => return Err(fault),
-    };
-    match read_parts(alloc, rest) {
-        Ok(parent) => Ok(parent),
-        Err(fault) => Err(moved(12, fault)),
+    InvocationId {
+        text: parts.take_first(),
     }
-}
-
-/// Reads a parent's name, which is not empty.
-fn read_whole(alloc: Global, text: &[u8]) -> Result<Parent, NameFault>
-    ensures ok { IfOk result (λ p. IsParentName p text.now) }
-    ensures fault { IfErr result (λ f. f ≢ NameFault.Memory → parent_fault text.now ≡ Some f) }
-{
-    if text.is_empty() {
-        return Err(NameFault::Empty);
-    }
-    read_named(alloc, text)
 }
 
 /// How many bytes a parent's name has.
@@ -71,18 +50,9 @@ pub(crate) fn parent_name_len(parent: &Parent) -> usize
     ensures named { IsParentName parent.now (parent_name parent.now) }
 {
     match parent {
-        Parent::Invocation(id) => 12 + id.as_slice().len(),
+        Parent::Invocation(id) => piece_len(Piece::Invocation, id.as_slice()),
         Parent::Result(name) => result_name_len(name),
     }
-}
-
-/// Appends the name of an invocation, or only a front of it.
-fn push_invocation_name(out: &mut Vec<u8>, id: &InvocationId) -> Result<(), AllocError>
-    ensures ok { OnOk result (out.new.items ≡ out.old.items ++ (codes "invocations/" ++ id.now)) }
-    ensures front { take (length out.old.items) out.new.items ≡ out.old.items }
-{
-    append(out, b"invocations/")?;
-    append(out, id.as_slice())
 }
 
 /// Appends a parent's name, or only a front of it.
@@ -91,7 +61,7 @@ pub(crate) fn push_parent_name(out: &mut Vec<u8>, parent: &Parent) -> Result<(),
     ensures front { take (length out.old.items) out.new.items ≡ out.old.items }
 {
     match parent {
-        Parent::Invocation(id) => push_invocation_name(out, id),
+        Parent::Invocation(id) => append_piece(out, Piece::Invocation, id.as_slice()),
         Parent::Result(name) => push_result_name(out, name),
     }
 }
@@ -105,7 +75,17 @@ impl Parent {
             (λ f. f ≢ NameFault.Memory → (p : Parent) → ¬ IsParentName p text.now) }
         ensures fault { IfErr result (λ f. f ≢ NameFault.Memory → parent_fault text.now ≡ Some f) }
     {
-        read_whole(alloc, text)
+        if behind_id(text).is_empty() {
+            return match read_name_parts(alloc, &[Piece::Invocation], text) {
+                Ok(parts) => Ok(Parent::Invocation(invocation_of(parts))),
+                Err(fault) => Err(fault),
+            };
+        }
+        let pieces = [Piece::Invocation, Piece::Test, Piece::Result];
+        match read_name_parts(alloc, &pieces, text) {
+            Ok(parts) => Ok(Parent::Result(result_of(parts))),
+            Err(fault) => Err(fault),
+        }
     }
 
     /// Appends the one spelling of the name, all of it or nothing.

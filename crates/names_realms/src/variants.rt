@@ -1,6 +1,6 @@
 //! Variants of tests, and their labels.
 ghost use Rattle.std.specs.Prelude.{◌≡◌, ◌≢◌, ◌++◌, ◌≤◌, ◌<◌, ℕ, List, ◌∷◌, [], take, drop, length, slice_get, true};
-ghost use Rattle.std.specs.Prelude.{IsPermutation, IfOk, IfErr, Some, map};
+ghost use Rattle.std.specs.Prelude.{IsPermutation, IfOk, IfErr, IfSome, Some, map};
 ghost use Rattle.std.specs.List.{flat_map};
 ghost use Rattle.sha2.specs.Sha256.{sha256};
 ghost use Rattle.sha2.specs.Hashers.{Holds256};
@@ -15,25 +15,26 @@ use std::cmp::Ordering;
 use std::collections::BTreeMap;
 use std::marker::Model;
 
-/// The pairs of a variant, in the order of their keys as bytes. No key stands twice. Its label is
-/// kept with it, since each page that shows or orders it asks for it.
+/// The pairs of a variant, in the order of their keys as bytes. No key stands twice. Its label can
+/// be kept with it, since each page that shows or orders it asks for it.
 #[derive(Debug, Drop)]
 pub struct Variant {
     pairs: Vec<Pair>,
-    label: [u8; 16],
+    label: Option<[u8; 16]>,
 }
 
 impl Model for Variant {
     ghost use Rattle.std.specs.Prelude.{List};
     ghost use Rattle.names_realms.specs.declared.pairs.Pair.{Pair};
-    ghost use Rattle.std.specs.Prelude.{◌≡◌};
+    ghost use Rattle.std.specs.Prelude.{◌≡◌, IfSome};
     ghost use Rattle.names_realms.specs.Variants.{IsAscending, label_of};
 
     ghost Value = { List Pair };
 
     ghost view = { λ v. v.pairs.items };
 
-    ghost invariant = { λ v. IsAscending v.pairs.items × (v.label ≡ label_of v.pairs.items) };
+    ghost invariant = { λ v. IsAscending v.pairs.items
+        × IfSome v.label (λ label. label ≡ label_of v.pairs.items) };
 }
 
 /// Keys with their values, in the order of the keys, as pairs.
@@ -62,6 +63,28 @@ fn are_rising(pairs: &[Pair]) -> bool
             return false;
         }
         last = pair;
+    }
+    true
+}
+
+/// Whether two pairs are equal.
+fn is_same(left: &Pair, right: &Pair) -> bool
+    ensures { result ≡ true → left.now ≡ right.now }
+{
+    left.key.as_slice() == right.key.as_slice() && left.value.as_slice() == right.value.as_slice()
+}
+
+/// Whether two lists of pairs are equal.
+fn are_same(left: &[Pair], right: &[Pair]) -> bool
+    ensures { result ≡ true → left.now ≡ right.now }
+{
+    if left.len() != right.len() {
+        return false;
+    }
+    for i in 0..left.len() {
+        if !is_same(&left[i], &right[i]) {
+            return false;
+        }
     }
     true
 }
@@ -115,8 +138,7 @@ impl Variant {
         requires { IsAscending pairs.items }
         ensures { result ≡ pairs.items }
     {
-        let label = label_text(pairs.as_slice());
-        Variant { pairs, label }
+        Variant { pairs, label: None }
     }
 
     /// The variant of pairs in any order.
@@ -164,6 +186,36 @@ impl Variant {
     pub fn label(&self) -> [u8; 16]
         ensures { result ≡ label_of self.now }
     {
-        self.label
+        match self.label {
+            Some(label) => label,
+            None => label_text(self.pairs.as_slice()),
+        }
+    }
+
+    /// The label that this variant keeps, where that one has the same pairs.
+    fn label_for(&self, other: &Variant) -> Option<[u8; 16]>
+        ensures { IfSome result (λ label. label ≡ label_of other.now) }
+    {
+        if are_same(self.pairs.as_slice(), other.pairs.as_slice()) {
+            self.label
+        } else {
+            None
+        }
+    }
+
+    /// Keeps the label from now on: the one that another variant keeps, where it has the same
+    /// pairs, as those that are recorded side by side mostly have, and else a new one.
+    pub fn keep_label(&mut self, other: Option<&Variant>)
+        ensures { self.new ≡ self.old }
+    {
+        let found = match other {
+            Some(other) => other.label_for(self),
+            None => None,
+        };
+        let label = match found {
+            Some(label) => label,
+            None => label_text(self.pairs.as_slice()),
+        };
+        self.label = Some(label);
     }
 }
