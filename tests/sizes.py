@@ -27,32 +27,9 @@ LIMITS = {
 
 # begin of the list
 LISTED = {
-    "lines": {
-        "json_fields": 1524,
-    },
-    "functions": {
-        "json_fields": 101,
-    },
     "wide lines": {
-        "call_forms": 4,
-        "requests_table": 5,
-        "disks": 33,
-        "fault_counts": 3,
-        "field_kinds": 2,
-        "finaliser": 2,
-        "http_wire": 2,
-        "http_workers": 9,
-        "journal_trial": 2,
-        "names_realms": 14,
-        "outside": 38,
-        "permissions": 3,
-        "policies_table": 2,
-        "program_words": 8,
-        "result_journal": 23,
-        "tellers": 1,
-        "turnstile": 1,
-        "turnstile_trial": 1,
-        "whole_reads": 11,
+        "field_kinds": 1,
+        "permissions": 1,
     },
 }
 # end of the list

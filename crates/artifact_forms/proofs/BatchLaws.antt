@@ -18,8 +18,8 @@ use Rattle.json_fields.proofs.ListLaws.{stops}
 use Rattle.json_fields.proofs.MeaningLaws.{first_left, first_right, holds_one, maybe_one, each_one, same_one}
 use Rattle.json_fields.proofs.SpellLaws.{parent_spelled}
 use Rattle.json_fields.proofs.WriteLaws.{listed_written, set_found}
-use Rattle.text_kinds.specs.Texts.{a_request_id, IsRequestId}
-use Rattle.text_kinds.proofs.TextLaws.{only_request_ids_are_read, read_form}
+use Rattle.field_kinds.specs.TextKinds.Texts.{a_request_id, IsRequestId}
+use Rattle.field_kinds.proofs.TextKinds.TextLaws.{only_request_ids_are_read, read_form}
 use Rattle.field_kinds.specs.Filled.{optional_filled}
 use Rattle.field_kinds.proofs.FilledLaws.{filled_form}
 use Rattle.result_forms.proofs.MemberLaws.{member_of, two_names, one_name}

@@ -17,9 +17,9 @@ use Rattle.json_fields.specs.declared.faults.FaultKind.TheVariants.{BadValue}
 use Rattle.json_fields.specs.declared.whys.Why.TheVariants.{OutOfRange, TooLong}
 use Rattle.json_fields.proofs.FormLaws.{GivesForm}
 use Rattle.json_fields.proofs.MeaningLaws.{text_one}
-use Rattle.text_kinds.specs.Contents.{contents_why, contents_why_of}
-use Rattle.text_kinds.specs.Hashes.{hash_why}
-use Rattle.text_kinds.proofs.ContentLaws.{why_decoded, contents_written}
+use Rattle.field_kinds.specs.TextKinds.Contents.{contents_why, contents_why_of}
+use Rattle.field_kinds.specs.TextKinds.Hashes.{hash_why}
+use Rattle.field_kinds.proofs.TextKinds.ContentLaws.{why_decoded, contents_written}
 use Rattle.field_kinds.specs.Defaults.{HoldsOr}
 use Rattle.field_kinds.specs.Numbers.{Said, no_number, no_whole, below_zero, says, said, beyond, a_whole, IsSaid, most_of_bytes}
 use Rattle.field_kinds.proofs.NumberLaws.{bytes_written}

@@ -11,8 +11,8 @@ use Rattle.hex.specs.declared.error.FromHexError.{FromHexError}
 use Rattle.hex.proofs.Pairs.{decode_pairs-ok_pair, cons_byte}
 use Rattle.hex.proofs.HexLemmas.{length-encode_with, decode_pairs-ok, decode_of-even, decode_of-encode_lower, decode_sized-twice}
 use Rattle.field_kinds.proofs.NumberLaws.{digit_of}
-use Rattle.text_kinds.specs.Hashes.{is_lower_hex, hash_why}
-use Rattle.text_kinds.proofs.HashLaws.{only_hashes_are_read}
+use Rattle.field_kinds.specs.TextKinds.Hashes.{is_lower_hex, hash_why}
+use Rattle.field_kinds.proofs.TextKinds.HashLaws.{only_hashes_are_read}
 use Rattle.artifact_forms.specs.Hashes.{IsDigest, hash_text, SpellsHash}
 
 -- ---- the digits, each looked at once

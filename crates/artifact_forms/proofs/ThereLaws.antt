@@ -9,8 +9,8 @@ use Rattle.json_fields.specs.Fields.{required, optional, filled_at, set_at, Hold
 use Rattle.json_fields.specs.Kinds.{an_object, a_list, empty_text, empty_list, never_empty, IsEach}
 use Rattle.json_fields.specs.Texts.{a_text, IsText, IsSame}
 use Rattle.json_fields.proofs.MeaningLaws.{first_left, first_right, optional_there, required_there, same_there, text_there}
-use Rattle.text_kinds.specs.Texts.{a_request_id, request_id_why}
-use Rattle.text_kinds.proofs.TextLaws.{string_there}
+use Rattle.field_kinds.specs.TextKinds.Texts.{a_request_id, request_id_why}
+use Rattle.field_kinds.proofs.TextKinds.TextLaws.{string_there}
 use Rattle.field_kinds.specs.Defaults.{HoldsOr}
 use Rattle.field_kinds.specs.Filled.{optional_filled}
 use Rattle.field_kinds.specs.Numbers.{a_whole, IsSaid, most_of_bytes, most_of_page}

@@ -9,7 +9,7 @@ use Rattle.json_fields.specs.Kinds.{an_object, a_list, empty_text, empty_list, n
 use Rattle.json_fields.specs.Texts.{IsText, IsSame}
 use Rattle.json_fields.specs.Writing.{list_data}
 use Rattle.json_fields.specs.declared.faults.FieldFault.{FieldFault}
-use Rattle.text_kinds.specs.Texts.{a_request_id, IsRequestId}
+use Rattle.field_kinds.specs.TextKinds.Texts.{a_request_id, IsRequestId}
 use Rattle.field_kinds.specs.Filled.{optional_filled}
 use Rattle.result_forms.specs.Members.{object_of}
 use Rattle.artifacts.specs.Orders.{invocation_of}

@@ -7,9 +7,9 @@ use Rattle.serde_json.specs.Data.{Data}
 use Rattle.json_fields.specs.Texts.{IsText}
 use Rattle.json_fields.specs.declared.faults.FieldFault.{FieldFault}
 use Rattle.json_fields.specs.declared.whys.Why.{Why}
-use Rattle.text_kinds.specs.Texts.{a_string, limited_why, printed, most_of_content_type}
-use Rattle.text_kinds.specs.Contents.{contents_why, most_of_contents, Encodes}
-use Rattle.text_kinds.specs.Hashes.{hash_why}
+use Rattle.field_kinds.specs.TextKinds.Texts.{a_string, limited_why, printed, most_of_content_type}
+use Rattle.field_kinds.specs.TextKinds.Contents.{contents_why, most_of_contents, Encodes}
+use Rattle.field_kinds.specs.TextKinds.Hashes.{hash_why}
 use Rattle.field_kinds.specs.Defaults.{HoldsOr}
 use Rattle.field_kinds.specs.Numbers.{a_whole, IsSaid, most_of_bytes}
 use Rattle.artifact_forms.specs.Hashes.{IsDigest, SpellsHash}

@@ -1,5 +1,5 @@
 pub use Rattle.result_forms.specs as ResultForms
-pub use Rattle.text_kinds.specs as TextKinds
+pub use Rattle.field_kinds.specs.TextKinds
 pub mod Names
 pub mod Hashes
 pub mod Fields

@@ -7,7 +7,7 @@ use Rattle.json_fields.specs.Texts.{IsText}
 use Rattle.json_fields.specs.declared.faults.FieldFault.{FieldFault}
 use Rattle.json_fields.specs.declared.whys.Why.{Why}
 use Rattle.json_fields.specs.declared.whys.Why.TheVariants as why
-use Rattle.text_kinds.specs.Texts.{a_string}
+use Rattle.field_kinds.specs.TextKinds.Texts.{a_string}
 use Rattle.page_tokens.specs.declared.faults.TokenFault.{TokenFault}
 use Rattle.page_tokens.specs.declared.faults.TokenFault.TheVariants.{NotBase64, BadForm, OtherQuery, Memory}
 use Rattle.page_tokens.specs.declared.kinds.ArtifactCursor.{ArtifactCursor}

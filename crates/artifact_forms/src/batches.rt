@@ -9,12 +9,12 @@ use crate::names::{request_id, requests};
 use crate::parents::leader_of;
 use crate::written::batch_value;
 use artifacts::NewArtifact;
+use field_kinds::text_kinds::{LimitedText, RequestId};
 use field_kinds::{optional_filled, required_list_beside};
 use json_fields::{Form, ReadFault, object};
 use lists::Listed;
 use serde_json::Value;
 use std::alloc::{AllocError, Global};
-use text_kinds::{LimitedText, RequestId};
 
 /// A request that these artifacts be added to an invocation.
 #[derive(Drop)]

@@ -4,15 +4,15 @@ ghost use Rattle.serde_json.specs.View.{view};
 ghost use Rattle.hex.specs.Hex.{encode_lower};
 ghost use Rattle.json_fields.specs.Faults.{Says};
 ghost use Rattle.json_fields.specs.Fields.{optional, set_at, HoldsMaybe};
-ghost use Rattle.text_kinds.specs.Hashes.{hash_why};
+ghost use Rattle.field_kinds.specs.TextKinds.Hashes.{hash_why};
 ghost use Rattle.artifact_forms.specs.Fields.{a_hash, IsHashOf};
 ghost use Rattle.artifact_forms.specs.Hashes.{hash_text, IsDigest, SpellsHash};
 
+use field_kinds::text_kinds::HashText;
 use json_fields::{Form, Name, ReadFault, optional};
 use serde_json::Value;
 use std::alloc::{AllocError, Global};
 use std::marker::Model;
-use text_kinds::HashText;
 
 /// The text of a hash: `sha256:`, and two lower-case hexadecimal digits of each byte. `Err` where
 /// there is no memory for it.

@@ -10,12 +10,12 @@ ghost use Rattle.artifact_forms.specs.Tokens.{a_token, IsTokenOf, list_query, to
 ghost use Rattle.json_fields.specs.Texts.{bad_value};
 
 use crate::names::page_token;
+use field_kinds::text_kinds::Contents;
 use json_fields::{FaultKind, ReadFault, Step, Why, filled_at};
 use lists::Bytes;
 use page_tokens::{ArtifactCursor, Query, TokenFault, read_token};
 use serde_json::Value;
 use std::alloc::{AllocError, Global};
-use text_kinds::Contents;
 
 /// What is asked: the artifacts of the parent of this name.
 pub(crate) fn query_of(alloc: Global, parent: &str) -> Result<Query, AllocError>

@@ -19,11 +19,11 @@ use crate::names::{
 };
 use artifacts::NewArtifact;
 use base64::engine::general_purpose::STANDARD;
+use field_kinds::text_kinds::{LimitedText, RequestId};
 use json_fields::{Name, SpelledOut, put};
 use serde_json::{Map, Value};
 use std::alloc::{AllocError, Global};
 use std::str::from_utf8;
-use text_kinds::{LimitedText, RequestId};
 
 /// Puts a text under a name.
 pub(crate) fn put_text(

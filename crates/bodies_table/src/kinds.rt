@@ -5,8 +5,8 @@ use field_kinds::{
     ByteSize, Flag, LimitedList, NoMessage, NoText, PageSize, Properties, QueryNames, VariantMap,
     Whole,
 };
-use json_fields::InvocationName;
 use std::alloc::Global;
+use text_kinds::InvocationName;
 
 /// What such a word makes of a body, none for another word.
 pub(crate) fn told(alloc: Global, word: &str, body: &[u8]) -> Result<Option<Vec<u8>>, Fault> {

@@ -1,13 +1,15 @@
-//! Words for ids and names, realms, moments, spans and tags, of `json_fields`.
+//! Words for ids and names, realms, moments, spans and tags.
 use crate::faults::Fault;
 use crate::telling::{again, read};
-use json_fields::{InvocationName, Tag, UnbuiltList};
+use field_kinds::pair_kinds::Tag;
+use json_fields::UnbuiltList;
 use lists::Listed;
 use names_realms::{
     ArtifactId, ArtifactName, InvocationId, Moment, Parent, Realm, ResultId, ResultName, Span,
     TestId,
 };
 use std::alloc::Global;
+use text_kinds::InvocationName;
 
 /// What such a word makes of a body, none for another word.
 pub(crate) fn told(alloc: Global, word: &str, body: &[u8]) -> Result<Option<Vec<u8>>, Fault> {

@@ -1,11 +1,13 @@
 //! Words for what is made of a value that is read, for numbers, and for why a value is refused.
 use crate::faults::Fault;
 use crate::telling::{told_word, written};
+use field_kinds::pair_kinds::{Tag, pairs_from};
 use field_kinds::{ByteSize, NumberRule, PageSize, Properties, VariantMap, Whole};
-use json_fields::{InvocationName, Tag, Why, ids_from, pairs_from, read_body};
+use json_fields::{Why, read_body};
 use lists::Listed;
 use names_realms::Pair;
 use std::alloc::{AllocError, Global};
+use text_kinds::{InvocationName, ids_from};
 
 /// What such a word makes of a body, none for another word.
 pub(crate) fn told(alloc: Global, word: &str, body: &[u8]) -> Result<Option<Vec<u8>>, Fault> {

@@ -1,9 +1,9 @@
 //! Words for replies, and for a request that no body asks for.
 use crate::faults::Fault;
 use crate::telling::told_word;
+use field_kinds::pair_kinds::{Tag, pairs_from};
 use json_fields::{
-    FaultKind, InvocationName, Name, ReadFault, Tag, Why, ids_from, optional, optional_list,
-    pairs_from, read_body, read_json, required,
+    FaultKind, Name, ReadFault, Why, optional, optional_list, read_body, read_json, required,
 };
 use lists::{Bytes, Listed};
 use message_forms::{
@@ -12,7 +12,7 @@ use message_forms::{
 use names_realms::{InvocationId, Moment, Pair, Realm, State};
 use serde_json::Value;
 use std::alloc::{AllocError, Global};
-use text_kinds::{LimitedText, Message};
+use text_kinds::{InvocationName, LimitedText, Message, ids_from};
 
 /// What such a word makes of a body, none for another word.
 pub(crate) fn told(alloc: Global, word: &str, body: &[u8]) -> Result<Option<Vec<u8>>, Fault> {

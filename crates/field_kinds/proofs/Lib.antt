@@ -1,4 +1,5 @@
-pub use Rattle.text_kinds.proofs as TextKinds
+pub use Rattle.pair_kinds.proofs as PairKinds
+pub use Rattle.pair_kinds.proofs.TextKinds
 pub mod NumberLaws
 pub mod ListLaws
 pub mod ObjectLaws

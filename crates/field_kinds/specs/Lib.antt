@@ -1,4 +1,5 @@
-pub use Rattle.text_kinds.specs as TextKinds
+pub use Rattle.pair_kinds.specs as PairKinds
+pub use Rattle.pair_kinds.specs.TextKinds
 pub mod Numbers
 pub mod Readings
 pub mod Flags

@@ -30,11 +30,17 @@ pub trait FormBeside<C>: Sized + Drop {
         ensures ok { IfOk result (λ x. (fault context.now (view value.now) ≡ None)
             × means context.now (view value.now) x) }
         ensures err { IfErr result (λ e. Says e (fault context.now (view value.now))) };
+
+    /// Takes over from the element before it what needn't be computed again. The value stays.
+    fn take_over(&mut self, _before: Option<&Self>)
+        ensures { self.new ≡ self.old }
+    {}
 }
 
-fn add<T: Drop>(found: &mut Vec<T>, one: T) -> Result<(), AllocError>
+fn add<C, T: FormBeside<C>>(found: &mut Vec<T>, mut one: T) -> Result<(), AllocError>
     ensures { OnOk result (found.new.items ≡ found.old.items ++ one ∷ []) }
 {
+    <T as FormBeside<C>>::take_over(&mut one, found.last());
     found.push(one)?;
     Ok(())
 }
@@ -54,7 +60,7 @@ fn read_all_beside<C, T: FormBeside<C>>(
     let mut found = Vec::with_capacity(alloc, list.len().min(AT_FIRST))?;
     for i in 0..list.len() {
         match T::read_beside(alloc, context, &list[i]) {
-            Ok(one) => add(&mut found, one)?,
+            Ok(one) => add::<C, T>(&mut found, one)?,
             Err(fault) => return Err(fault.under(Step::Place(i))),
         }
     }

@@ -7,9 +7,9 @@ ghost use Rattle.json_fields.specs.Fields.{member, optional, set_at};
 ghost use Rattle.field_kinds.specs.Defaults.{HoldsOr, IsReadAs, PutsUnless};
 
 use json_fields::{Name, ReadFault, Written, optional, write_required};
+use pair_kinds::text_kinds::{LimitedText, MayBeEmpty};
 use serde_json::{Map, Value};
 use std::alloc::{AllocError, Global};
-use text_kinds::{LimitedText, MayBeEmpty};
 
 /// A kind with a default: `unset`, which an unset field stands for.
 pub trait Defaulted: Written {

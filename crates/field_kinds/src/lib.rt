@@ -24,6 +24,6 @@ pub use flags::Flag;
 pub use limited_lists::{LimitedList, ListRule, QueryNames};
 pub use numbers::{ByteSize, NumberRule, PageSize, Whole};
 pub use outside_profile::{NoMessage, NoText};
+pub use pair_kinds::{self, text_kinds};
 pub use properties::Properties;
-pub use text_kinds;
 pub use variants::VariantMap;

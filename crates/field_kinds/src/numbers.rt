@@ -164,7 +164,8 @@ pub trait NumberRule: Drop {
     fn write(alloc: Global, number: u64) -> Result<Value, AllocError>
         ensures value { IfOk result (λ v. view v ≡ written number) }
         ensures again { OnOk result (number ≤ greatest
-            → IsWritten (a_whole greatest) IsSaid never_empty (λ _. false) number (written number)) };
+            → IsWritten (a_whole greatest) IsSaid never_empty (λ _. false)
+            number (written number)) };
 }
 
 /// The size of a page, or a limit of results: at most 2^31 - 1, written as a number.

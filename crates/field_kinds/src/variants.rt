@@ -1,5 +1,5 @@
 //! Variants of tests.
-ghost use Rattle.std.specs.Prelude.{◌≡◌, true, ◌++◌, [], ◌∷◌, None, Some, IfOk, IfErr, OnOk, IsPermutation, is_some};
+ghost use Rattle.std.specs.Prelude.{◌≡◌, true, ◌++◌, [], ◌∷◌, None, Some, IfOk, IfErr, OnOk, IsPermutation};
 ghost use Rattle.std.specs.Prelude.{unwrap_or};
 ghost use Rattle.std.specs.Str.{IsUtf8};
 ghost use Rattle.serde_json.specs.Data.{object, string, put as with_member};
@@ -41,17 +41,11 @@ fn told(alloc: Global, fault: PairFault) -> ReadFault
     }
 }
 
-fn is_text(value: &Value) -> bool
-    ensures { result ≡ is_some (as_str (view value.now)) }
-{
-    value.is_string()
-}
-
 fn all_texts(map: &Map<String, Value>) -> bool
     ensures { result ≡ all_texts (members_view map.now.entries) }
 {
     for (_key, value) in map {
-        if !is_text(value) {
+        if !value.is_string() {
             return false;
         }
     }

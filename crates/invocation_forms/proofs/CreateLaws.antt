@@ -11,11 +11,12 @@ use Rattle.serde_json.specs.Data.{Data, string, object, Members, no_members, put
 use Rattle.json_fields.specs.Fields.{member, optional, required, filled_at, set_at}
 use Rattle.json_fields.specs.Kinds.{an_object, a_list, empty_text, never_empty}
 use Rattle.json_fields.specs.Texts.{a_text, IsText, IsSame, moment_fault}
-use Rattle.json_fields.specs.Tags.{a_tag, IsTag, tag_data, IsPairOfGrammar}
+use Rattle.field_kinds.specs.PairKinds.Tags.{a_tag, IsTag, tag_data, IsPairOfGrammar}
 use Rattle.json_fields.specs.Writing.{IsWritten, AllWritten, put_required, put_optional, put_list}
-use Rattle.json_fields.proofs.FormLaws.{GivesForm, moment_form, optional_form, optional_list_form, part_form, realm_form, required_form, tag_form}
-use Rattle.json_fields.proofs.MeaningLaws.{first_left, first_right, holds_one, maybe_one, list_one, same_one, moment_one, tag_one, required_there, optional_there, list_there, same_there, moment_there, tag_there}
-use Rattle.json_fields.proofs.PlainLaws.{IsPlain, plain-put, plain_text, no_members_plain, plain_object, plain-put_optional, plain-put_list, plain_tag}
+use Rattle.json_fields.proofs.FormLaws.{GivesForm, moment_form, optional_form, optional_list_form, part_form, realm_form, required_form}
+use Rattle.field_kinds.proofs.PairKinds.TagLaws.{tag_form, tag_one, tag_there, plain_tag}
+use Rattle.json_fields.proofs.MeaningLaws.{first_left, first_right, holds_one, maybe_one, list_one, same_one, moment_one, required_there, optional_there, list_there, same_there, moment_there}
+use Rattle.json_fields.proofs.PlainLaws.{IsPlain, plain-put, plain_text, no_members_plain, plain_object, plain-put_optional, plain-put_list}
 use Rattle.json_fields.proofs.WriteLaws.{member_put, member_other, member_beside_optional, member_beside_list, filled_found, required_found, optional_written, list_written, kept_none, kept_set}
 use Rattle.field_kinds.specs.TextKinds.Texts.{a_request_id, is_blank, request_id_why, IsRequestId}
 use Rattle.field_kinds.proofs.TextKinds.TextLaws.{not_blank, read_form, string_there}

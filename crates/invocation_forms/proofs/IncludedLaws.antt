@@ -7,7 +7,7 @@ use Rattle.json_fields.specs.Kinds.{an_object, a_list, an_unbuilt_list, empty_te
 use Rattle.json_fields.specs.Writing.{IsWritten, AllWritten, put_list}
 use Rattle.json_fields.proofs.FormLaws.{optional_list_form, required_form}
 use Rattle.json_fields.proofs.MeaningLaws.{first_left, first_right, holds_one, list_one, required_there, list_there}
-use Rattle.json_fields.proofs.NameLaws.{name_one, name_there}
+use Rattle.field_kinds.proofs.TextKinds.NameLaws.{name_one, name_there}
 use Rattle.json_fields.proofs.PlainLaws.{IsPlain, plain-put, plain_text, no_members_plain, plain_object, plain-put_list}
 use Rattle.json_fields.proofs.WriteLaws.{member_put, member_other, member_beside_list, filled_found, required_found, optional_lost, list_written, kept_none, kept_set}
 use Rattle.invocation_forms.specs.Names as name

@@ -8,7 +8,7 @@ use Rattle.json_fields.specs.Kinds.{an_object, empty_text}
 use Rattle.json_fields.specs.Writing.{IsWritten}
 use Rattle.json_fields.proofs.FormLaws.{GivesForm, required_form, text_form}
 use Rattle.json_fields.proofs.MeaningLaws.{first_left, first_right, holds_one, required_there}
-use Rattle.json_fields.proofs.NameLaws.{name_one, name_there}
+use Rattle.field_kinds.proofs.TextKinds.NameLaws.{name_one, name_there}
 use Rattle.json_fields.proofs.PlainLaws.{IsPlain, plain-put, plain_text, no_members_plain, plain_object}
 use Rattle.json_fields.proofs.WriteLaws.{spelled_out, text_written, member_put, filled_found, required_found}
 use Rattle.invocation_forms.specs.Names as name

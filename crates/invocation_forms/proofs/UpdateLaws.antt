@@ -13,13 +13,14 @@ use Rattle.json_fields.specs.Names.{NameForm}
 use Rattle.json_fields.specs.Fields.{member, required, optional, filled_at, set_at, fault_required, Holds}
 use Rattle.json_fields.specs.Kinds.{an_object, a_list, empty_text, never_empty, HoldsList}
 use Rattle.json_fields.specs.Texts.{a_text, IsText, moment_fault}
-use Rattle.json_fields.specs.Tags.{a_tag, IsTag, tag_data, IsPairOfGrammar}
+use Rattle.field_kinds.specs.PairKinds.Tags.{a_tag, IsTag, tag_data, IsPairOfGrammar}
 use Rattle.json_fields.specs.Writing.{IsWritten, AllWritten, put_required, put_optional, put_list}
 use Rattle.json_fields.specs.declared.faults.FieldFault.{FieldFault}
 use Rattle.json_fields.specs.declared.names.Step.TheVariants.{Member}
-use Rattle.json_fields.proofs.FormLaws.{GivesForm, moment_form, optional_list_form, required_form, tag_form}
-use Rattle.json_fields.proofs.MeaningLaws.{first_left, first_right, moved_none, holds_one, list_one, moment_one, tag_one, required_there, list_there, moment_there, tag_there}
-use Rattle.json_fields.proofs.PlainLaws.{IsPlain, plain-put, plain_text, no_members_plain, plain_object, plain-put_optional, plain-put_list, plain_tag}
+use Rattle.json_fields.proofs.FormLaws.{GivesForm, moment_form, optional_list_form, required_form}
+use Rattle.field_kinds.proofs.PairKinds.TagLaws.{tag_form, tag_one, tag_there, plain_tag}
+use Rattle.json_fields.proofs.MeaningLaws.{first_left, first_right, moved_none, holds_one, list_one, moment_one, required_there, list_there, moment_there}
+use Rattle.json_fields.proofs.PlainLaws.{IsPlain, plain-put, plain_text, no_members_plain, plain_object, plain-put_optional, plain-put_list}
 use Rattle.json_fields.proofs.WriteLaws.{member_put, member_other, member_beside_optional, filled_found, required_found, list_written, kept_none, kept_set}
 use Rattle.invocation_forms.specs.Names as name
 use Rattle.invocation_forms.specs.Masks.{a_mask, pieces, can_be_updated, names, named_by, is_named, only_where, mask_in, HoldsWhere}

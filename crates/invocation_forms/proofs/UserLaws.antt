@@ -9,7 +9,7 @@ use Rattle.std.proofs.lemmas.Str.{IsUtf8-from_ascii}
 use Rattle.name_parts.proofs.PartLemmas.{IsPart-utf8}
 use Rattle.name_parts.specs.declared.parts.PartForm.TheVariants.{PairKey}
 use Rattle.names_realms.specs.declared.pairs.Pair.{Pair}
-use Rattle.json_fields.specs.Tags.{IsPairOfGrammar}
+use Rattle.field_kinds.specs.PairKinds.Tags.{IsPairOfGrammar}
 use Rattle.invocation_forms.specs.Laws.{RowIsShowable}
 use Rattle.invocation_forms.specs.Shown.{IsUtf8Pair}
 use Rattle.invocation_forms.specs.Users.{is_user_name, may_follow}

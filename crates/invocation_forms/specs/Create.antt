@@ -9,7 +9,7 @@ use Rattle.moments_spans.specs.MomentGrammar.{IsMomentText}
 use Rattle.json_fields.specs.Fields.{required, optional, fault_of, filled_at, set_at, Holds, HoldsMaybe}
 use Rattle.json_fields.specs.Kinds.{an_object, a_list, empty_text, never_empty, HoldsList}
 use Rattle.json_fields.specs.Texts.{a_text, IsText, IsSame, moment_fault}
-use Rattle.json_fields.specs.Tags.{a_tag, tag_data, IsTag, IsPairOfGrammar}
+use Rattle.field_kinds.specs.PairKinds.Tags.{a_tag, tag_data, IsTag, IsPairOfGrammar}
 use Rattle.json_fields.specs.Writing.{put_required, put_optional, put_list}
 use Rattle.json_fields.specs.declared.faults.FieldFault.{FieldFault}
 use Rattle.field_kinds.specs.Filled.{optional_filled}

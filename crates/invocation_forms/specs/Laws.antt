@@ -1,6 +1,6 @@
 -- The law of what is shown of an invocation.
 use Rattle.std.specs.Prelude.{◌≡◌, true, All}
-use Rattle.json_fields.specs.Tags.{IsPairOfGrammar}
+use Rattle.field_kinds.specs.PairKinds.Tags.{IsPairOfGrammar}
 use Rattle.invocation_forms.specs.Shown.{InvocationShown, IsShowableInvocation}
 use Rattle.invocation_forms.specs.Users.{is_user_name}
 

@@ -12,10 +12,11 @@ ghost use Rattle.invocation_forms.specs.Create.{a_create_request, IsCreate, crea
 
 use crate::names::{deadline, invocation, invocation_id, realm, request_id, tags};
 use field_kinds::optional_filled;
+use field_kinds::pair_kinds::Tag;
 use field_kinds::text_kinds::{LimitedText, RequestId};
 use json_fields::{
-    Form, ReadFault, Tag, object, optional, optional_list, put, required, write_list,
-    write_optional, write_required,
+    Form, ReadFault, object, optional, optional_list, put, required, write_list, write_optional,
+    write_required,
 };
 use lists::Listed;
 use names_realms::{InvocationId, Moment, Realm};

@@ -8,7 +8,8 @@ ghost use Rattle.invocation_forms.specs.Named.{an_invocation_name, IsNameOf, a_n
 
 use crate::name_values::name_value;
 use crate::names::name;
-use json_fields::{Form, InvocationName, Name, ReadFault, object, put, required};
+use field_kinds::text_kinds::InvocationName;
+use json_fields::{Form, Name, ReadFault, object, put, required};
 use names_realms::InvocationId;
 use serde_json::{Map, Value};
 use std::alloc::{AllocError, Global};

@@ -5,7 +5,7 @@ ghost use Rattle.moments_spans.specs.MomentGrammar.{IsMomentText};
 ghost use Rattle.json_fields.specs.Faults.{Says};
 ghost use Rattle.json_fields.specs.Fields.{required, optional, filled_at, set_at, Holds};
 ghost use Rattle.json_fields.specs.Kinds.{a_list, empty_text, never_empty, HoldsList};
-ghost use Rattle.json_fields.specs.Tags.{a_tag, IsTag};
+ghost use Rattle.field_kinds.specs.PairKinds.Tags.{a_tag, IsTag};
 ghost use Rattle.json_fields.specs.Texts.{a_text, moment_fault, IsText};
 ghost use Rattle.invocation_forms.specs.Masks.{only_where, mask_in, HoldsWhere, IsMask};
 ghost use Rattle.invocation_forms.specs.Names.{invocation, update_mask, deadline, tags};
@@ -16,9 +16,10 @@ ghost use Rattle.invocation_forms.specs.Updates.{ChangesSomething, IsReadAsChang
 use crate::masks::UpdateMask;
 use crate::named::{Named, put_name};
 use crate::names::{deadline, invocation, name, tags, update_mask};
+use field_kinds::pair_kinds::Tag;
 use json_fields::{
-    FaultKind, Form, ReadFault, Step, Tag, filled_at, object, optional_list, put, required,
-    write_list, write_optional,
+    FaultKind, Form, ReadFault, Step, filled_at, object, optional_list, put, required, write_list,
+    write_optional,
 };
 use lists::Listed;
 use names_realms::{InvocationId, Moment};

@@ -9,10 +9,9 @@ use Rattle.serde_json.specs.Data.{Data, null, boolean, number, string, array, ob
 use Rattle.names_realms.specs.NameParts.declared.faults.NameFault.{NameFault}
 use Rattle.names_realms.specs.NameParts.declared.alphabets.Alphabet.TheVariants as alphabet
 use Rattle.names_realms.specs.NameParts.declared.parts.PartForm.{PartForm}
-use Rattle.names_realms.specs.NameParts.declared.parts.PartForm.TheVariants.{Letters, PairKey}
+use Rattle.names_realms.specs.NameParts.declared.parts.PartForm.TheVariants.{Letters}
 use Rattle.names_realms.specs.NameParts.Parts.{IsPart, bad_place, limited_fault, most_bytes, part_fault, unempty_fault}
 use Rattle.names_realms.proofs.NameParts.PartLemmas.{part_fault-None}
-use Rattle.names_realms.specs.Pairs.{IsPairValue, pair_value_fault, utf8_place}
 use Rattle.names_realms.specs.Realms.{IsRealm, bad_subrealm_place, colon_fault, project_len, realm_fault}
 use Rattle.names_realms.proofs.RealmLemmas.{realm_fault-None}
 use Rattle.names_realms.specs.MomentsSpans.Moments.{IsInYears}
@@ -22,13 +21,12 @@ use Rattle.json_fields.specs.declared.faults.FieldFault.{FieldFault}
 use Rattle.json_fields.specs.declared.names.Step.TheVariants.{Member, Place}
 use Rattle.json_fields.specs.Names.{NameForm}
 use Rattle.json_fields.specs.Faults.{moved}
-use Rattle.json_fields.specs.Fields.{fault_from, fault_optional, fault_required, filled_at, list_of, optional, required, set_at, text_at, Holds, HoldsMaybe, Pairs}
+use Rattle.json_fields.specs.Fields.{fault_from, fault_optional, fault_required, filled_at, list_of, optional, required, set_at, Holds, HoldsMaybe, Pairs}
 use Rattle.json_fields.specs.Kinds.{a_list, HoldsList, IsEach}
 use Rattle.json_fields.specs.Texts.{a_text, moment_fault, refused, IsSame, IsText}
-use Rattle.json_fields.specs.Tags.{a_tag, key_fault, key_name, value_name, IsPairOfGrammar, IsTag}
-use Rattle.json_fields.proofs.MeaningLaws.{first_left, first_right, moved_none, or_empty_none, unrefused}
+use Rattle.json_fields.proofs.MeaningLaws.{first_left, first_right, moved_none, unrefused}
 use Rattle.json_fields.proofs.NameLaws.{limited_refused, part_refused, shifted_refused, unless_refused}
-use Rattle.json_fields.proofs.TextLaws.{moment_of_text, value_good}
+use Rattle.json_fields.proofs.TextLaws.{moment_of_text}
 
 -- What a value of the kind means is of this form where the value has no fault.
 abbrev pub GivesForm : {A : Type 0} → (Data → Option FieldFault) → (Data → A → Type 0) → (A → Type 0) → Type 0
@@ -78,10 +76,6 @@ realm_refused text h =
 
 pub realm_form : GivesForm (a_text realm_fault) (IsText IsSame) IsRealm
 realm_form = same_form realm_fault IsRealm (λ s none. realm_fault-None s (realm_refused s none))
-
-value_form : GivesForm (a_text pair_value_fault) (IsText IsSame) IsPairValue
-value_form = same_form pair_value_fault IsPairValue
-    (λ s none. value_good s (limited_refused (length s) (nat_lt 256 (length s)) (utf8_place s) none))
 
 said_in_years : (s : List ℕ) (z : ℤ) → refused (moment_fault s) ≡ None → IsMomentText s z → IsInYears z
 said_in_years s z none said =
@@ -150,12 +144,3 @@ pub optional_list_form : {A : Type 0} (n : NameForm) (fault : Data → Option Fi
     → All P xs
 unfolding optional
 optional_list_form n fault means P law d xs none holds = optional_list_of n fault means P law (set_at n d) xs none holds
-
--- a tag is a pair of the grammar
-pub tag_form : GivesForm a_tag IsTag IsPairOfGrammar
-unfolding a_tag
-tag_form d tag none is =
-    let rest = first_right _ _ none in
-    let key = or_empty_none key_name (a_text key_fault) d (first_left _ _ rest) in
-    let value = or_empty_none value_name (a_text pair_value_fault) d (first_left _ _ (first_right _ _ rest)) in
-    (part_form PairKey (text_at key_name d) tag.key key is.key, value_form (text_at value_name d) tag.value value is.value)

@@ -2,8 +2,6 @@
 use Rattle.std.proofs.Common.{◌≡◌, ℕ, ℤ, ◌+◌, Bool, List, [], ◌∷◌, Option, Some, None, refl, sym, ap, ◌∙◌}
 use Rattle.names_realms.specs.NameParts.declared.faults.NameFault.{NameFault}
 use Rattle.names_realms.specs.NameParts.declared.faults.NameFault.TheVariants as name
-use Rattle.names_realms.specs.declared.pairs.Pair.{Pair}
-use Rattle.names_realms.specs.Pairs.{pair_value_fault}
 use Rattle.names_realms.specs.MomentsSpans.MomentGrammar.{IsMomentText, IsMomentFault, empty as no_text, bad, outside}
 use Rattle.names_realms.proofs.MomentsSpans.SaidLaws.{one_moment_said}
 use Rattle.serde_json.specs.Data.{Data, null, boolean, number, string, array, object}
@@ -12,7 +10,6 @@ use Rattle.json_fields.specs.Faults.{first, moved}
 use Rattle.json_fields.specs.Fields.{required, optional, or_empty, filled_at, set_at, text_at, fault_required, fault_optional, fault_from, list_of, Pairs, Holds, HoldsMaybe}
 use Rattle.json_fields.specs.Kinds.{a_list, IsEach, HoldsList}
 use Rattle.json_fields.specs.Texts.{a_text, refused, IsText, IsSame, moment_fault}
-use Rattle.json_fields.specs.Tags.{key_name, value_name, key_fault, a_tag, IsTag}
 use Rattle.json_fields.specs.declared.faults.FieldFault.{FieldFault}
 use Rattle.json_fields.specs.declared.names.Step.{Step}
 use Rattle.json_fields.specs.declared.names.Step.TheVariants.{Member, Place}
@@ -89,12 +86,6 @@ same_one d a b h k = text_one IsSame (λ s x y e f. e ∙ sym f) d a b h k
 
 pub moment_one : (d : Data) (a b : ℤ) → IsText IsMomentText d a → IsText IsMomentText d b → a ≡ b
 moment_one d a b h k = text_one IsMomentText one_moment_said d a b h k
-
-pub tag_one : (d : Data) (a b : Pair) → IsTag d a → IsTag d b → a ≡ b
-tag_one d a b h k =
-    let key : a.key ≡ b.key = same_one (text_at key_name d) a.key b.key h.key k.key in
-    let value : a.value ≡ b.value = same_one (text_at value_name d) a.value b.value h.value k.value in
-    λ i. record { key = key i; value = value i }
 
 -- A value without a fault means something.
 pub text_there : {A : Type 0} (fault : List ℕ → Option NameFault) (spells : List ℕ → A → Type 0)
@@ -181,11 +172,3 @@ list_there n fault means law d h = list_of_maybe n fault means law (set_at n d) 
 pub or_empty_none : (n : NameForm) (fault : Data → Option FieldFault) (d : Data) → or_empty n fault d ≡ None → fault (text_at n d) ≡ None
 unfolding or_empty
 or_empty_none n fault d h = moved_none (Member n) (fault (text_at n d)) h
-
-pub tag_there : (d : Data) → a_tag d ≡ None → (tag : Pair) × IsTag d tag
-unfolding a_tag
-tag_there d h =
-    let rest = first_right _ _ h in
-    let key = same_there key_fault (text_at key_name d) (or_empty_none key_name (a_text key_fault) d (first_left _ _ rest)) in
-    let value = same_there pair_value_fault (text_at value_name d) (or_empty_none value_name (a_text pair_value_fault) d (first_left _ _ (first_right _ _ rest))) in
-    (record { key = key.0; value = value.0 }, record { key = key.1; value = value.1 })

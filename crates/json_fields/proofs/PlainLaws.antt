@@ -1,13 +1,11 @@
 -- What is written has no float and nests little, so that its text is known and is read again.
-use Rattle.std.proofs.Common.{◌≡◌, ◌≤◌, ◌+◌, ℕ, List, [], ◌∷◌, map, Bool, true, false, ◌||◌, ◌==◌, length, max, Option, Some, None, Ordering, Less, Equal, Greater, refl, arith}
+use Rattle.std.proofs.Common.{◌≡◌, ◌≤◌, ◌+◌, ℕ, List, [], ◌∷◌, map, Bool, true, false, ◌||◌, max, Option, Some, None, Ordering, Less, Equal, Greater, refl, arith}
 use Rattle.std.specs.Ordering.{nat_cmp, match_ordering}
 use Rattle.std.specs.Cmp.Lexicographic.{slice_cmp}
-use Rattle.names_realms.specs.declared.pairs.Pair.{Pair}
 use Rattle.serde_json.specs.Data.{Data, string, array, object, Members, no_members, member, put, depth, items_depth, members_depth}
 use Rattle.serde_json.specs.View.{items_of}
 use Rattle.serde_json.specs.Written.{has_float, members_have_float, items_have_float}
 use Rattle.json_fields.specs.Names.{NameForm}
-use Rattle.json_fields.specs.Tags.{key_name, value_name, put_filled, tag_data}
 use Rattle.json_fields.specs.Writing.{put_optional, put_list}
 
 or_false : (a b : Bool) → a ≡ false → b ≡ false → (a || b) ≡ false
@@ -72,14 +70,3 @@ plain-put_list n name json [] ms h fm = fm
 plain-put_list n name json (x ∷ xs) ms h fm =
     plain-put (n + 1) name.camel (array (items_of (map json (x ∷ xs)))) ms
     (record { no_float = items_no_float n json (x ∷ xs) h; deep = omega (arith, items_deep n json (x ∷ xs) h) }) fm
-
-plain-put_filled : (n : ℕ) (name : NameForm) (text : List ℕ) (b : Bool) (ms : Members) → (length text == 0) ≡ b → ArePlain n ms → ArePlain n (put_filled name text ms)
-plain-put_filled n name text true ms e fm = rw e fm
-plain-put_filled n name text false ms e fm = rw e (plain-put n name.camel (string text) ms (plain_text n text) fm)
-
-pub plain_tag : (tag : Pair) → IsPlain 1 (tag_data tag)
-plain_tag tag =
-    let value : Members = put_filled value_name tag.value no_members in
-    let one = plain-put_filled 0 value_name tag.value (length tag.value == 0) no_members refl (no_members_plain 0) in
-    let two = plain-put 0 key_name.camel (string tag.key) value (plain_text 0 tag.key) one in
-    record { no_float = two.no_float; deep = omega (arith, two.deep) }

@@ -4,7 +4,7 @@ use Rattle.names_realms.specs.NameParts.Parts.{IsPart, part_fault}
 use Rattle.names_realms.specs.NameParts.declared.parts.PartForm.{PartForm}
 use Rattle.names_realms.proofs.NameParts.PartLemmas.{IsPart-part_fault}
 use Rattle.names_realms.specs.Realms.{IsRealm, realm_fault}
-use Rattle.names_realms.specs.Names.{IsInvocationId, IsTestId, IsResultId, IsArtifactId, IsInvocationName, invocation_id_fault, test_id_fault, result_id_fault, artifact_id_fault, invocation_name, invocation_name_fault}
+use Rattle.names_realms.specs.Names.{IsInvocationId, IsTestId, IsResultId, IsArtifactId, invocation_id_fault, test_id_fault, result_id_fault, artifact_id_fault}
 use Rattle.names_realms.specs.Parents.{IsParentName, parent_name, parent_fault}
 use Rattle.names_realms.specs.ResultNames.{IsResultName, result_name, result_name_fault}
 use Rattle.names_realms.specs.ArtifactNames.{IsArtifactName, artifact_name, artifact_name_fault}
@@ -12,7 +12,6 @@ use Rattle.names_realms.specs.declared.parents.Parent.{Parent}
 use Rattle.names_realms.specs.declared.result_names.ResultName.{ResultName}
 use Rattle.names_realms.specs.declared.artifact_names.ArtifactName.{ArtifactName}
 use Rattle.names_realms.proofs.RealmLemmas.{IsRealm-realm_fault}
-use Rattle.names_realms.proofs.InvocationNameLemmas.{IsInvocationName-fault}
 use Rattle.names_realms.proofs.ParentLemmas.{IsParentName-fault}
 use Rattle.names_realms.proofs.ResultNameLemmas.{IsResultName-fault}
 use Rattle.names_realms.proofs.ArtifactNameLemmas.{IsArtifactName-fault}
@@ -58,10 +57,6 @@ artifact_id_spelled text is = part_spelled _ text is
 pub realm_spelled : (text : List ℕ) → IsRealm text → IsSpelled realm_fault IsSame text text
 realm_spelled text is = spelled_out realm_fault IsSame text text refl (IsRealm-realm_fault text is) refl
 
-pub invocation_name_spelled : (id : List ℕ) → IsInvocationId id → IsSpelled invocation_name_fault (λ text x. IsInvocationName x text) (invocation_name id) id
-invocation_name_spelled id is =
-    spelled_out invocation_name_fault (λ text x. IsInvocationName x text) (invocation_name id) id refl (IsInvocationName-fault id (invocation_name id) (refl, is)) (refl, is)
-
 pub result_name_spelled : (r : ResultName) → IsResultName r (result_name r) → IsSpelled result_name_fault (λ text x. IsResultName x text) (result_name r) r
 result_name_spelled r is = spelled_out result_name_fault (λ text x. IsResultName x text) (result_name r) r refl (IsResultName-fault r (result_name r) is) is
 
@@ -82,4 +77,4 @@ span_spelled n range =
     spelled_out span_fault IsSpanText (span_text n) n span_empty (span_fault-None (span_text n) n said range) said
 
 -- that a text is read without a fault, and what is written of a value
-pub ruleset spellings = (IsRealm-realm_fault, IsInvocationName-fault, IsResultName-fault, IsArtifactName-fault, IsParentName-fault, moment_fault-None, span_fault-None, result_name_utf8, parent_name_utf8, artifact_name_utf8, invocation_id_right, invocation_id_spelled, test_id_right, test_id_spelled, result_id_right, result_id_spelled, artifact_id_right, artifact_id_spelled, realm_spelled, invocation_name_spelled, result_name_spelled, artifact_name_spelled, parent_spelled, moment_spelled, span_spelled)
+pub ruleset spellings = (IsRealm-realm_fault, IsResultName-fault, IsArtifactName-fault, IsParentName-fault, moment_fault-None, span_fault-None, result_name_utf8, parent_name_utf8, artifact_name_utf8, invocation_id_right, invocation_id_spelled, test_id_right, test_id_spelled, result_id_right, result_id_spelled, artifact_id_right, artifact_id_spelled, realm_spelled, result_name_spelled, artifact_name_spelled, parent_spelled, moment_spelled, span_spelled)

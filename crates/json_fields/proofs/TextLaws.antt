@@ -1,12 +1,9 @@
 -- Texts: the grammars of moments and spans against what their readers tell, and values of pairs.
-use Rattle.std.proofs.Common.{◌≡◌, ℕ, ℤ, ◌≤◌, ◌==◌, Bool, true, false, nat_le, List, [], ◌∷◌, length, Option, Some, None, Result, Ok, Err, option_map, if◌then◌else◌, refl, ap, subst, ◌∙◌, arith}
+use Rattle.std.proofs.Common.{◌≡◌, ℕ, ℤ, ◌≤◌, ◌==◌, Bool, true, false, nat_le, List, [], ◌∷◌, length, Some, None, Result, Ok, Err, if◌then◌else◌, refl, ap, subst, ◌∙◌, arith}
 use Rattle.std.proofs.lemmas.Bool.{leb-true}
 use Rattle.std.proofs.lemmas.Int.{ints}
 use Rattle.names_realms.specs.NameParts.declared.faults.NameFault.{NameFault}
 use Rattle.names_realms.specs.NameParts.declared.faults.NameFault.TheVariants.{Empty, OutOfRange}
-use Rattle.names_realms.specs.Pairs.{IsPairKey, IsPairValue, pair_value_fault, pair_fault}
-use Rattle.names_realms.specs.declared.pairs.PairFault.TheVariants.{Value}
-use Rattle.names_realms.proofs.PairLemmas.{pair_fault-None, pair-fault}
 use Rattle.names_realms.specs.MomentsSpans.Moments.{IsInYears}
 use Rattle.names_realms.specs.MomentsSpans.Spans.{most_span}
 use Rattle.names_realms.specs.MomentsSpans.MomentGrammar.{IsMomentText, IsMomentFault}
@@ -17,22 +14,6 @@ use Rattle.names_realms.proofs.MomentsSpans.MomentTexts.{said_of_text, fault_of_
 use Rattle.names_realms.proofs.MomentsSpans.SpanTexts.{said_of_text as span_said_of_text, fault_of_text as span_fault_of_text}
 use Rattle.names_realms.proofs.MomentsSpans.SaidLaws.{said_moment_has_no_fault, one_moment_fault, said_span_has_no_fault, one_span_fault}
 use Rattle.json_fields.specs.Texts.{wrong_of, moment_fault, span_fault}
-
--- a value that has no fault as a value of a pair
-pub value_good : (text : List ℕ) → pair_value_fault text ≡ None → IsPairValue text
-value_good text none =
-    let good : pair_fault (97 ∷ []) text ≡ None = rw none refl in
-    (pair_fault-None (97 ∷ []) text good).1
-
-value_none : (f : Option NameFault) → option_map Value f ≡ None → f ≡ None
-value_none None e = refl
-value_none (Some f) e = cc
-
-pub value_right : (text : List ℕ) → IsPairValue text → pair_value_fault text ≡ None
-value_right text is =
-    let key : IsPairKey (97 ∷ []) = record { letters = refl; most = omega arith } in
-    let e : option_map Value (pair_value_fault text) ≡ None = pair-fault (97 ∷ []) text key is in
-    value_none (pair_value_fault text) e
 
 in_years : (z : ℤ) → is_in_years z ≡ true → IsInYears z
 in_years z e = grind (arith, ints)

@@ -3,14 +3,12 @@ use Rattle.std.proofs.Common.{◌≡◌, ℕ, ◌+◌, ◌==◌, ◌<◌, if◌t
 use Rattle.std.proofs.lemmas.List.{take_more, map-append}
 use Rattle.names_realms.specs.NameParts.declared.faults.NameFault.{NameFault}
 use Rattle.names_realms.specs.NameParts.declared.faults.NameFault.TheVariants.{Empty}
-use Rattle.names_realms.specs.Pairs.{pair_value_fault}
-use Rattle.serde_json.specs.Data.{Data, null, boolean, number, string, array, object, Members, no_members, put}
+use Rattle.serde_json.specs.Data.{Data, null, boolean, number, string, array, object, Members, put}
 use Rattle.serde_json.specs.View.{items_of}
 use Rattle.json_fields.specs.Names.{NameForm}
-use Rattle.json_fields.specs.Fields.{set, filled, member, required, optional, or_empty, set_at, filled_at, text_at, fault_from, list_of, Pairs, HoldsMaybe}
-use Rattle.json_fields.specs.Kinds.{a_list, empty_list, empty_text, never_empty, no_items_in, IsEach, HoldsList}
+use Rattle.json_fields.specs.Fields.{set, filled, member, required, optional, set_at, filled_at, fault_from, list_of, Pairs, HoldsMaybe}
+use Rattle.json_fields.specs.Kinds.{a_list, empty_list, empty_text, no_items_in, IsEach, HoldsList}
 use Rattle.json_fields.specs.Texts.{a_text, IsText}
-use Rattle.json_fields.specs.Tags.{key_fault, key_name, value_name, put_filled, a_tag, IsTag, tag_data}
 use Rattle.serde_json.proofs.Views.{get_member-put, get_member-put_other}
 use Rattle.json_fields.specs.Writing.{IsWritten, IsSpelled, AllWritten, list_data, is_bare, put_optional, put_list}
 use Rattle.json_fields.specs.declared.faults.FieldFault.{FieldFault}
@@ -66,39 +64,6 @@ pub member_other : (q n : NameForm) (d : Data) (ms : Members) → differ q.camel
     → member q (object (put n.camel d ms)) ≡ member q (object ms)
 member_other q n d ms one two =
     rw (get_member-put_other q.camel n.camel d ms (other q.camel n.camel one), get_member-put_other q.proto n.camel d ms (other q.proto n.camel two)) refl
-
-text_put : (n : NameForm) (text : List ℕ) (ms : Members) → text_at n (object (put n.camel (string text) ms)) ≡ string text
-unfolding text_at set_at
-text_put n text ms = rw (member_put n (string text) ms) refl
-
-text_same : (n : NameForm) (d e : Data) → member n d ≡ member n e → text_at n d ≡ text_at n e
-unfolding text_at set_at
-text_same n d e h = rw h refl
-
-text_none : (n : NameForm) → text_at n (object no_members) ≡ string []
-unfolding text_at set_at
-text_none n = refl
-
-text_filled : (n : NameForm) (text : List ℕ) → text_at n (object (put_filled n text no_members)) ≡ string text
-text_filled n [] = text_none n
-text_filled n (b ∷ bs) =
-    let some : (length (b ∷ bs) == 0) ≡ false = grind arith in
-    rw some (text_put n (b ∷ bs) no_members)
-
-pub tag_written : (key value : List ℕ) → key_fault key ≡ None → pair_value_fault value ≡ None
-    → IsWritten a_tag IsTag never_empty (λ _. false) (record { key = key; value = value }) (tag_data (record { key = key; value = value }))
-unfolding or_empty a_tag
-tag_written key value k v =
-    let ms : Members = put_filled value_name value no_members in
-    let at_key : text_at key_name (object (put key_name.camel (string key) ms)) ≡ string key = text_put key_name key ms in
-    let at_value : text_at value_name (object (put key_name.camel (string key) ms)) ≡ string value =
-    text_same value_name _ _ (member_other value_name key_name (string key) ms refl refl) ∙ text_filled value_name value in
-    record {
-      is_set = refl;
-      no_fault = rw (at_key, k, at_value, v) refl;
-      meant = record { key = rw at_key refl; value = rw at_value refl };
-      emptiness = refl;
-    }
 
 list_of_items : (ds : List Data) → list_of (items_of ds) ≡ ds
 list_of_items [] = refl

@@ -6,6 +6,5 @@ pub mod Faults
 pub mod Fields
 pub mod Kinds
 pub mod Texts
-pub mod Tags
 pub mod Writing
 pub mod Laws

@@ -15,8 +15,9 @@ pub use artifact_replies::artifact_forms::{BatchCreateArtifacts, GetArtifact, Li
 pub use artifact_replies::text_kinds::{LimitedText, RequestId};
 pub use batches::{ShownExonerations, ShownResults};
 pub use call_forms::{Answer, Asked, Refusal, Standin, Told, write_refusal};
-pub use json_fields::{FaultKind, FieldFault, Step, Tag, Why, pairs_from};
+pub use json_fields::{FaultKind, FieldFault, Step, Why};
 pub use query_forms;
+pub use query_forms::invocation_forms::pair_kinds::{Tag, pairs_from};
 pub use query_forms::invocation_forms::{
     CreateInvocation, IncludingInvocation, NamedInvocation, NewInvocation, ShownInvocation,
     UpdateInvocation, state_name,

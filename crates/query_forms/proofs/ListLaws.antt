@@ -12,7 +12,7 @@ use Rattle.json_fields.specs.Kinds.{a_list, empty_list, empty_text, IsEach}
 use Rattle.json_fields.specs.Writing.{AllWritten, is_bare, list_data}
 use Rattle.json_fields.proofs.FormLaws.{GivesForm, list_form, required_form}
 use Rattle.json_fields.proofs.MeaningLaws.{each_one, each_there, first_left, first_right, holds_one, required_there}
-use Rattle.json_fields.proofs.NameLaws.{name_one, name_there}
+use Rattle.field_kinds.proofs.TextKinds.NameLaws.{name_one, name_there}
 use Rattle.json_fields.proofs.WriteLaws.{listed_written}
 use Rattle.field_kinds.specs.Lists.{a_limited_list, most_names, too_many}
 use Rattle.field_kinds.proofs.ListLaws.{limit_kept, limited_written}

@@ -17,8 +17,7 @@ use Rattle.json_fields.specs.declared.faults.ReadFault.{ReadFault}
 use Rattle.json_fields.proofs.ListLaws.{stops}
 use Rattle.json_fields.proofs.FormLaws.{GivesForm, text_form, list_form, required_form}
 use Rattle.json_fields.proofs.MeaningLaws.{first_left, first_right, moved_none, holds_one, maybe_one, each_one, same_one}
-use Rattle.json_fields.proofs.NameLaws.{name_one}
-use Rattle.json_fields.proofs.SpellLaws.{invocation_name_spelled}
+use Rattle.field_kinds.proofs.TextKinds.NameLaws.{name_one, invocation_name_spelled}
 use Rattle.json_fields.proofs.WriteLaws.{differ, listed_written, member_put, member_other, optional_lost}
 use Rattle.field_kinds.specs.Beside.{a_same_text}
 use Rattle.field_kinds.specs.Filled.{optional_filled}

@@ -34,7 +34,8 @@ use Rattle.json_fields.specs.declared.whys.Why.{Why}
 use Rattle.json_fields.proofs.FormLaws.{GivesForm, text_form}
 use Rattle.json_fields.proofs.MeaningLaws.{first_left, first_right, moved_none, text_one, same_one}
 use Rattle.json_fields.proofs.NameLaws.{part_refused, limited_refused}
-use Rattle.json_fields.proofs.TextLaws.{span_of_text, span_fault-is, value_good}
+use Rattle.json_fields.proofs.TextLaws.{span_of_text, span_fault-is}
+use Rattle.field_kinds.proofs.TextKinds.TagTextLaws.{value_good}
 use Rattle.field_kinds.specs.TextKinds.Texts.{a_string}
 use Rattle.field_kinds.specs.TextKinds.Statuses.{IsStatus}
 use Rattle.field_kinds.specs.Defaults.{HoldsOr}

@@ -17,7 +17,8 @@ use Rattle.json_fields.specs.Writing.{list_data}
 use Rattle.json_fields.specs.declared.faults.FieldFault.{FieldFault}
 use Rattle.json_fields.specs.declared.faults.FaultKind.TheVariants.{BadValue}
 use Rattle.json_fields.specs.declared.whys.Why.TheVariants.{NotWhole, TooLong, TooDeep}
-use Rattle.json_fields.proofs.PlainLaws.{IsPlain, ArePlain, plain-put, plain_text, no_members_plain, plain_object, plain_tag}
+use Rattle.json_fields.proofs.PlainLaws.{IsPlain, ArePlain, plain-put, plain_text, no_members_plain, plain_object}
+use Rattle.field_kinds.proofs.PairKinds.TagLaws.{plain_tag}
 use Rattle.field_kinds.specs.Properties.{a_properties, long_fault, deep_fault, empty_object}
 use Rattle.field_kinds.specs.Variants.{def_name}
 use Rattle.test_results.specs.declared.result.TestResult.{TestResult}

@@ -13,9 +13,10 @@ use Rattle.moments_spans.specs.SpanGrammar.{IsSpanText}
 use Rattle.json_fields.specs.Fields.{required, optional, filled_at, set_at}
 use Rattle.json_fields.specs.Kinds.{an_object, a_list, empty_text}
 use Rattle.json_fields.specs.Texts.{a_text, IsText, IsSame, moment_fault, span_fault}
-use Rattle.json_fields.specs.Tags.{a_tag, IsTag, IsPairOfGrammar}
-use Rattle.json_fields.proofs.FormLaws.{GivesForm, moment_form, optional_form, optional_list_form, part_form, required_form, tag_form}
-use Rattle.json_fields.proofs.MeaningLaws.{first_left, first_right, holds_one, maybe_one, list_one, same_one, moment_one, tag_one}
+use Rattle.field_kinds.specs.PairKinds.Tags.{a_tag, IsTag, IsPairOfGrammar}
+use Rattle.json_fields.proofs.FormLaws.{GivesForm, moment_form, optional_form, optional_list_form, part_form, required_form}
+use Rattle.field_kinds.proofs.PairKinds.TagLaws.{tag_form, tag_one}
+use Rattle.json_fields.proofs.MeaningLaws.{first_left, first_right, holds_one, maybe_one, list_one, same_one, moment_one}
 use Rattle.json_fields.proofs.SpellLaws.{test_id_spelled, result_id_spelled, moment_spelled, span_spelled}
 use Rattle.field_kinds.specs.TextKinds.Statuses.{a_status, no_status, IsStatus, status_name}
 use Rattle.field_kinds.specs.Flags.{a_flag, IsFlag}

@@ -20,11 +20,12 @@ use Rattle.json_fields.specs.Names.{NameForm}
 use Rattle.json_fields.specs.Fields.{required, optional, filled_at, set_at, Holds, HoldsMaybe}
 use Rattle.json_fields.specs.Fields as field
 use Rattle.json_fields.specs.Kinds.{a_list, never_empty, HoldsList}
-use Rattle.json_fields.specs.Tags.{a_tag, IsTag, IsPairOfGrammar, tag_data}
+use Rattle.field_kinds.specs.PairKinds.Tags.{a_tag, IsTag, IsPairOfGrammar, tag_data}
 use Rattle.json_fields.specs.Writing.{IsWritten, AllWritten, list_data}
 use Rattle.json_fields.specs.declared.whys.Why.{Why}
-use Rattle.json_fields.proofs.TextLaws.{value_right}
-use Rattle.json_fields.proofs.WriteLaws.{tag_written, list_no_fault, list_meant, set_found, set_lost, optional_found, optional_lost}
+use Rattle.field_kinds.proofs.TextKinds.TagTextLaws.{value_right}
+use Rattle.json_fields.proofs.WriteLaws.{list_no_fault, list_meant, set_found, set_lost, optional_found, optional_lost}
+use Rattle.field_kinds.proofs.PairKinds.TagLaws.{tag_written}
 use Rattle.field_kinds.specs.TextKinds.Texts.{a_string}
 use Rattle.field_kinds.specs.TextKinds.Statuses.{a_status, no_status, IsStatus, status_name}
 use Rattle.field_kinds.specs.Defaults.{HoldsOr}

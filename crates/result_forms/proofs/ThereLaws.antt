@@ -8,10 +8,11 @@ use Rattle.names_realms.specs.Names.{test_id_fault, result_id_fault}
 use Rattle.names_realms.specs.declared.states.Status.{Status}
 use Rattle.json_fields.specs.Fields.{required, optional, set_at}
 use Rattle.json_fields.specs.Kinds.{an_object, a_list, empty_text, empty_list, never_empty, IsEach}
-use Rattle.json_fields.specs.Tags.{a_tag, IsTag}
+use Rattle.field_kinds.specs.PairKinds.Tags.{a_tag, IsTag}
 use Rattle.json_fields.specs.Texts.{a_text, moment_fault, span_fault, IsText, IsSame}
-use Rattle.json_fields.proofs.MeaningLaws.{first_left, first_right, list_there, moment_there, optional_there, required_there, same_there, tag_there, text_there}
-use Rattle.json_fields.proofs.NameLaws.{name_there}
+use Rattle.json_fields.proofs.MeaningLaws.{first_left, first_right, list_there, moment_there, optional_there, required_there, same_there, text_there}
+use Rattle.field_kinds.proofs.PairKinds.TagLaws.{tag_there}
+use Rattle.field_kinds.proofs.TextKinds.NameLaws.{name_there}
 use Rattle.json_fields.proofs.TextLaws.{span_of_text}
 use Rattle.field_kinds.specs.TextKinds.Statuses.{status_of, unless_known, a_status, no_status, IsStatus}
 use Rattle.field_kinds.specs.TextKinds.Texts.{a_string, a_request_id, request_id_why}

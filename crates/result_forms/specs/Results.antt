@@ -13,7 +13,7 @@ use Rattle.json_fields.specs.Fields.{required, optional, fault_of, filled_at, se
 use Rattle.json_fields.specs.Faults.{first}
 use Rattle.json_fields.specs.Kinds.{an_object, a_list, empty_text, HoldsList}
 use Rattle.json_fields.specs.Texts.{a_text, IsText, IsSame, moment_fault, span_fault}
-use Rattle.json_fields.specs.Tags.{a_tag, IsTag, IsPairOfGrammar}
+use Rattle.field_kinds.specs.PairKinds.Tags.{a_tag, IsTag, IsPairOfGrammar}
 use Rattle.json_fields.specs.declared.faults.FieldFault.{FieldFault}
 use Rattle.field_kinds.specs.TextKinds.Statuses.{a_status, no_status, IsStatus, status_name}
 use Rattle.field_kinds.specs.Defaults.{HoldsOr}

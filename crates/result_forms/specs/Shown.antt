@@ -7,7 +7,7 @@ use Rattle.serde_json.specs.Read.{read}
 use Rattle.moments_spans.specs.Moments.{moment_text}
 use Rattle.moments_spans.specs.Spans.{span_text}
 use Rattle.names_realms.specs.declared.pairs.Pair.{Pair}
-use Rattle.json_fields.specs.Tags.{tag_data}
+use Rattle.field_kinds.specs.PairKinds.Tags.{tag_data}
 use Rattle.json_fields.specs.Writing.{list_data}
 use Rattle.json_fields.specs.declared.faults.FieldFault.{FieldFault}
 use Rattle.field_kinds.specs.Variants.{def_name}

@@ -66,6 +66,16 @@ impl<'v> FormBeside<Outer<'v>> for TestResult {
             Err(fault) => Err(fault),
         }
     }
+
+    fn take_over(&mut self, before: Option<&TestResult>)
+        ensures { self.new ≡ self.old }
+    {
+        let before = match before {
+            Some(row) => Some(&row.variant),
+            None => None,
+        };
+        self.variant.keep_label(before);
+    }
 }
 
 impl<'v> FormBeside<Outer<'v>> for TestExoneration {
@@ -89,5 +99,15 @@ impl<'v> FormBeside<Outer<'v>> for TestExoneration {
             Ok(new) => Ok(new.into_row()),
             Err(fault) => Err(fault),
         }
+    }
+
+    fn take_over(&mut self, before: Option<&TestExoneration>)
+        ensures { self.new ≡ self.old }
+    {
+        let before = match before {
+            Some(row) => Some(&row.variant),
+            None => None,
+        };
+        self.variant.keep_label(before);
     }
 }

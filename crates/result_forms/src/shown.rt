@@ -9,8 +9,9 @@ ghost use Rattle.result_forms.specs.Shown.{reason_shown, properties_shown, right
 use crate::members::{Shown, list_value, put_some};
 use crate::names::primary_error_message;
 use field_kinds::Properties;
+use field_kinds::pair_kinds::tag_value;
 use field_kinds::text_kinds::StatusName;
-use json_fields::{Form, ReadFault, SpelledOut, Written, tag_value, write_text};
+use json_fields::{Form, ReadFault, SpelledOut, Written, write_text};
 use names_realms::{Pair, Status};
 use serde_json::{Map, Value};
 use std::alloc::{AllocError, Global};

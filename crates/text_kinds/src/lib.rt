@@ -1,5 +1,5 @@
-//! Kinds of fields whose value is one text: contents, hashes, names of a status, and texts with a
-//! limit.
+//! Kinds of fields whose value is one text: contents, hashes, names of a status and of invocations,
+//! the two texts of a tag, and texts with a limit.
 //!
 //! Each kind says what is wrong with a JSON value, what a right one means, and what is written of
 //! it.
@@ -8,10 +8,15 @@
 mod contents;
 mod hashes;
 pub mod laws;
+mod names;
 mod statuses;
+mod tag_texts;
 mod texts;
 
 pub use contents::Contents;
 pub use hashes::HashText;
+pub use json_fields;
+pub use names::{InvocationName, ids_from};
 pub use statuses::StatusName;
+pub use tag_texts::{TagKey, TagValue};
 pub use texts::{ContentType, Html, LimitedText, MayBeEmpty, Message, RequestId, TextRule};

@@ -8,7 +8,7 @@ use Rattle.json.specs.Written.{Written}
 use Rattle.serde_json.specs.Data.{Data}
 use Rattle.serde_json.specs.View.{items_of}
 use Rattle.serde_json.specs.Written.{items_outline}
-use Rattle.json_fields.specs.Writing.{list_data}
+use Rattle.pair_kinds.specs.JsonFields.Writing.{list_data}
 use Rattle.token_texts.specs.Tokens.{tokens_of, member_tokens, list_shown, IsAdded}
 use Rattle.token_texts.proofs.TokenLaws.{added_none, added_as, also}
 

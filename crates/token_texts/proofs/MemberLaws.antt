@@ -5,8 +5,8 @@ use Rattle.std.proofs.lemmas.Str.{IsUtf8-from_is_utf8, is_utf8-from_IsUtf8}
 use Rattle.json.specs.Token.{Token, key, begin_object, end_object}
 use Rattle.json.specs.Token as token
 use Rattle.serde_json.specs.Data.{string}
-use Rattle.json_fields.specs.NamesRealms.declared.pairs.Pair.{Pair}
-use Rattle.json_fields.specs.Tags.{tag_data}
+use Rattle.pair_kinds.specs.NamesRealms.declared.pairs.Pair.{Pair}
+use Rattle.pair_kinds.specs.Tags.{tag_data}
 use Rattle.token_texts.specs.Shown.{as_text, filled, pair_data}
 use Rattle.token_texts.specs.Tokens.{tokens_of, member_tokens}
 

@@ -11,8 +11,8 @@ use Rattle.json.specs.Token.{Token, key, begin_object, end_object}
 use Rattle.json.specs.Tree.{members_tokens}
 use Rattle.serde_json.specs.Data.{Data, Members, no_members, member, put, object}
 use Rattle.serde_json.specs.Written.{members_outline}
-use Rattle.json_fields.specs.Names.{NameForm}
-use Rattle.json_fields.specs.Writing.{put_optional, put_list}
+use Rattle.pair_kinds.specs.JsonFields.Names.{NameForm}
+use Rattle.pair_kinds.specs.JsonFields.Writing.{put_optional, put_list}
 use Rattle.token_texts.specs.Tokens.{tokens_of, member_tokens, list_shown}
 
 abbrev pub Listed : Type 0

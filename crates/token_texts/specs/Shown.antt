@@ -2,8 +2,8 @@
 use Rattle.std.specs.Prelude.{if◌then◌else◌, ℕ, List, [], ◌∷◌, Option, Some, None}
 use Rattle.std.specs.Str.{is_utf8}
 use Rattle.serde_json.specs.Data.{Data, string}
-use Rattle.json_fields.specs.NamesRealms.declared.pairs.Pair.{Pair}
-use Rattle.json_fields.specs.Tags.{tag_data}
+use Rattle.pair_kinds.specs.NamesRealms.declared.pairs.Pair.{Pair}
+use Rattle.pair_kinds.specs.Tags.{tag_data}
 
 -- A text: its bytes, and none where they aren't UTF-8.
 abbrev pub as_text : List ℕ → List ℕ

@@ -5,7 +5,7 @@ use Rattle.json.specs.Tree.{json_tokens}
 use Rattle.json.specs.Written.{Written}
 use Rattle.serde_json.specs.Data.{Data}
 use Rattle.serde_json.specs.Written.{outline}
-use Rattle.json_fields.specs.Writing.{list_data}
+use Rattle.pair_kinds.specs.JsonFields.Writing.{list_data}
 
 abbrev pub tokens_of : Data → List Token
 tokens_of d = json_tokens (outline d)

@@ -10,7 +10,7 @@ use Rattle.name_parts.specs.declared.alphabets.Alphabet.TheVariants as alphabet
 use Rattle.name_parts.specs.declared.parts.PartForm.TheVariants.{Letters, TestId}
 use Rattle.names_realms.specs.declared.states.Case.{Case}
 use Rattle.test_results.specs.declared.result.TestResult.{TestResult}
-use Rattle.json_fields.specs.Tags.{IsPairOfGrammar}
+use Rattle.field_kinds.specs.PairKinds.Tags.{IsPairOfGrammar}
 use Rattle.field_kinds.proofs.ReadValues.{IsReadValue}
 use Rattle.result_forms.specs.Batches.{element_data}
 use Rattle.result_forms.specs.Methods.{result_row}

@@ -1,4 +1,4 @@
-use Rattle.json_fields.specs.NamesRealms.declared.pairs.Pair.{Pair}
+use Rattle.pair_kinds.specs.NamesRealms.declared.pairs.Pair.{Pair}
 use Rattle.token_texts.specs.Shown.{pair_data}
 use Rattle.token_texts.specs.Tokens.{tokens_of}
 use Rattle.token_texts.proofs.ListLaws.{rows_none, rows_more, rows_all}

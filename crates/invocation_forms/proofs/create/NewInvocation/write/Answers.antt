@@ -1,7 +1,7 @@
 use Rattle.std.proofs.Common.{false, List, subst}
 use Rattle.names_realms.specs.declared.pairs.Pair.{Pair}
 use Rattle.json_fields.specs.Kinds.{never_empty}
-use Rattle.json_fields.specs.Tags.{a_tag, IsTag, tag_data}
+use Rattle.field_kinds.specs.PairKinds.Tags.{a_tag, IsTag, tag_data}
 use Rattle.json_fields.specs.Writing.{AllWritten}
 use Rattle.invocation_forms.proofs.CreateLaws.{new_written}
 use Rattle.invocation_forms.proofs.create.NewInvocation.write.Goals as goal

@@ -1,6 +1,6 @@
 use Rattle.std.proofs.Common.{sym, ◌∙◌}
-use Rattle.json_fields.proofs.TextLaws.{value_good}
-use Rattle.json_fields.proofs.tags.TagValueSpelled.parse_text.Goals as goal
+use Rattle.text_kinds.proofs.TagTextLaws.{value_good}
+use Rattle.text_kinds.proofs.tag_texts.TagValueSpelled.parse_text.Goals as goal
 
 pub owned_text-requires : goal.owned_text-requires
 owned_text-requires c = (value_good c.args.text.now (sym c.fault_of_value.ensures ∙ c.in_default.is)).0

@@ -1,25 +1,20 @@
 -- Tags: pairs of a key and a value, each an object of two texts.
 use Rattle.std.specs.Prelude.{ℕ, ◌==◌, if◌then◌else◌, List, [], ◌∷◌, length, codes, Option}
 use Rattle.serde_json.specs.Data.{Data, string, object, Members, no_members, put}
-use Rattle.names_realms.specs.NameParts.Parts.{part_fault}
-use Rattle.names_realms.specs.NameParts.declared.faults.NameFault.{NameFault}
-use Rattle.names_realms.specs.NameParts.declared.parts.PartForm.TheVariants.{PairKey}
-use Rattle.names_realms.specs.declared.pairs.Pair.{Pair}
-use Rattle.names_realms.specs.Pairs.{IsPairKey, IsPairValue, pair_value_fault}
-use Rattle.json_fields.specs.Names.{NameForm, word}
-use Rattle.json_fields.specs.Fields.{or_empty, fault_of, text_at}
-use Rattle.json_fields.specs.Kinds.{an_object}
-use Rattle.json_fields.specs.Texts.{a_text, IsText, IsSame}
-use Rattle.json_fields.specs.declared.faults.FieldFault.{FieldFault}
+use Rattle.pair_kinds.specs.NamesRealms.declared.pairs.Pair.{Pair}
+use Rattle.pair_kinds.specs.NamesRealms.Pairs.{IsPairKey, IsPairValue, pair_value_fault}
+use Rattle.pair_kinds.specs.JsonFields.Names.{NameForm, word}
+use Rattle.pair_kinds.specs.JsonFields.Fields.{or_empty, fault_of, text_at}
+use Rattle.pair_kinds.specs.JsonFields.Kinds.{an_object}
+use Rattle.pair_kinds.specs.JsonFields.Texts.{a_text, IsText, IsSame}
+use Rattle.pair_kinds.specs.JsonFields.declared.faults.FieldFault.{FieldFault}
+use Rattle.text_kinds.specs.TagTexts.{key_fault}
 
 abbrev pub key_name : NameForm
 key_name = word (codes "key")
 
 abbrev pub value_name : NameForm
 value_name = word (codes "value")
-
-abbrev pub key_fault : List ℕ → Option NameFault
-key_fault text = part_fault PairKey text
 
 -- `{"key","value"}`, of which an unset one counts as the empty text; the key is judged first
 abbrev pub tag_fields : List (Data → Option FieldFault)

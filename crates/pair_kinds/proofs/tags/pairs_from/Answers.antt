@@ -1,7 +1,7 @@
 use Rattle.std.proofs.Common.{sym, ◌∙◌, map-id, arith}
 use Rattle.std.proofs.lemmas.Iterator.Adapters.{YieldsList-from_vec}
 use Rattle.std.proofs.lemmas.Iterator.Consumers.{YieldsList-end}
-use Rattle.json_fields.proofs.moves.pairs_from.Goals as goal
+use Rattle.pair_kinds.proofs.tags.pairs_from.Goals as goal
 
 pub returns : goal.returns
 returns c =

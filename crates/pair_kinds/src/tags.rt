@@ -1,96 +1,18 @@
 //! Tags, each a key and a value.
 ghost use Rattle.std.specs.Prelude.{◌≡◌, ◌≢◌, IfOk, IfErr, OnOk, Some};
-ghost use Rattle.names_realms.specs.Pairs.{IsPairKey, IsPairValue, pair_fault, pair_value_fault};
-ghost use Rattle.json_fields.specs.Tags.{key_name, value_name, put_filled, tag_data};
 ghost use Rattle.serde_json.specs.View.{view, members_view};
+ghost use Rattle.pair_kinds.specs.NamesRealms.Pairs.{IsPairKey, IsPairValue, pair_fault};
+ghost use Rattle.pair_kinds.specs.Tags.{key_name, value_name, put_filled, tag_data};
 
-use crate::faults::ReadFault;
-use crate::fields::{Form, or_empty_text};
-use crate::kinds::object;
-use crate::names::Name;
-use crate::texts::Spelled;
-use crate::writing::{Written, put};
-use names_realms::lists::Bytes;
-use names_realms::name_parts::{PartForm, limited, owned_text, read_part, utf8_len};
-use names_realms::{NameFault, Pair, PairFault};
 use serde_json::{Map, Value};
 use std::alloc::{AllocError, Global};
 use std::marker::Model;
-
-/// The key of a tag, at most 64 bytes: words of lower-case letters, digits and `_` that begin with
-/// a letter, parted by `/`.
-#[derive(Debug, Drop)]
-pub struct TagKey {
-    text: String,
-}
-
-impl Model for TagKey {
-    ghost use Rattle.std.specs.Prelude.{ℕ, List, string_bytes};
-    ghost use Rattle.names_realms.specs.Pairs.{IsPairKey};
-
-    ghost Value = { List ℕ };
-
-    ghost view = { λ k. string_bytes k.text };
-
-    ghost invariant = { λ k. IsPairKey (string_bytes k.text) };
-}
-
-impl Spelled for TagKey {
-    ghost use Rattle.json_fields.specs.Tags.{key_fault};
-    ghost use Rattle.json_fields.specs.Texts.{IsSame};
-
-    ghost text_fault = { key_fault };
-
-    ghost spells = { IsSame };
-
-    fn parse_text(alloc: Global, text: &[u8]) -> Result<TagKey, NameFault> {
-        let text = read_part(alloc, PartForm::PairKey, text)?;
-        Ok(TagKey { text })
-    }
-}
-
-/// The value of a tag: at most 256 bytes of UTF-8, which may be empty.
-#[derive(Debug, Drop)]
-pub struct TagValue {
-    text: String,
-}
-
-impl Model for TagValue {
-    ghost use Rattle.std.specs.Prelude.{ℕ, List, string_bytes};
-    ghost use Rattle.names_realms.specs.Pairs.{IsPairValue};
-
-    ghost Value = { List ℕ };
-
-    ghost view = { λ v. string_bytes v.text };
-
-    ghost invariant = { λ v. IsPairValue (string_bytes v.text) };
-}
-
-/// What is wrong with the value of a pair.
-fn fault_of_value(text: &[u8]) -> Option<NameFault>
-    ensures { result ≡ pair_value_fault text.now }
-{
-    let good = utf8_len(text);
-    let bad = if good == text.len() { None } else { Some(good) };
-    limited(256, text.len(), bad)
-}
-
-impl Spelled for TagValue {
-    ghost use Rattle.names_realms.specs.Pairs.{pair_value_fault};
-    ghost use Rattle.json_fields.specs.Texts.{IsSame};
-
-    ghost text_fault = { pair_value_fault };
-
-    ghost spells = { IsSame };
-
-    fn parse_text(alloc: Global, text: &[u8]) -> Result<TagValue, NameFault> {
-        if let Some(fault) = fault_of_value(text) {
-            return Err(fault);
-        }
-        let text = owned_text(alloc, text)?;
-        Ok(TagValue { text })
-    }
-}
+use text_kinds::json_fields::lists::Listed;
+use text_kinds::json_fields::names_realms::{NameFault, Pair, PairFault};
+use text_kinds::json_fields::{
+    Form, Name, ReadFault, Spelled, Written, object, or_empty_text, put,
+};
+use text_kinds::{TagKey, TagValue};
 
 /// A tag: a pair whose key and value are text of the grammar of pairs. Contracts see it as the
 /// pair.
@@ -101,7 +23,7 @@ pub struct Tag {
 }
 
 impl Model for Tag {
-    ghost use Rattle.names_realms.specs.declared.pairs.Pair.{Pair};
+    ghost use Rattle.pair_kinds.specs.NamesRealms.declared.pairs.Pair.{Pair};
 
     ghost Value = { Pair };
 
@@ -127,6 +49,7 @@ impl Tag {
             Err(NameFault::Memory) => return Err(PairFault::Memory),
             Err(fault) => return Err(PairFault::Value(fault)),
         };
+        let (_key, _value) = (key.as_str(), value.as_str());
         Ok(Tag { key, value })
     }
 
@@ -135,8 +58,7 @@ impl Tag {
         ensures text { result.now ≡ self.now.key }
         ensures grammar { IsPairKey self.now.key }
     {
-        let key = &self.key;
-        key.text.as_str()
+        self.key.as_str()
     }
 
     /// The value.
@@ -144,8 +66,7 @@ impl Tag {
         ensures text { result.now ≡ self.now.value }
         ensures grammar { IsPairValue self.now.value }
     {
-        let value = &self.value;
-        value.text.as_str()
+        self.value.as_str()
     }
 
     /// The pair that a row keeps. Takes no memory.
@@ -157,22 +78,6 @@ impl Tag {
             key: key.into_bytes(),
             value: value.into_bytes(),
         }
-    }
-}
-
-impl TagKey {
-    fn into_bytes(self) -> Bytes
-        ensures { result ≡ self }
-    {
-        Bytes::new(self.text.into_bytes())
-    }
-}
-
-impl TagValue {
-    fn into_bytes(self) -> Bytes
-        ensures { result ≡ self }
-    {
-        Bytes::new(self.text.into_bytes())
     }
 }
 
@@ -189,8 +94,8 @@ fn value_name() -> Name
 }
 
 impl Form for Tag {
-    ghost use Rattle.json_fields.specs.Kinds.{never_empty};
-    ghost use Rattle.json_fields.specs.Tags.{a_tag, IsTag};
+    ghost use Rattle.pair_kinds.specs.JsonFields.Kinds.{never_empty};
+    ghost use Rattle.pair_kinds.specs.Tags.{a_tag, IsTag};
 
     ghost fault = { a_tag };
 
@@ -202,7 +107,7 @@ impl Form for Tag {
         false
     }
 
-    #[tactic(auto, unfolding(crate::specs::Tags::a_tag, crate::specs::Fields::or_empty))]
+    #[tactic(auto, unfolding(crate::specs::Tags::a_tag))]
     fn read(alloc: Global, value: &Value) -> Result<Tag, ReadFault> {
         object(alloc, value)?;
         let key = or_empty_text(alloc, value, key_name())?;
@@ -212,7 +117,7 @@ impl Form for Tag {
 }
 
 /// Puts a text under a name, where it isn't empty.
-pub fn put_filled(
+fn put_filled(
     alloc: Global,
     map: &mut Map<String, Value>,
     name: &Name,
@@ -240,7 +145,7 @@ pub fn tag_value(alloc: Global, key: &str, value: &str) -> Result<Value, AllocEr
 
 impl Written for Tag {
     ghost use Rattle.std.specs.Prelude.{false};
-    ghost use Rattle.json_fields.specs.Tags.{tag_data};
+    ghost use Rattle.pair_kinds.specs.Tags.{tag_data};
 
     ghost json = { tag_data };
 
@@ -249,4 +154,15 @@ impl Written for Tag {
     fn write(&self, alloc: Global) -> Result<Value, AllocError> {
         tag_value(alloc, self.key(), self.value())
     }
+}
+
+/// The pairs that tags are, moved. `Err` where there is no memory for the list.
+pub fn pairs_from(alloc: Global, tags: Listed<Tag>) -> Result<Listed<Pair>, AllocError>
+    ensures { IfOk result (λ pairs. pairs ≡ tags) }
+{
+    let mut pairs = Vec::with_capacity(alloc, tags.len())?;
+    for tag in tags.into_vec() {
+        pairs.push(tag.into_pair())?;
+    }
+    Ok(Listed::new(pairs))
 }

@@ -1,0 +1,10 @@
+//! Kinds of fields whose value is a pair of texts: tags.
+//!
+//! Each kind says what is wrong with a JSON value, what a right one means, and what is written of
+//! it.
+#![tactic(auto)]
+
+mod tags;
+
+pub use tags::{Tag, pairs_from, tag_value};
+pub use text_kinds::{self, json_fields};
