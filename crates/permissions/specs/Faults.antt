@@ -1,4 +1,5 @@
--- The faults of a configuration, and those of its tables, in the order in which they are looked for.
+-- The faults of a configuration, and those of its tables, in the order in which they are looked
+-- for.
 use Rattle.std.specs.Prelude.{◌≡◌, ℕ, List, [], Option, Some, None, option_map, codes, nat_lt, if◌then◌else◌}
 use Rattle.std.specs.Option.{option_or}
 use Rattle.policy_tables.specs.declared.findings.Finding.{Finding}

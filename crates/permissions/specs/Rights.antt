@@ -91,8 +91,8 @@ pub record AreRights (t : PolicyTables) (ranks : List (Option ℕ)) (ranked : Ra
   pub shortcuts_count : length ranked.shortcuts.of_ranks.items ≡ length ranked.rows.items
   pub few : length t.realms ≤ 65536
 
--- Marked ranks are reached from the start. Each is still to come, or isn't bound and leads to marked
--- ones.
+-- Marked ranks are reached from the start. Each is still to come, or isn't bound and leads to
+-- marked ones.
 pub record IsLooked (rows : List (List ℕ)) (bound : ℕ → Bool) (start left : ℕ)
     (marks : List Bool) : Type 0 where
   pub reached : (q : ℕ) → is_marked marks q ≡ true → (path : List ℕ) × IsWalkOn rows start path q

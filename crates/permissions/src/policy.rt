@@ -23,16 +23,16 @@ use crate::shortcuts::all_shortcuts;
 use hex::FromHexError;
 use policy_checks::names_realms::Realm;
 use policy_checks::{Book, NameIndex, Permission};
-use policy_tables::name_parts::Bytes;
 use policy_tables::{Listed, PolicyTables};
 use std::alloc::{AllocError, Global};
 use std::marker::Model;
+use update_tokens::Secret;
 
 /// Who may do what, as a configuration says.
 #[derive(Drop)]
 pub struct Policy {
     rights: Rights,
-    secret: Bytes,
+    secret: Secret,
     tokens: NameIndex,
 }
 
@@ -49,14 +49,14 @@ impl Model for Policy {
     ghost invariant = { λ p. IsKept p.secret p.tokens p.rights };
 }
 
-/// The bytes of a secret, whose digits were checked before.
+/// A secret, whose digits were checked before.
 #[tactic(auto, unfolding(policy_checks::specs::Checks::is_hex_text))]
-fn read_secret(alloc: Global, text: &[u8]) -> Result<Bytes, AllocError>
+fn read_secret(alloc: Global, text: &[u8]) -> Result<Secret, AllocError>
     requires { is_hex_text text.now ≡ true }
-    ensures { IfOk result (λ bytes. decode_of text.now ≡ Ok bytes) }
+    ensures { IfOk result (λ secret. decode_of text.now ≡ Ok secret) }
 {
     match hex::decode(alloc, text) {
-        Ok(bytes) => Ok(Bytes::new(bytes)),
+        Ok(bytes) => Ok(Secret::new(bytes)),
         Err(FromHexError::OutOfMemory) => Err(AllocError),
         Err(_) => unreachable!(),
     }
@@ -159,10 +159,10 @@ impl Policy {
     }
 
     /// The secret under which update tokens are made.
-    pub fn secret(&self) -> &[u8]
+    pub fn secret(&self) -> &Secret
         ensures { decode_of self.now.secret ≡ Ok result.now }
     {
-        self.secret.as_slice()
+        &self.secret
     }
 
     /// Whether the caller has the permission in the realm: some realm that is this one, or that it

@@ -10,7 +10,7 @@
 use names_realms::{InvocationId, Realm};
 use permissions::{Permission, Policy};
 use std::alloc::{AllocError, Global};
-use update_tokens::{hmac_sha256, token_is, update_token};
+use update_tokens::{Secret, hmac_sha256, token_is, update_token};
 
 /// The names of the permissions, in the order in which they are told.
 const NAMES: [&str; 12] = [
@@ -91,7 +91,12 @@ fn tell_user(policy: &Policy, token: &str, out: &mut Vec<u8>) -> Result<(), Allo
 }
 
 /// The update token of an invocation.
-fn tell_token(alloc: Global, secret: &[u8], id: &str, out: &mut Vec<u8>) -> Result<(), AllocError> {
+fn tell_token(
+    alloc: Global,
+    secret: &Secret,
+    id: &str,
+    out: &mut Vec<u8>,
+) -> Result<(), AllocError> {
     match InvocationId::parse(alloc, id.as_bytes()) {
         Ok(id) => out.extend_from_slice(update_token(secret, &id).as_slice())?,
         Err(_) => out.extend_from_slice(b"no id")?,
@@ -102,7 +107,7 @@ fn tell_token(alloc: Global, secret: &[u8], id: &str, out: &mut Vec<u8>) -> Resu
 /// Whether a text is the update token of an invocation.
 fn tell_shown(
     alloc: Global,
-    secret: &[u8],
+    secret: &Secret,
     ask: &str,
     out: &mut Vec<u8>,
 ) -> Result<(), AllocError> {

@@ -1,4 +1,5 @@
-//! Reads configurations from the input, and prints what becomes of each, and who may do what by it. For trials alone.
+//! Reads configurations from the input, and prints what becomes of each, and who may do what by it.
+//! For trials alone.
 //!
 //! A line `----` parts two configurations. Comments of one that is read may ask (`asks`).
 #![tactic(auto)]
@@ -60,7 +61,8 @@ fn tell(alloc: Global, text: &str, out: &mut Vec<u8>) -> Result<(), AllocError> 
     }
 }
 
-/// What becomes of each configuration of an input. Bytes that are no text are one, which isn't TOML.
+/// What becomes of each configuration of an input. Bytes that are no text are one, which isn't
+/// TOML.
 fn report(alloc: Global, input: &[u8]) -> Result<Vec<u8>, AllocError> {
     let mut out = Vec::new(alloc);
     match std::str::from_utf8(input) {

@@ -11,8 +11,8 @@ use call_forms::{Asked, Told};
 use disks::Disk;
 use journal_book::Book;
 use outside::Clock;
-use permissions::Policy;
 use service_machine::ServiceMachine;
+use service_machine::service_core::permissions::Policy;
 use std::alloc::Global;
 use tellers::Teller;
 

@@ -3,8 +3,8 @@ ghost use Rattle.std.specs.Prelude.{◌≡◌, IfOk};
 ghost use Rattle.service_machine.specs.RequestDemands.Understood.{IsUnderstood};
 
 use call_forms::Asked;
-use permissions::Policy;
 use service_machine::request_demands::{Understood, understand};
+use service_machine::service_core::permissions::Policy;
 use std::alloc::{AllocError, Global};
 
 /// What is asked under a policy, and what these two alone say of it, where there was memory.

@@ -3,10 +3,9 @@ ghost use Rattle.std.specs.Prelude.{◌≡◌, ◌+ℤ◌, IfOk, unwrap_or};
 ghost use Rattle.invocation_world.specs.World.{IsCallMoment, default_lifetime, new_row};
 
 use invocations::Invocation;
-use json_fields::pairs_from;
 use lists::{Bytes, Listed};
 use names_realms::{Moment, Pair, State};
-use request_rules::message_forms::{CreateInvocation, Tag};
+use request_rules::message_forms::{CreateInvocation, Tag, pairs_from};
 use std::alloc::{AllocError, Global};
 
 /// Two days, in microseconds.

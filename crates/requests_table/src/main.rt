@@ -1,8 +1,8 @@
 //! Reads a script of requests from the input, and prints what each is told. For trials alone.
 //!
-//! A script is a configuration, a line `----`, and blocks of lines, parted by lines `----`. A block is
-//! the life of one core, from the empty world on. Each line behind the configuration gives one line:
-//! `script` says which lines there are, and `telling` how an answer is printed.
+//! A script is a configuration, a line `----`, and blocks of lines, parted by lines `----`. A block
+//! is the life of one core, from the empty world on. Each line behind the configuration gives one
+//! line: `script` says which lines there are, and `telling` how an answer is printed.
 #![tactic(auto)]
 
 mod script;

@@ -1,7 +1,8 @@
 //! The lines of a script.
 //!
-//! A request is `SECONDS BEARER TOKEN TARGET BODY`, parted by one blank each, and the body is the rest
-//! of the line, with the blanks that it has; behind the target a blank and the body may be wanting.
+//! A request is `SECONDS BEARER TOKEN TARGET BODY`, parted by one blank each, and the body is the
+//! rest of the line, with the blanks that it has; behind the target a blank and the body may be
+//! wanting.
 ghost use Rattle.std.specs.Prelude.{◌≡◌, IfOk};
 ghost use Rattle.requests_table.specs.Lines.{begins_comment, IsLineOf};
 
@@ -9,7 +10,7 @@ use call_forms::Asked;
 use lists::Bytes;
 use names_realms::{InvocationId, NameFault};
 use std::alloc::{AllocError, Global};
-use update_tokens::update_token;
+use update_tokens::{Secret, update_token};
 
 /// 2023-11-14T22:13:20Z, in microseconds since 1970: second 0 of a script.
 const START: i64 = 1_700_000_000_000_000;
@@ -33,7 +34,7 @@ pub enum Line {
 
 impl Line {
     /// Reads a line, where this secret makes the update tokens.
-    pub fn read(alloc: Global, secret: &[u8], line: &str) -> Result<Line, AllocError>
+    pub fn read(alloc: Global, secret: &Secret, line: &str) -> Result<Line, AllocError>
         ensures { IfOk result (IsLineOf line.now) }
     {
         if is_comment(line) {
@@ -82,8 +83,8 @@ struct Words<'t> {
     /// The update token that is shown: `-` for none, `=` and its text, or the id of the invocation
     /// whose token it is.
     token: &'t str,
-    /// `Recorder.CreateInvocation` for a method of a service; a word that begins with `/` is a target
-    /// that names none.
+    /// `Recorder.CreateInvocation` for a method of a service; a word that begins with `/` is a
+    /// target that names none.
     target: &'t str,
     body: &'t str,
 }
@@ -102,7 +103,7 @@ fn words_of(line: &str) -> Option<Words<'_>> {
     })
 }
 
-fn read_turn(alloc: Global, secret: &[u8], line: &str) -> Result<Turn, Fault> {
+fn read_turn(alloc: Global, secret: &Secret, line: &str) -> Result<Turn, Fault> {
     let words = words_of(line).ok_or(Fault::Form)?;
     let now = clock_of(words.seconds).ok_or(Fault::Form)?;
     let (service, method) = service_and_method(words.target).ok_or(Fault::Form)?;
@@ -135,7 +136,7 @@ fn header(alloc: Global, word: &str) -> Result<Option<Bytes>, AllocError> {
 }
 
 /// The update token that a word shows, if any.
-fn update_token_of(alloc: Global, secret: &[u8], word: &str) -> Result<Option<Bytes>, Fault> {
+fn update_token_of(alloc: Global, secret: &Secret, word: &str) -> Result<Option<Bytes>, Fault> {
     if word == "-" {
         return Ok(None);
     }

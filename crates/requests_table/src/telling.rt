@@ -1,7 +1,7 @@
 //! How an answer is printed: `STATUS CODE TOKEN BODY` on one line.
 //!
-//! The code is that of gRPC, and the update token `-` where none is given. The body has `\n` for each
-//! end of a line and `\\` for each backslash, and else its bytes as they are.
+//! The code is that of gRPC, and the update token `-` where none is given. The body has `\n` for
+//! each end of a line and `\\` for each backslash, and else its bytes as they are.
 ghost use Rattle.std.specs.Prelude.{◌≡◌, [], ◌∷◌, ◌++◌, OnOk, IfOk, codes, decimal, string_bytes};
 ghost use Rattle.requests_table.specs.Telling.{answer_text, body_text, escaped, front_text, told_text, token_text};
 

@@ -12,7 +12,7 @@ use disks::Disk;
 use doors::Door;
 use journal_book::Book;
 use outside::{Clock, Sink, put_whole};
-use permissions::Policy;
+use served_desk::service_core::permissions::Policy;
 use served_desk::service_machine::ServiceMachine;
 use served_desk::{Office, serve_office};
 use std::alloc::Global;

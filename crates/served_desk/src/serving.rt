@@ -23,7 +23,7 @@ use disks::Disk;
 use door_workers::{Tally, Worker, serve_doors};
 use doors::Door;
 use outside::Clock;
-use permissions::Policy;
+use service_desk::service_core::permissions::Policy;
 use service_desk::{Desk, Shelf};
 use std::alloc::Global;
 use std::sync::Wait;

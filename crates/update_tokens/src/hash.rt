@@ -1,10 +1,16 @@
-//! HMAC-SHA256, and the update tokens that are made with it.
-ghost use Rattle.std.specs.Prelude.{◌≡◌, ◌++◌, ◌≤◌, length, drop, ◌↔◌, IsTrue};
-ghost use Rattle.sha2.specs.Sha256.{sha256};
-ghost use Rattle.update_tokens.specs.Hash.{filled_block, key_block, padded_with, hmac, token_text};
+//! HMAC-SHA256.
+ghost use Rattle.std.specs.Prelude.{◌≡◌, ◌++◌, ◌≤◌, ℕ, List, length, drop};
+ghost use Rattle.update_tokens.specs.Hash.{filled_block, key_block, padded_with, hmac};
+ghost use Rattle.update_tokens.specs.Pads.{ArePads};
 
-use names_realms::InvocationId;
 use sha2::{Digest, Sha256};
+
+/// The two pads of a key, each fed to a hasher: a code under the key goes on from there.
+#[derive(Drop)]
+pub(crate) struct Pads {
+    inner: Sha256,
+    outer: Sha256,
+}
 
 /// Writes bytes over the front of a slice.
 fn write_front(room: &mut [u8], bytes: &[u8])
@@ -54,71 +60,49 @@ fn with_pad(block: &[u8; 64], pad: u8) -> [u8; 64]
     out
 }
 
-/// The digest of three pieces, taken as one message.
-fn digest_of_three(first: &[u8], second: &[u8], third: &[u8]) -> [u8; 32]
-    ensures { result ≡ sha256 (first.now ++ (second.now ++ third.now)) }
+/// A hasher of what this one holds.
+fn copied(hasher: &Sha256) -> Sha256
+    ensures { result ≡ hasher.now }
 {
-    let mut hasher = Sha256::new();
-    hasher.update(first);
-    hasher.update(second);
-    hasher.update(third);
-    hasher.finalize()
+    match hasher.clone() {
+        Ok(hasher) => hasher,
+        Err(_) => unreachable!(),
+    }
 }
 
-/// The code of two pieces, taken as one message.
-#[tactic(auto, unfolding(crate::specs::Hash::hmac))]
-fn hmac_of_two(key: &[u8], first: &[u8], second: &[u8]) -> [u8; 32]
-    ensures { result ≡ hmac key.now (first.now ++ second.now) }
-{
-    let block = block_of(key);
-    let inner = with_pad(&block, 0x36);
-    let outer = with_pad(&block, 0x5c);
-    let inside = digest_of_three(inner.as_slice(), first, second);
-    digest_of_three(outer.as_slice(), inside.as_slice(), &[])
+impl Pads {
+    /// The pads of a key.
+    pub(crate) fn of(key: &[u8]) -> Pads
+        ensures { ArePads key.now result }
+    {
+        let block = block_of(key);
+        let inner = with_pad(&block, 0x36);
+        let outer = with_pad(&block, 0x5c);
+        Pads {
+            inner: Sha256::new_with_prefix(inner.as_slice()),
+            outer: Sha256::new_with_prefix(outer.as_slice()),
+        }
+    }
+
+    /// The code of two pieces, taken as one message.
+    #[tactic(auto, unfolding(crate::specs::Hash::hmac))]
+    pub(crate) fn code(&self, first: &[u8], second: &[u8]) -> [u8; 32]
+        ensures { (key : List ℕ) → ArePads key self.now
+            → result ≡ hmac key (first.now ++ second.now) }
+    {
+        let mut inner = copied(&self.inner);
+        inner.update(first);
+        inner.update(second);
+        let inside = inner.finalize();
+        let mut outer = copied(&self.outer);
+        outer.update(inside.as_slice());
+        outer.finalize()
+    }
 }
 
 /// The message authentication code of RFC 2104 over SHA-256, of a key and a message of any length.
 pub fn hmac_sha256(key: &[u8], message: &[u8]) -> [u8; 32]
     ensures { result ≡ hmac key.now message.now }
 {
-    hmac_of_two(key, message, &[])
-}
-
-/// The update token of an id under a secret.
-fn token_of(secret: &[u8], id: &[u8]) -> [u8; 64]
-    ensures { result ≡ token_text secret.now id.now }
-{
-    let code = hmac_of_two(secret, b"rdb-update/", id);
-    let mut text = [0u8; 64];
-    let _ = hex::encode_to_slice(code.as_slice(), &mut text);
-    text
-}
-
-/// The update token of an invocation under a secret: 64 lower-case hex digits.
-pub fn update_token(secret: &[u8], id: &InvocationId) -> [u8; 64]
-    ensures { result ≡ token_text secret.now id.now }
-{
-    token_of(secret, id.as_slice())
-}
-
-/// The bits in which two texts differ anywhere. It looks at every byte, whatever the ones before it
-/// are.
-fn differing_bits(left: &[u8], right: &[u8]) -> u8
-    requires { length left.now ≡ length right.now }
-    ensures { (result ≡ 0) ↔ (left.now ≡ right.now) }
-{
-    let mut bits = 0;
-    for i in 0..left.len() {
-        bits |= left[i] ^ right[i];
-    }
-    bits
-}
-
-/// Whether a text is the update token of the invocation under the secret. A text of a token's
-/// length takes the same time, wherever it differs from the token.
-pub fn token_is(secret: &[u8], id: &InvocationId, text: &[u8]) -> bool
-    ensures { IsTrue result ↔ (text.now ≡ token_text secret.now id.now) }
-{
-    let token = update_token(secret, id);
-    text.len() == 64 && differing_bits(text, token.as_slice()) == 0
+    Pads::of(key).code(message, &[])
 }

@@ -2,5 +2,7 @@
 #![tactic(auto)]
 
 mod hash;
+mod secret;
 
-pub use hash::{hmac_sha256, token_is, update_token};
+pub use hash::hmac_sha256;
+pub use secret::{Secret, token_is, update_token};

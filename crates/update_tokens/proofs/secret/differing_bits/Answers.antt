@@ -1,7 +1,7 @@
 use Rattle.std.proofs.Common.{get_or, below_more, ap, arith}
 use Rattle.std.proofs.lemmas.Grind.{same_number_lists}
 use Rattle.update_tokens.proofs.BitLemmas.{or_zero, xor_zero, no_bits}
-use Rattle.update_tokens.proofs.hash.differing_bits.Goals as goal
+use Rattle.update_tokens.proofs.secret.differing_bits.Goals as goal
 
 pub loop-i-preserved : goal.loop-i-preserved
 loop-i-preserved c = record {

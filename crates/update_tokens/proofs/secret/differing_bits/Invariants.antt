@@ -1,5 +1,5 @@
 use Rattle.std.proofs.Common.{◌≡◌, ℕ, ◌<◌, get_or}
-use Rattle.update_tokens.proofs.hash.differing_bits.Given as goal
+use Rattle.update_tokens.proofs.secret.differing_bits.Given as goal
 
 -- no bit so far: the bytes so far are the same; and texts that are the same leave no bit
 abbrev pub invariant-loop-i : goal.invariant-loop-i
