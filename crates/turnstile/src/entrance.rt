@@ -11,35 +11,76 @@ const LOOKS: u32 = 1000;
 /// from whoever leaves.
 const PAUSES: u32 = 8;
 
-/// The way to the tickets: a room for one caller, and a line before it, whose first caller looks
-/// on while the others sleep. To be woken takes longer than most turns, so that the next one is
-/// woken while the turn before its own goes on.
+/// The way to the tickets: a room for one caller, and two lines before it, of which the callers
+/// behind the first sleep.
+///
+/// Who came by a line stands in it until it has left the room. So while one is inside, the first of
+/// the other line looks on, and goes in at once when the room is free; and who is to look on next
+/// is woken by one whose turn is over, while the next turn goes on. To be woken, and to wake, takes
+/// a part of a turn.
 ///
 /// No clause rests on it.
 #[derive(Drop)]
 pub(crate) struct Entrance {
-    line: Mutex<()>,
+    even: Mutex<()>,
+    odd: Mutex<()>,
     room: Mutex<()>,
+}
+
+/// Who has the room to itself, and the first place of the line by which it came, if it did.
+#[derive(Drop)]
+pub(crate) struct Inside<'e> {
+    room: MutexGuard<'e, ()>,
+    line: Option<MutexGuard<'e, ()>>,
+}
+
+impl Inside<'_> {
+    /// Leaves the room, and then the line.
+    pub(crate) fn leave(self) {
+        let Inside { room, line } = self;
+        drop(room);
+        drop(line);
+    }
 }
 
 impl Entrance {
     pub(crate) fn new() -> Entrance {
         Entrance {
-            line: Mutex::new(()),
+            even: Mutex::new(()),
+            odd: Mutex::new(()),
             room: Mutex::new(()),
         }
     }
 
-    /// Waits until the caller has the room to itself, which it has as long as it keeps the guard.
-    pub(crate) fn enter<R: Wait>(&self, rt: &R) -> MutexGuard<'_, ()> {
+    /// Waits until the caller of this number has the room to itself.
+    pub(crate) fn enter<R: Wait>(&self, rt: &R, number: u64) -> Inside<'_> {
         // Whoever finds the room free goes in, also before those in line, who may not be awake yet.
-        if let Some(inside) = self.room.try_lock() {
-            return inside;
+        if let Some(room) = self.room.try_lock() {
+            return Inside { room, line: None };
         }
-        let first = self.line.lock(rt);
-        let inside = self.look_on(rt);
-        drop(first);
-        inside
+        let line = self.first_in_line(rt, number);
+        let room = self.look_on(rt);
+        Inside {
+            room,
+            line: Some(line),
+        }
+    }
+
+    /// Waits until the caller is the first of a line: of either one where nobody stands in it, and
+    /// else of the one that is its number's.
+    fn first_in_line<R: Wait>(&self, rt: &R, number: u64) -> MutexGuard<'_, ()> {
+        let (own, other) = if number % 2 == 0 {
+            (&self.even, &self.odd)
+        } else {
+            (&self.odd, &self.even)
+        };
+        if let Some(first) = own.try_lock() {
+            return first;
+        }
+        if let Some(first) = other.try_lock() {
+            return first;
+        }
+        own.lock(rt)
     }
 
     /// Looks for a while whether the room is free, and then sleeps until it is.

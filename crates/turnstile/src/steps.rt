@@ -130,7 +130,8 @@ pub(crate) fn join<T: Held>(board: &Board<T>, place: &mut Place<T>, other: Place
     requires idle { place.old.me ≡ (idle (own_of place.old.me.0), []) }
     requires other { other.me ≡ (idle (own_of other.me.0), []) }
     ensures table { place.new.table_id ≡ place.old.table_id }
-    ensures joined { place.new.me ≡ (idle (joined (own_of place.old.me.0) (own_of other.me.0)), []) }
+    ensures joined { place.new.me
+        ≡ (idle (joined (own_of place.old.me.0) (own_of other.me.0)), []) }
     ensures agrees { Agrees T.by (own_of place.old.me.0) (own_of other.me.0) }
 {
     board.shared.join_seat::<Joins>(place, other);

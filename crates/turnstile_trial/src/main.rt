@@ -1,7 +1,8 @@
 //! A program whose threads take turns with one number: to try a turnstile, and to measure it.
 //!
-//! `THREADS TURNS MILLIS`: so many callers take so many turns each, and each turn adds one. The first caller stays so
-//! long in its first turn, and the others come meanwhile. Prints the number in the end.
+//! `THREADS TURNS MILLIS`: so many callers take so many turns each, and each turn adds one. The
+//! first caller stays so long in its first turn, and the others come meanwhile. Prints the number
+//! in the end.
 #![tactic(auto)]
 
 mod callers;
