@@ -9,13 +9,14 @@ use crate::Failed;
 
 /// Two parts of bytes, of which a crash keeps what was synced.
 ///
-/// Between two syncs of a part each range whose write was begun, and everything past the old end, may hold any bytes
-/// after a crash, and the part may have any length that lies between its least and its greatest one. All other bytes
-/// stay. A write or a cut that failed counts as begun, or did nothing. After a sync a crash leaves what a read gives.
+/// Between two syncs of a part each range whose write was begun, and everything past the old end,
+/// may hold any bytes after a crash, and the part may have any length that lies between its least
+/// and its greatest one. All other bytes stay. A write or a cut that failed counts as begun, or did
+/// nothing. After a sync a crash leaves what a read gives.
 ///
-/// `faults` counts the calls that failed. `told` is how the parts stand and how they stood at each moment before, from
-/// which follow what a read gives, what a crash now may leave, and what a crash since some moment may have left; or it
-/// is `None`, as over a real file.
+/// `faults` counts the calls that failed. `told` is how the parts stand and how they stood at each
+/// moment before, from which follow what a read gives, what a crash now may leave, and what a crash
+/// since some moment may have left; or it is `None`, as over a real file.
 pub trait Disk {
     ghost faults: { Self → ℕ };
 
@@ -25,7 +26,8 @@ pub trait Disk {
     fn len(&mut self, part: u8) -> Result<u64, Failed>
         requires { part ≤ 1 }
         ensures cause { HasCause (faults self.old) (faults self.new) result }
-        ensures length { WhereTold (told self.old) part (λ p. IfOk result (λ len. len ≡ length p.bytes)) }
+        ensures length { WhereTold (told self.old) part
+            (λ p. IfOk result (λ len. len ≡ length p.bytes)) }
         ensures told { told self.new ≡ told self.old };
 
     /// Puts bytes of a part from `at` on at the front of `room`, and answers how many they are.
@@ -35,7 +37,8 @@ pub trait Disk {
         requires { part ≤ 1 }
         ensures bound { ReadsAtMost result room.new }
         ensures cause { HasCause (faults self.old) (faults self.new) result }
-        ensures gives { WhereTold (told self.old) part (λ p. IfOk result (Gives p.bytes at room.new)) }
+        ensures gives { WhereTold (told self.old) part
+            (λ p. IfOk result (Gives p.bytes at room.new)) }
         ensures told { told self.new ≡ told self.old };
 
     /// Writes over what is there from `at` on, and past the end.

@@ -120,17 +120,20 @@ impl<F: Holdable> PartFile<F> {
         }
     }
 
-    /// Brings the file to the device; and at the first sync the folder's entry for it, too, since
-    /// the process that made the file may have died before it did so.
+    /// Brings the file's bytes and its length to the device. The first sync brings all that is kept
+    /// of the file, and the folder's entry for it, since the process that made the file may have
+    /// died before it did so. Later ones leave out its times: where a byte is written over, that
+    /// saves a write.
     fn sync<R: Files<File = F>>(&mut self, rt: &R) -> io::Result<()> {
-        match self.held() {
-            Some(file) => file.sync_all()?,
-            None => return Ok(()),
+        let Some(file) = self.held() else {
+            return Ok(());
+        };
+        if self.is_folder_synced {
+            return file.sync_data();
         }
-        if !self.is_folder_synced {
-            sync_folder(rt, self.path.as_str())?;
-            self.is_folder_synced = true;
-        }
+        file.sync_all()?;
+        sync_folder(rt, self.path.as_str())?;
+        self.is_folder_synced = true;
         Ok(())
     }
 }

@@ -32,6 +32,7 @@ use serve_runs::service_core::Core;
 use serve_runs::service_machine::ServiceMachine;
 use sink_runs::{send_report, tell};
 use std::alloc::Global;
+use std::mem::forget;
 use std::sync::Wait;
 use std::thread::Threads;
 use whole_reads::{ReadEnd, read_front};
@@ -103,14 +104,13 @@ pub(crate) fn open_journal<D: Disk>(
     }
 }
 
-/// The disk of a book.
+/// The disk of a book. The run is over, and what the machine holds goes back with the process: to
+/// free it row by row would cost a long run a part of its time.
 fn close<D: Disk>(book: Book<ServiceMachine, D>) -> D
     ensures { result ≡ disk_of book.journal }
 {
-    let Book {
-        machine: _,
-        journal,
-    } = book;
+    let Book { machine, journal } = book;
+    forget(machine);
     journal.close()
 }
 
