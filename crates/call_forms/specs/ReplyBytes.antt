@@ -1,4 +1,5 @@
--- The bytes of a reply on the wire (RFC 9112): a status line, header fields, an empty line, the body.
+-- The bytes of a reply on the wire (RFC 9112): a status line, header fields, an empty line, the
+-- body.
 use Rattle.std.specs.Prelude.{ℕ, ◌==◌, Bool, true, false, if◌then◌else◌, List, [], ◌∷◌, ◌++◌, length, codes, decimal, Option, Some, None, unwrap_or}
 use Rattle.http.specs.StatusCode.{reason_phrase}
 use Rattle.call_forms.specs.declared.forms.Answer.{Answer}

@@ -1,7 +1,8 @@
 //! What a caller asks.
 use lists::Bytes;
 
-/// A request as it comes from the wire: two header values, the pRPC service and method, and the body.
+/// A request as it comes from the wire: two header values, the pRPC service and method, and the
+/// body.
 #[derive(Drop)]
 pub struct Asked {
     pub bearer: Option<Bytes>,

@@ -4,7 +4,8 @@ ghost use Rattle.call_forms.specs.ReplyBytes.{standin_bytes};
 
 use lists::Bytes;
 
-/// A reply before it is framed: HTTP status, gRPC code, the update token that goes into a header, and the body.
+/// A reply before it is framed: HTTP status, gRPC code, the update token that goes into a header,
+/// and the body.
 #[derive(Drop)]
 pub struct Answer {
     pub status: u16,

@@ -1,4 +1,5 @@
-//! What passes between the wire and the service: what a caller asks, what it is told, and the bytes of what it is told.
+//! What passes between the wire and the service: what a caller asks, what it is told, and the bytes
+//! of what it is told.
 #![tactic(auto)]
 
 mod asked;

@@ -27,10 +27,12 @@ WorksNow calls stop = (outcome_of (times_listed calls) ≡ Works) × (stop ≢ S
 image_of : (p : PartState) → IsPartImage (state p) (state p).bytes
 image_of p = p.image
 
-told_at : (now : Moment) (past : List Moment) (t : Told) → Some (told_by now past) ≡ Some t → told_by now past ≡ t
+told_at : (now : Moment) (past : List Moment) (t : Told) → Some (told_by now past) ≡ Some t
+    → told_by now past ≡ t
 told_at now past t same = ap (λ (o : Option Told). unwrap_or o t) same
 
-pub memory_reads_as_image : (now : Moment) (past : List Moment) → ReadsAsImage (Some (told_by now past))
+pub memory_reads_as_image : (now : Moment) (past : List Moment)
+    → ReadsAsImage (Some (told_by now past))
 memory_reads_as_image now past t is =
     subst (λ (u : Told). MayLeave u.now (as_read u.now)) (told_at now past t is)
     (record { first = image_of now.first; second = image_of now.second })

@@ -1,4 +1,5 @@
--- The moments of a disk, one before and one after each of its calls that changed it, and what crashes may have left.
+-- The moments of a disk, one before and one after each of its calls that changed it, and what
+-- crashes may have left.
 use Rattle.std.specs.Prelude.{◌≡◌, ◌⊎◌, ℕ, ◌≤◌, List, [], ◌∷◌, ◌++◌, length, Option, None, Some}
 use Rattle.disks.specs.Parts.{Part, Parts, Image, MayLeave, with_part}
 
@@ -35,7 +36,8 @@ pub record GoesOn (old new : Told) : Type 0 where
   pub later : List Parts
   pub all : states new ≡ later ++ states old
 
--- At each moment from the old one to the new, each image has P. A disk that tells nothing goes on telling nothing.
+-- At each moment from the old one to the new, each image has P. A disk that tells nothing goes on
+-- telling nothing.
 abbrev pub AtEachMoment : Option Told → Option Told → (Image → Type 0) → Type 0
 AtEachMoment None new P = new ≡ None
 AtEachMoment (Some old) None P = ⊥

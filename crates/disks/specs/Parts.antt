@@ -3,8 +3,8 @@ use Rattle.std.specs.Prelude.{◌≡◌, ℕ, zero, suc, ◌+◌, ◌<◌, ◌�
 use Rattle.std.specs.List.{list_any}
 use Rattle.disks.specs.declared.range.Range.{Range}
 
--- A part: what a read gives, its bytes after its last sync, the least and the greatest length since then, and the
--- ranges whose write was begun since then.
+-- A part: what a read gives, its bytes after its last sync, the least and the greatest length since
+-- then, and the ranges whose write was begun since then.
 pub record Part : Type 0 where
   pub bytes : List ℕ
   pub synced : List ℕ
@@ -25,8 +25,8 @@ pub record Image : Type 0 where
 abbrev pub is_among : List Range → ℕ → Bool
 is_among ranges k = list_any (λ r. nat_le r.at k && nat_lt k (r.at + r.count)) ranges
 
--- A crash may leave these bytes of a part: their number lies between the least and the greatest length, and each place
--- below the least length that no write was begun at holds what was synced.
+-- A crash may leave these bytes of a part: their number lies between the least and the greatest
+-- length, and each place below the least length that no write was begun at holds what was synced.
 pub record IsPartImage (part : Part) (image : List ℕ) : Type 0 where
   pub no_shorter : part.least ≤ length image
   pub no_longer : length image ≤ part.greatest

@@ -16,13 +16,16 @@ const NEVER_WRITTEN: u8 = 0xA5;
 impl MemoryDisk {
     /// A disk with one of the images that a crash now may leave, on which no call is to fail.
     ///
-    /// The first eight choices are: all kept; all lost; the newest write half kept at its front, and at its back; every
-    /// cut undone; bytes never written; as short as may be; kept and lost bytes mixed. A choice and one that is greater
-    /// by eight mix and cut otherwise.
+    /// The first eight choices are: all kept; all lost; the newest write half kept at its front,
+    /// and at its back; every cut undone; bytes never written; as short as may be; kept and lost
+    /// bytes mixed. A choice and one that is greater by eight mix and cut otherwise.
     pub fn image(&self, alloc: Global, choice: u64) -> Result<MemoryDisk, AllocError>
-        ensures image { IfOk result (λ d. MayLeave (parts_by self.now.current) (as_read (parts_by d.current))) }
-        ensures first { IfOk result (λ d. (parts_by d.current).first ≡ all_synced (parts_by d.current).first.bytes) }
-        ensures second { IfOk result (λ d. (parts_by d.current).second ≡ all_synced (parts_by d.current).second.bytes) }
+        ensures image { IfOk result (λ d. MayLeave (parts_by self.now.current)
+            (as_read (parts_by d.current))) }
+        ensures first { IfOk result (λ d. (parts_by d.current).first
+            ≡ all_synced (parts_by d.current).first.bytes) }
+        ensures second { IfOk result (λ d. (parts_by d.current).second
+            ≡ all_synced (parts_by d.current).second.bytes) }
         ensures past { IfOk result (λ d. d.past.items ≡ []) }
         ensures calls { IfOk result (λ d. d.schedule ≡ no_call_yet []) }
     {

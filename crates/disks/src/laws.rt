@@ -24,7 +24,8 @@ pub fn moments_add_up()
         LeftSince t (after told number part) image →
         MayLeave (with_part told.now number part) image ⊎ LeftSince t told image }
 
-    // What may have been left since the first of two calls began was left in the first or in the second,
+    // What may have been left since the first of two calls began was left in the first or in the
+    // second,
     ensures in_one { (old mid new : Told) → GoesOn old mid → GoesOn mid new → (image : Image) →
         LeftSince (moment old) new image →
         LeftSince (moment old) mid image ⊎ LeftSince (moment mid) new image }

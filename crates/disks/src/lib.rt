@@ -1,4 +1,5 @@
-//! Disks that keep only what was synced: what a read gives, and what a crash at any moment may leave.
+//! Disks that keep only what was synced: what a read gives, and what a crash at any moment may
+//! leave.
 #![tactic(auto)]
 
 mod ahead;

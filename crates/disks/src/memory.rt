@@ -36,9 +36,9 @@ pub struct MemoryDisk {
 impl MemoryDisk {
     /// A disk with these two parts, both synced.
     ///
-    /// The calls whose numbers, counted from 1, stand in `fails` fail. After `stop` writes every call
-    /// fails. A write or a cut that is to fail counts as begun, unless the disk has stopped, or memory
-    /// for it was wanting.
+    /// The calls whose numbers, counted from 1, stand in `fails` fail. After `stop` writes every
+    /// call fails. A write or a cut that is to fail counts as begun, unless the disk has stopped,
+    /// or memory for it was wanting.
     pub fn new(
         alloc: Global,
         first: Vec<u8>,
@@ -100,7 +100,8 @@ impl MemoryDisk {
         ensures ok { OnOk result (told_by self.new.current self.new.past.items
             ≡ advanced self.old.current self.old.past.items part
             (write_begun (part_of (parts_by self.old.current) part) at (length piece.now)
-            (if works then written_over (part_of (parts_by self.old.current) part).bytes at piece.now
+            (if works
+            then written_over (part_of (parts_by self.old.current) part).bytes at piece.now
             else (part_of (parts_by self.old.current) part).bytes))) }
         ensures err { OnErr result (told_by self.new.current self.new.past.items
             ≡ told_by self.old.current self.old.past.items) }

@@ -14,7 +14,8 @@ pub struct PartState {
     pub least: u64,
     pub greatest: u64,
     pub begun: Vec<Range>,
-    ghost image: { IsPartImage (part_with bytes.items synced.items least greatest begun.items) bytes.items },
+    ghost image: { IsPartImage
+        (part_with bytes.items synced.items least greatest begun.items) bytes.items },
 }
 
 impl PartState {
@@ -58,7 +59,8 @@ impl PartState {
         bytes: Vec<u8>,
     ) -> Result<PartState, AllocError>
         requires fits { at + count < 2 ^ 64 }
-        requires image { IsPartImage (write_begun (state self.now) at count bytes.items) bytes.items }
+        requires image { IsPartImage (write_begun (state self.now) at count bytes.items)
+            bytes.items }
         ensures { IfOk result (λ p. state p ≡ write_begun (state self.now) at count bytes.items) }
     {
         let mut begun = self.begun.to_vec(alloc)?;
@@ -99,7 +101,8 @@ impl PartState {
     /// The part after a write that failed.
     pub fn not_written(&self, alloc: Global, at: u64, count: u64) -> Result<PartState, AllocError>
         requires { at + count < 2 ^ 64 }
-        ensures { IfOk result (λ p. state p ≡ write_begun (state self.now) at count (state self.now).bytes) }
+        ensures { IfOk result (λ p. state p
+            ≡ write_begun (state self.now) at count (state self.now).bytes) }
     {
         let bytes = self.bytes.to_vec(alloc)?;
         self.with_write(alloc, at, count, bytes)
@@ -108,7 +111,8 @@ impl PartState {
     /// The part after a cut.
     pub fn cut(&self, alloc: Global, end: u64) -> Result<PartState, AllocError>
         requires { end ≤ length (state self.now).bytes }
-        ensures { IfOk result (λ p. state p ≡ cut_begun (state self.now) end (take end (state self.now).bytes)) }
+        ensures { IfOk result (λ p. state p
+            ≡ cut_begun (state self.now) end (take end (state self.now).bytes)) }
     {
         let bytes = self.bytes[..end as usize].to_vec(alloc)?;
         self.with_cut(alloc, end, bytes)
@@ -117,7 +121,8 @@ impl PartState {
     /// The part after a cut that failed.
     pub fn not_cut(&self, alloc: Global, end: u64) -> Result<PartState, AllocError>
         requires { end ≤ length (state self.now).bytes }
-        ensures { IfOk result (λ p. state p ≡ cut_begun (state self.now) end (state self.now).bytes) }
+        ensures { IfOk result (λ p. state p
+            ≡ cut_begun (state self.now) end (state self.now).bytes) }
     {
         let bytes = self.bytes.to_vec(alloc)?;
         self.with_cut(alloc, end, bytes)

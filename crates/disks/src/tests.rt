@@ -146,6 +146,7 @@ struct Script<'a> {
     bytes: Cell<[u8; 8]>,
     syncs: Cell<u64>,
     folder_syncs: Cell<u64>,
+    data_syncs: Cell<u64>,
 }
 
 impl<'a> Script<'a> {
@@ -156,6 +157,7 @@ impl<'a> Script<'a> {
             bytes: Cell::new([0; 8]),
             syncs: Cell::new(0),
             folder_syncs: Cell::new(0),
+            data_syncs: Cell::new(0),
         }
     }
 
@@ -235,7 +237,10 @@ impl<'a> OpenFile for ScriptedFile<'a> {
     }
 
     fn sync_data(&self) -> io::Result<()> {
-        unsupported()
+        self.script.most()?;
+        let count = &self.script.data_syncs;
+        count.set(count.get().saturating_add(1));
+        Ok(())
     }
 }
 
@@ -317,24 +322,29 @@ impl<'a> Files for ScriptedFiles<'a> {
     }
 }
 
-/// A script; which of a write, a sync and another sync work by it; how often the file was synced,
-/// and its folder.
-type Row = (&'static [Act], [bool; 3], [u64; 2]);
+/// A script; which of a write, a sync and another sync work by it; how often all that is kept of
+/// the file was synced, its folder, and the file's bytes alone.
+type Row = (&'static [Act], [bool; 3], [u64; 3]);
 
-const ROWS: [Row; 6] = [
-    (&[], [true, true, true], [2, 1]),
+const ROWS: [Row; 7] = [
+    (&[], [true, true, true], [1, 1, 1]),
     (
         &[Act::Short(2), Act::Interrupted, Act::Short(1)],
         [true, true, true],
-        [2, 1],
+        [1, 1, 1],
     ),
-    (&[Act::Short(2), Act::Fails], [false, true, true], [2, 1]),
-    (&[Act::Short(0)], [false, true, true], [2, 1]),
-    (&[Act::Short(6), Act::Fails], [true, false, true], [1, 1]),
+    (&[Act::Short(2), Act::Fails], [false, true, true], [1, 1, 1]),
+    (&[Act::Short(0)], [false, true, true], [1, 1, 1]),
+    (&[Act::Short(6), Act::Fails], [true, false, true], [1, 1, 0]),
     (
         &[Act::Short(6), Act::Short(0), Act::Fails],
         [true, false, true],
-        [2, 1],
+        [2, 1, 0],
+    ),
+    (
+        &[Act::Short(6), Act::Short(0), Act::Short(0), Act::Fails],
+        [true, true, false],
+        [1, 1, 0],
     ),
 ];
 
@@ -351,7 +361,12 @@ fn files_are_written_whole_and_synced(rt: HostRuntime) -> Result<(), Fail> {
         let answers = [written, disk.sync(0).is_ok(), disk.sync(0).is_ok()];
         assert_eq!(rt; answers, works);
         assert!(rt; !written || script.bytes.get() == *b"abcdef\0\0");
-        assert_eq!(rt; [script.syncs.get(), script.folder_syncs.get()], syncs);
+        let counts = [
+            script.syncs.get(),
+            script.folder_syncs.get(),
+            script.data_syncs.get(),
+        ];
+        assert_eq!(rt; counts, syncs);
         assert_eq!(rt; disk.faults() == 0, works == [true, true, true]);
     }
     Ok(())

@@ -20,7 +20,8 @@ one_call_more calls = record calls { made = counted calls.made }
 abbrev pub times_listed : Calls → ℕ
 times_listed calls = count_by (λ n. n == counted calls.made) calls.fails
 
--- A number that is listed once is that of a call that fails. Listed more often it is that of a write that takes nothing.
+-- A number that is listed once is that of a call that fails. Listed more often it is that of a
+-- write that takes nothing.
 abbrev pub outcome_of : ℕ → Outcome
 outcome_of zero = Works
 outcome_of (suc zero) = Fails

@@ -15,7 +15,8 @@ pub record HasCause {T E : Type 0} (before now : ℕ) (result : Result T E) : Ty
   pub kept : OnOk result (now ≡ before)
   pub failed : OnErr result (Rose before now)
 
--- A write that took nothing of a piece that isn't empty raises the count, and no other call changes it.
+-- A write that took nothing of a piece that isn't empty raises the count, and no other call changes
+-- it.
 abbrev pub CountsStall : {E : Type 0} → ℕ → List ℕ → Result ℕ E → ℕ → Type 0
 CountsStall before piece (Err e) now = now ≡ before
 CountsStall before [] (Ok count) now = now ≡ before

@@ -50,8 +50,8 @@ impl Count {
     }
 }
 
-/// The law by which a caller adds up calls: a count that rose in one of them has risen over all of them, since no call
-/// lowers it. It does nothing.
+/// The law by which a caller adds up calls: a count that rose in one of them has risen over all of
+/// them, since no call lowers it. It does nothing.
 pub fn counts_add_up()
     ensures then_more { (before between now : ℕ) → Rose before between → between ≤ now
         → Rose before now }

@@ -10,14 +10,16 @@ use Rattle.finaliser.specs.declared.watches.Watch.{Watch}
 use Rattle.finaliser.specs.Settling.{IsIn}
 
 -- so many of the first targets of the node are final, and it reaches the other one
-pub record IsWatch (edges : List Edge) (states : List State) (node : ℕ) (watch : Watch) : Type 0 where
+pub record IsWatch (edges : List Edge) (states : List State)
+    (node : ℕ) (watch : Watch) : Type 0 where
   pub few : watch.passed ≤ length (targets_of edges node)
   pub passed : All (IsIn Finalized states) (take watch.passed (targets_of edges node))
   pub there : watch.aim < length states
   pub reaches : Reaches edges node watch.aim
 
 -- there is a watch for each node
-pub record AreWatched (edges : List Edge) (states : List State) (watches : List Watch) : Type 0 where
+pub record AreWatched (edges : List Edge) (states : List State)
+    (watches : List Watch) : Type 0 where
   pub count : length watches ≡ length states
   pub each : (node : ℕ) (watch : Watch) → slice_get watches node ≡ Some watch
       → IsWatch edges states node watch

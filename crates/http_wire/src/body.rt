@@ -13,8 +13,8 @@ const PIECE: usize = 65_536;
 
 /// Takes the body of so many bytes from behind a head of so many.
 ///
-/// What the buffer has of it is copied, and the rest is read right into the body, and no byte behind
-/// it. Room is made as the body comes: a piece ahead of it, or as much again as is there.
+/// What the buffer has of it is copied, and the rest is read right into the body, and no byte
+/// behind it. Room is made as the body comes: a piece ahead of it, or as much again as is there.
 pub fn take_body<L: Link>(
     alloc: Global,
     buffer: &mut Buffer,
@@ -77,7 +77,8 @@ fn fill_body<L: Link>(
     Ok(())
 }
 
-/// Makes room behind the first `at` bytes where there is none: a piece, or as much again as there is.
+/// Makes room behind the first `at` bytes where there is none: a piece, or as much again as there
+/// is.
 fn make_room(body: &mut Vec<u8>, at: usize, len: usize) -> Result<(), AllocError>
     requires within { at ≤ vec_len body.old }
     requires lacks { at < len }

@@ -28,7 +28,8 @@ farewell_of faults.ReadFault = []
 farewell_of faults.Memory = []
 farewell_of fault = farewell_bytes fault
 
--- A cause's row: what is written behind the replies, and the end of the stream where it was reached.
+-- A cause's row: what is written behind the replies, and the end of the stream where it was
+-- reached.
 pub record Row : Type 0 where
   pub closing : List ℕ
   pub end : Option End
@@ -70,8 +71,8 @@ CountsReads causes.Memory before after = after ≡ before
 CountsReads (causes.Wire fault) before after = after ≡ before
 CountsReads causes.SinkTakesNothing before after = after ≡ before
 
--- The count of ends rose by one where the input's end was reached, behind a message or inside one, and
--- stays at every other cause.
+-- The count of ends rose by one where the input's end was reached, behind a message or inside one,
+-- and stays at every other cause.
 abbrev pub CountsEnds : Cause → ℕ → ℕ → Type 0
 CountsEnds causes.End before after = after ≡ counted before
 CountsEnds (causes.Wire (faults.CutShort have)) before after = after ≡ counted before

@@ -35,9 +35,9 @@ pub record IsLastReply (turns : List Turn) (earlier last : List ℕ) : Type 0 wh
 abbrev pub IsClosing : Cause → List Turn → List ℕ → List ℕ → Type 0
 IsClosing cause turns earlier last = (earlier ≡ replies turns) × (last ≡ (row_of cause).closing)
 
--- How a connection ends, by the cause: which of the messages closes it, and what was written last. None
--- closes it, and the closing bytes were written; or the last one does, and nothing was written behind
--- its reply; or its reply, which may close the connection, wasn't written whole.
+-- How a connection ends, by the cause: which of the messages closes it, and what was written last.
+-- None closes it, and the closing bytes were written; or the last one does, and nothing was written
+-- behind its reply; or its reply, which may close the connection, wasn't written whole.
 abbrev pub IsLast : Cause → List Turn → List ℕ → List ℕ → Type 0
 IsLast causes.End turns earlier last =
     StayOpen 0 (messages_of turns) × IsClosing causes.End turns earlier last
@@ -55,8 +55,8 @@ IsLast causes.SinkTakesNothing turns earlier last =
     (OthersStay (messages_of turns) × IsLastReply turns earlier last)
     ⊎ (StayOpen 0 (messages_of turns) × IsClosing causes.SinkTakesNothing turns earlier last)
 
--- A connection on which the teller was asked so many messages, and that ended by this cause. `asked`
--- says of exchanges that the teller was asked them, in order.
+-- A connection on which the teller was asked so many messages, and that ended by this cause.
+-- `asked` says of exchanges that the teller was asked them, in order.
 pub record Connection (asked : List Exchange → Type 0) (before : Ends) (calls : ℕ) (cause : Cause)
     (after : Ends) : Type 0 where
   pub turns : List Turn

@@ -79,8 +79,8 @@ fn close_after<L: Link>(link: &mut L, fault: WireFault) -> Cause
     }
 }
 
-/// Answers message after message by a wire that is new, until the input ends, something fails, or the
-/// reply that closes the connection went out.
+/// Answers message after message by a wire that is new, until the input ends, something fails, or
+/// the reply that closes the connection went out.
 fn serve_messages<T: Teller, L: Link>(
     alloc: Global,
     teller: &mut T,
@@ -127,11 +127,12 @@ fn ended(calls: usize, cause: Cause) -> Ended
     }
 }
 
-/// Serves one connection: answers message after message until the input ends, something fails, or the
-/// reply that closes the connection went out.
+/// Serves one connection: answers message after message until the input ends, something fails, or
+/// the reply that closes the connection went out.
 ///
-/// A fault of the stream gets a farewell, unless the stream ended inside a message. For want of memory
-/// a stand-in closes the connection; where there is none to begin with, nothing is read or written.
+/// A fault of the stream gets a farewell, unless the stream ended inside a message. For want of
+/// memory a stand-in closes the connection; where there is none to begin with, nothing is read or
+/// written.
 pub fn serve_connection<T: Teller, L: Link>(alloc: Global, teller: &mut T, link: &mut L) -> Ended
     requires { StandsForSome T.stands teller.old }
     ensures serves { ServesLink

@@ -1,4 +1,5 @@
-//! Connections that are served: messages come in, each is asked of a teller, and what it tells goes out.
+//! Connections that are served: messages come in, each is asked of a teller, and what it tells goes
+//! out.
 #![tactic(auto)]
 
 mod connection;

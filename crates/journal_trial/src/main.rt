@@ -1,8 +1,9 @@
-//! A program that appends numbered records to a journal over files, and reads them back: for the end-to-end checks of
-//! crashes, and for measuring.
+//! A program that appends numbered records to a journal over files, and reads them back: for the
+//! end-to-end checks of crashes, and for measuring.
 //!
-//! `append PATH COUNT SIZE` appends so many records of so many bytes, and prints the number of each once it is
-//! acknowledged. `read PATH` checks the numbers of all records, and prints how many there are.
+//! `append PATH COUNT SIZE` appends so many records of so many bytes, and prints the number of each
+//! once it is acknowledged. `read PATH` checks the numbers of all records, and prints how many
+//! there are.
 #![tactic(auto)]
 
 mod trial;

@@ -16,9 +16,11 @@ abbrev pub IsEnd : Option (List ℕ) → Type 0
 IsEnd None = Unit {0}
 IsEnd (Some left) = left ≡ []
 
--- What a read into room gave: nothing only at the end, or where there is no room. A read that failed gave nothing.
+-- What a read into room gave: nothing only at the end, or where there is no room. A read that
+-- failed gave nothing.
 abbrev pub Reads : {E : Type 0} → Option (List ℕ) → List ℕ → Result ℕ E → Option (List ℕ) → Type 0
-Reads before room (Ok count) now = Gave before (take count room) now × (count ≡ 0 → 0 < length room → IsEnd now)
+Reads before room (Ok count) now =
+    Gave before (take count room) now × (count ≡ 0 → 0 < length room → IsEnd now)
 Reads before room (Err e) now = Gave before [] now
 
 -- What a write of a piece took. A write that failed took nothing.

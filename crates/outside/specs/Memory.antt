@@ -10,7 +10,8 @@ use Rattle.fault_counts.specs.declared.Failed.{Failed}
 use Rattle.fault_counts.specs.declared.schedule.Outcome.{Outcome}
 use Rattle.fault_counts.specs.declared.schedule.Outcome.TheVariants.{Works, Fails, Stalls}
 
--- A source: its calls, the bytes that are left, how many reads failed, and how many reached the end.
+-- A source: its calls, the bytes that are left, how many reads failed, and how many reached the
+-- end.
 pub record SourceState : Type 0 where
   pub calls : Calls
   pub left : List ℕ
@@ -22,8 +23,8 @@ pub record SinkState : Type 0 where
   pub calls : Calls
   pub output : Output
 
--- A link: its calls, the pieces that are left, none of them empty, how many reads failed, how many reached the end, and
--- what it took.
+-- A link: its calls, the pieces that are left, none of them empty, how many reads failed, how many
+-- reached the end, and what it took.
 pub record LinkState : Type 0 where
   pub calls : Calls
   pub pieces : List (List ℕ)
@@ -40,11 +41,16 @@ sink_ends sink = output_ends sink.output
 
 abbrev pub link_ends : LinkState → Ends
 link_ends link = record {
-  incoming = record { left = Some (concat link.pieces); faults = link.read_faults; ends = link.ends };
+  incoming = record {
+    left = Some (concat link.pieces);
+    faults = link.read_faults;
+    ends = link.ends;
+  };
   outgoing = output_ends link.output;
 }
 
--- A read that works gives as many of the bytes at hand as fit into the room. Every other read fails.
+-- A read that works gives as many of the bytes at hand as fit into the room. Every other read
+-- fails.
 abbrev pub EndsRead : Outcome → List ℕ → List ℕ → Result ℕ Failed → Type 0
 EndsRead Works at_hand room result = result ≡ Ok (min (length at_hand) (length room))
 EndsRead Fails at_hand room result = IfOk result (λ count. ⊥)

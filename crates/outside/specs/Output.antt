@@ -14,7 +14,11 @@ pub record Output : Type 0 where
 
 -- What it tells.
 abbrev pub output_ends : Output → Outgoing
-output_ends output = record { written = Some output.written; faults = output.faults; stalls = output.stalls }
+output_ends output = record {
+  written = Some output.written;
+  faults = output.faults;
+  stalls = output.stalls;
+}
 
 abbrev pub nothing_written : Output
 nothing_written = record { written = []; faults = 0; stalls = 0 }
@@ -24,7 +28,8 @@ abbrev pub output_after : Output → List ℕ → Result ℕ Failed → Output
 output_after output piece (Err e) = record output { faults = counted output.faults }
 output_after output [] (Ok zero) = output
 output_after output (b ∷ bs) (Ok zero) = record output { stalls = counted output.stalls }
-output_after output piece (Ok (suc n)) = record output { written = output.written ++ take (suc n) piece }
+output_after output piece (Ok (suc n)) =
+    record output { written = output.written ++ take (suc n) piece }
 
 -- A write that works takes the whole piece, or there is no memory for it.
 abbrev pub EndsWrite : Outcome → List ℕ → Result ℕ Failed → Type 0

@@ -11,7 +11,8 @@ pub use wall::WallClock;
 
 /// A clock, in microseconds since 1970-01-01T00:00:00Z.
 ///
-/// `tells` says of a state and a list of numbers that the next answers from there begin with this list.
+/// `tells` says of a state and a list of numbers that the next answers from there begin with this
+/// list.
 pub trait Clock {
     type State;
 

@@ -17,7 +17,8 @@ impl<A: Source, B: Source> Source for Either<A, B> {
     }
 }
 
-/// One sink or another, as standard output or standard error. It tells what the one that is there tells.
+/// One sink or another, as standard output or standard error. It tells what the one that is there
+/// tells.
 impl<A: Sink, B: Sink> Sink for Either<A, B> {
     ghost use Rattle.either.specs.Either.{either};
 

@@ -9,8 +9,8 @@ use fault_counts::Count;
 use std::fs::OpenOptions;
 use std::rt::Files;
 
-/// A file as a source. It is opened at the first read, so that a missing file is a fault of that read. Its reads are those
-/// of its stream.
+/// A file as a source. It is opened at the first read, so that a missing file is a fault of that
+/// read. Its reads are those of its stream.
 #[derive(Drop)]
 pub struct FileSource<R: Files + Drop> {
     rt: R,
@@ -38,7 +38,8 @@ impl<R: Files + Drop> FileSource<R> {
         self.faults.value()
     }
 
-    /// Takes the file's stream, which is opened where it wasn't yet, or none where it can't be opened.
+    /// Takes the file's stream, which is opened where it wasn't yet, or none where it can't be
+    /// opened.
     fn opened(&mut self) -> Option<StreamSource<R::File>>
         ensures opened { IsOpened self.old.stream result }
         ensures taken { self.new.stream ≡ None }

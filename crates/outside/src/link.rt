@@ -7,8 +7,8 @@ use crate::Failed;
 
 /// A connection: bytes come in and go out.
 ///
-/// `ends` is what a `Source` and a `Sink` tell. `holds` names the references that a link reads and writes through, and
-/// no call exchanges them.
+/// `ends` is what a `Source` and a `Sink` tell. `holds` names the references that a link reads and
+/// writes through, and no call exchanges them.
 pub trait Link {
     ghost ends: { Self → Ends };
 
@@ -22,7 +22,8 @@ pub trait Link {
         ensures only { OnlyReads (ends self.old) (ends self.new) }
         ensures holds { holds self.new ≡ holds self.old };
 
-    /// Takes a front of `piece`, and answers how many bytes it took. After `Failed` nothing was taken.
+    /// Takes a front of `piece`, and answers how many bytes it took. After `Failed` nothing was
+    /// taken.
     fn write(&mut self, piece: &[u8]) -> Result<usize, Failed>
         ensures write { WritesOnce (ends self.old).outgoing piece.now result
             (ends self.new).outgoing }

@@ -7,8 +7,8 @@ use fault_counts::Count;
 
 /// Bytes that come in, as from standard input.
 ///
-/// `ends` is what is still to come, or `None` where that isn't told, how many reads failed, and how many reached the
-/// end.
+/// `ends` is what is still to come, or `None` where that isn't told, how many reads failed, and how
+/// many reached the end.
 pub trait Source {
     ghost ends: { Self → Incoming };
 

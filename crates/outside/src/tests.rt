@@ -122,7 +122,8 @@ fn pair_reads_its_source_and_writes_its_sink(rt: HostRuntime) -> Result<(), Fail
     Ok(())
 }
 
-/// Whoever writes through a pair learns that the source stays as it was, and which count of the sink rose.
+/// Whoever writes through a pair learns that the source stays as it was, and which count of the
+/// sink rose.
 fn write_beside<I: Source, O: Sink>(
     source: &mut I,
     sink: &mut O,

@@ -28,7 +28,8 @@ impl From<Failed> for WriteEnd {
 
 /// Writes all of `bytes` to a link, and goes on after a short write.
 ///
-/// After `WriteFault` or `SinkTakesNothing` a front of `bytes` was taken. The link's other direction isn't touched.
+/// After `WriteFault` or `SinkTakesNothing` a front of `bytes` was taken. The link's other
+/// direction isn't touched.
 pub fn write_whole<L: Link>(link: &mut L, bytes: &[u8]) -> Result<(), WriteEnd>
     ensures written { WritesWhole (L.ends link.old).outgoing bytes.now result
         (L.ends link.new).outgoing }

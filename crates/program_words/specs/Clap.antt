@@ -1,4 +1,5 @@
--- The code's own words, which private contracts alone cite: what it asks of clap, and what it refuses before.
+-- The code's own words, which private contracts alone cite: what it asks of clap, and what it
+-- refuses before.
 use Rattle.std.specs.Prelude.{◌≡◌, ℕ, ◌==◌, ◌&&◌, Bool, true, false, not, List, [], ◌∷◌, Some, map}
 use Rattle.std.specs.List.{list_all}
 use Rattle.clap.specs.Lexer.{has_byte}
@@ -27,7 +28,10 @@ with_options app (o ∷ os) = with_options (with_rule app (made_rule o.name o.is
 -- a command with such options, and no help of clap's own
 abbrev pub made_app : List ℕ → List OptionRow → App
 made_app name options = record {
-  top = record (new_shape name) { rules = map (λ o. made_rule o.name o.is_required) options; disable_help_flag = true };
+  top = record (new_shape name) {
+    rules = map (λ o. made_rule o.name o.is_required) options;
+    disable_help_flag = true;
+  };
   subs = [];
 }
 

@@ -3,13 +3,15 @@ use Rattle.std.specs.Prelude.{◌≡◌, ℕ, ◌==◌, ◌&&◌, ◌||◌, Bool
 use Rattle.std.specs.List.{list_all, list_any}
 use Rattle.std.specs.Str.{bytes_eq}
 
--- An option of a command: its name behind `--`, the word that help shows for its value, and whether it has to be given.
+-- An option of a command: its name behind `--`, the word that help shows for its value, and whether
+-- it has to be given.
 pub record OptionRow : Type 0 where
   pub name : List ℕ
   pub shown : List ℕ
   pub is_required : Bool
 
--- An option that the words give, with its value: in one word, as `--name=value`, or in two, as `--name value`.
+-- An option that the words give, with its value: in one word, as `--name=value`, or in two, as
+-- `--name value`.
 pub record Given : Type 0 where
   pub name : List ℕ
   pub value : List ℕ
@@ -38,9 +40,10 @@ abbrev pub are_new : List Given → List Given → Bool
 are_new before [] = true
 are_new before (g ∷ gs) = not (is_given before g.name) && are_new (before ++ g ∷ []) gs
 
--- The words behind a command's are the spellings of these, one after another. Each is an option of the command, with a value,
--- none stands twice, and what is required is there.
-pub record AreOptions (options : List OptionRow) (givens : List Given) (words : List (List ℕ)) : Type 0 where
+-- The words behind a command's are the spellings of these, one after another. Each is an option of
+-- the command, with a value, none stands twice, and what is required is there.
+pub record AreOptions (options : List OptionRow) (givens : List Given)
+    (words : List (List ℕ)) : Type 0 where
   pub in_words : words ≡ flat_map spelled givens
   pub known : list_all (λ g. is_option options g.name) givens ≡ true
   pub values : list_all has_value givens ≡ true

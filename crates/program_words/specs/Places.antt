@@ -5,7 +5,14 @@ use Rattle.program_words.specs.declared.command.Command.TheVariants.{Answer, Che
 use Rattle.program_words.specs.declared.command.Places.{Places}
 
 abbrev pub no_places : Places
-no_places = record { config = []; journal = []; listen = []; server = []; workers = 0; connections = None }
+no_places = record {
+  config = [];
+  journal = [];
+  listen = [];
+  server = [];
+  workers = 0;
+  connections = None;
+}
 
 -- The values that the command's words have.
 abbrev pub places_of : Command → Places

@@ -143,7 +143,8 @@ fn is_named(rest: &[u8]) -> bool
     }
 }
 
-/// Whether a word begins with a dash and isn't an option: clap takes some of these words, and the grammar none.
+/// Whether a word begins with a dash and isn't an option: clap takes some of these words, and the
+/// grammar none.
 fn is_stray(word: &str) -> bool
     ensures { result ≡ is_stray word.now }
 {

@@ -36,7 +36,8 @@ abbrev pub AreBodies : List (List ℕ) → Type 0
 AreBodies [] = Unit {0}
 AreBodies (body ∷ bodies) = IsBody body × AreBodies bodies
 
--- The head, these records, and a closed gate, which is a byte other than 1. What follows it is without meaning.
+-- The head, these records, and a closed gate, which is a byte other than 1. What follows it is
+-- without meaning.
 pub record IsJournal (version : ℕ) (bytes : List ℕ) (bodies : List (List ℕ)) : Type 0 where
   pub gate : ℕ
   pub rest : List ℕ
@@ -52,8 +53,8 @@ pub record BeginsFramed (bytes : List ℕ) : Type 0 where
   pub is_body : IsBody body
   pub form : bytes ≡ framed body ++ gate ∷ rest
 
--- The head, these records, and an open gate behind which no framed body stands. The place is that of the byte behind
--- the gate, and the byte is what stands there, or 256 past the end.
+-- The head, these records, and an open gate behind which no framed body stands. The place is that
+-- of the byte behind the gate, and the byte is what stands there, or 256 past the end.
 pub record IsDamaged (version : ℕ) (bytes : List ℕ) (at byte : ℕ) : Type 0 where
   pub bodies : List (List ℕ)
   pub rest : List ℕ
@@ -88,7 +89,8 @@ pub data Reading : Type 0 where
   Newer : (found : ℕ) → Reading
   Broken : (at byte : ℕ) → Reading
 
--- At most nine bytes are no record, whatever they are: such a file is begun anew, unless it is an empty journal.
+-- At most nine bytes are no record, whatever they are: such a file is begun anew, unless it is an
+-- empty journal.
 abbrev pub LongReads : ℕ → List ℕ → Reading → Type 0
 LongReads version bytes (Bodies bodies) = IsJournal version bytes bodies
 LongReads version bytes (Foreign at) = IsForeign bytes at

@@ -45,8 +45,10 @@ pub record AtRest (part : Part) (commands : List (List ℕ)) (end : ℕ) : Type 
   pub place : end ≡ length (before_gate commands)
   pub stands : StandsBut part (end + 1) (before_gate commands ++ gate ∷ [])
 
--- The gate behind these records is open or closed, and one more record stands behind it, with a closed gate.
-pub record AtGate (part : Part) (commands : List (List ℕ)) (command : List ℕ) (end : ℕ) : Type 0 where
+-- The gate behind these records is open or closed, and one more record stands behind it, with a
+-- closed gate.
+pub record AtGate (part : Part) (commands : List (List ℕ))
+    (command : List ℕ) (end : ℕ) : Type 0 where
   pub are_bodies : AreBodies commands
   pub is_body : IsBody command
   pub place : end ≡ length (before_gate commands)
@@ -89,9 +91,10 @@ pub record IsPrepared {D : Type 0} (journal : Journal D) : Type 0 where
   pub form : journal.staged.items ≡ framed (prepared journal) ++ 0 ∷ []
   pub room : journal.end + 1 + length journal.staged.items ≤ 2 ^ 30
 
--- The journal stands for these commands, where its disk tells how it stands. One that isn't settled stands for the
--- commands before the one whose append failed, and that one's gate may be open.
-pub record StandsFor {D : Type 0} (told : D → Option Told) (journal : Journal D) (commands : List (List ℕ)) : Type 0 where
+-- The journal stands for these commands, where its disk tells how it stands. One that isn't settled
+-- stands for the commands before the one whose append failed, and that one's gate may be open.
+pub record StandsFor {D : Type 0} (told : D → Option Told) (journal : Journal D)
+    (commands : List (List ℕ)) : Type 0 where
   pub part : journal.part ≤ 1
   pub when_prepared : journal.is_prepared ≡ true → IsPrepared journal
   pub when_unsettled : is_settled journal ≡ false → journal.is_prepared ≡ true
@@ -110,4 +113,5 @@ pub record SameButDisk {D : Type 0} (old new : Journal D) : Type 0 where
 
 -- So many calls changed the disk, where it tells it.
 abbrev pub TakesMoments : ℕ → Option Told → Option Told → Type 0
-TakesMoments count old new = (t u : Told) → old ≡ Some t → new ≡ Some u → moment u ≡ moment t + count
+TakesMoments count old new =
+    (t u : Told) → old ≡ Some t → new ≡ Some u → moment u ≡ moment t + count

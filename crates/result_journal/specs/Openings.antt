@@ -23,8 +23,10 @@ pub record IsBehind (part : Part) (given : List (List ℕ)) (place size : ℕ) :
   pub after_records : place ≡ length (before_gate given)
   pub short : length part.bytes ≤ 9 → slice_index part.bytes 8 ≢ 1
 
--- The opening has given these bodies. Where it has answered that there is no other, the gate behind them is closed.
-pub record HasGiven {D : Type 0} (told : D → Option Told) (opening : Opening D) (given : List (List ℕ)) : Type 0 where
+-- The opening has given these bodies. Where it has answered that there is no other, the gate behind
+-- them is closed.
+pub record HasGiven {D : Type 0} (told : D → Option Told) (opening : Opening D)
+    (given : List (List ℕ)) : Type 0 where
   pub part : opening.part ≤ 1
   pub behind_head : 8 ≤ opening.place
   pub inside : opening.place < opening.size
@@ -111,7 +113,8 @@ pub record IsWholeAt (bytes : List ℕ) (place count : ℕ) : Type 0 where
   pub few : count ≤ 2 ^ 23
   pub inside : place + 5 + count < length bytes
 
--- What stands at a place: a closed gate, or an open one and the length of a record that lies whole within the bytes.
+-- What stands at a place: a closed gate, or an open one and the length of a record that lies whole
+-- within the bytes.
 abbrev pub FindsLength : List ℕ → ℕ → Option ℕ → Type 0
 FindsLength bytes place None = slice_index bytes place ≢ 1
 FindsLength bytes place (Some count) = IsWholeAt bytes place count

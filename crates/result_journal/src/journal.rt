@@ -101,7 +101,8 @@ impl<D: Disk> Journal<D> {
 
     /// Makes all room that `append` and `settle` need for this command.
     ///
-    /// `Full::Record` comes exactly where the record would end past 2^30. After each error the journal is as before.
+    /// `Full::Record` comes exactly where the record would end past 2^30. After each error the
+    /// journal is as before.
     pub fn prepare_record(&mut self, alloc: Global, command: &[u8]) -> Result<(), Full>
         requires settled { is_settled self.old ≡ true }
         requires some { 1 ≤ length command.now }
@@ -129,13 +130,16 @@ impl<D: Disk> Journal<D> {
         Ok(())
     }
 
-    /// Appends the prepared command: at `Ok` it is acknowledged, and each crash from then on leaves it.
+    /// Appends the prepared command: at `Ok` it is acknowledged, and each crash from then on leaves
+    /// it.
     ///
-    /// It writes the record behind the closed gate, syncs, opens the gate by a write of its own, and syncs. At each
-    /// moment inside the call a crash leaves the commands before it, or these and the new one.
+    /// It writes the record behind the closed gate, syncs, opens the gate by a write of its own,
+    /// and syncs. At each moment inside the call a crash leaves the commands before it, or these
+    /// and the new one.
     ///
-    /// Where the write behind the gate or its sync failed, the gate stands closed, and nothing is to
-    /// settle. Where a later call failed, the journal isn't settled until `settle` has succeeded.
+    /// Where the write behind the gate or its sync failed, the gate stands closed, and nothing is
+    /// to settle. Where a later call failed, the journal isn't settled until `settle` has
+    /// succeeded.
     pub fn append(&mut self) -> Result<(), DiskFailed>
         requires stands { StandsForSome D.told self.old }
         requires prepared { is_prepared self.old ≡ true }
@@ -237,9 +241,11 @@ impl<D: Disk> Journal<D> {
         Ok(())
     }
 
-    /// Closes the gate again behind which an `append` failed, and syncs. On a settled journal it does nothing.
+    /// Closes the gate again behind which an `append` failed, and syncs. On a settled journal it
+    /// does nothing.
     ///
-    /// At each moment inside the call a crash leaves the commands without or with the one whose append failed.
+    /// At each moment inside the call a crash leaves the commands without or with the one whose
+    /// append failed.
     pub fn settle(&mut self) -> Result<(), DiskFailed>
         requires { StandsForSome D.told self.old }
 

@@ -27,7 +27,8 @@ use std::alloc::{AllocError, Global};
 pub enum OpenFault {
     /// The first byte of the head that isn't one of a journal of any version.
     NotAJournal { at: u64 },
-    /// The place behind the open gate of a record that isn't whole, and the byte there, or 256 past the end.
+    /// The place behind the open gate of a record that isn't whole, and the byte there, or 256 past
+    /// the end.
     Damaged { at: u64, byte: u16 },
     /// A journal of a version above 1, by its digit.
     NewerVersion { found: u8 },
@@ -81,7 +82,8 @@ const GREATEST_BODY: u32 = 1 << 23;
 
 impl<D: Disk> Opening<D> {
     /// Syncs part 0, and reads its head. At most nine bytes that aren't an empty journal are begun
-    /// anew: the head and a closed gate are written, the part is cut to nine bytes, and it is synced.
+    /// anew: the head and a closed gate are written, the part is cut to nine bytes, and it is
+    /// synced.
     ///
     /// At each moment inside the call a crash leaves what one before it might have left, or what is
     /// read as the part was.
@@ -186,7 +188,8 @@ impl<D: Disk> Opening<D> {
         self.is_ended = false;
     }
 
-    /// Puts the next record's body into `into`, and answers the place of its first byte, or `None` at the closed gate.
+    /// Puts the next record's body into `into`, and answers the place of its first byte, or `None`
+    /// at the closed gate.
     ///
     /// `into` is left empty by `None` and by a fault.
     pub fn next(&mut self, alloc: Global, into: &mut Vec<u8>) -> Result<Option<u64>, OpenFault>
@@ -408,7 +411,8 @@ fn said_count(header: &[u8]) -> u32
     u32::from_le_bytes([header[1], header[2], header[3], header[4]])
 }
 
-// Whether a body of so many bytes, and the next gate, have room in so many bytes from its own gate on.
+// Whether a body of so many bytes, and the next gate, have room in so many bytes from its own gate
+// on.
 fn has_room(count: u32, left: u64) -> bool
     ensures { IsTrue result ↔ ((1 ≤ count) × (count ≤ 2 ^ 23) × (5 + count < left)) }
 {

@@ -64,8 +64,8 @@ fn read_back<D: Disk + Drop>(alloc: Global, disk: D) -> Result<Vec<u8>, Fail> {
     Ok(read)
 }
 
-/// Begins a journal and runs the script over it. The plain journal gets what is acknowledged. Answers the disk as it is
-/// then, and how many commands were begun.
+/// Begins a journal and runs the script over it. The plain journal gets what is acknowledged.
+/// Answers the disk as it is then, and how many commands were begun.
 fn run_script(
     alloc: Global,
     disk: MemoryDisk,

@@ -7,9 +7,9 @@ use call_forms::{Asked, Told};
 
 /// Something that tells an answer to each request that it is asked.
 ///
-/// `stands` says of a teller, of what it became and of a list whether just these requests were asked
-/// in between, and what was told to each. `holds` names the references that a teller works through,
-/// and no call exchanges them.
+/// `stands` says of a teller, of what it became and of a list whether just these requests were
+/// asked in between, and what was told to each. `holds` names the references that a teller works
+/// through, and no call exchanges them.
 pub trait Teller {
     ghost stands: { Self → Self → List Exchange → Type 0 };
 

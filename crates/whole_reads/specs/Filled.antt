@@ -14,7 +14,8 @@ given_at at (Ok count) room = take count (drop at room)
 given_at at (Err e) room = []
 
 -- one read into a room from a place on
-pub record ReadsAt (had : Incoming) (at : ℕ) (room : List ℕ) (result : Result ℕ Failed) (now : List ℕ) (left : Incoming) : Type 0 where
+pub record ReadsAt (had : Incoming) (at : ℕ) (room : List ℕ) (result : Result ℕ Failed)
+    (now : List ℕ) (left : Incoming) : Type 0 where
   pub bound : IfOk result (λ n. at + n ≤ length now)
   pub kept : take at now ≡ take at room
   pub gave : Gave had.left (given_at at result now) left.left
@@ -22,9 +23,12 @@ pub record ReadsAt (had : Incoming) (at : ℕ) (room : List ℕ) (result : Resul
   pub cause : HasCause had.faults left.faults result
   pub ends : CountsAtEnd had.ends (drop at now) result left.ends
 
--- the room up to the end is what it began with and what was read; short of its length the source ended
+-- the room up to the end is what it began with and what was read; short of its length the source
+-- ended
 abbrev pub IsFilled : List ℕ → ℕ → List ℕ → List ℕ → Option (List ℕ) → Result ℕ ReadEnd → Type 0
-IsFilled room from got now left (Ok end) = (end ≡ from + length got) × (take end now ≡ take from room ++ got) × (end < length now → IsEnd left)
+IsFilled room from got now left (Ok end) =
+    (end ≡ from + length got) × (take end now ≡ take from room ++ got)
+    × (end < length now → IsEnd left)
 IsFilled room from got now left (Err end.Failed) = from + length got < length now
 IsFilled room from got now left (Err end.Memory) = ⊥
 
@@ -35,7 +39,8 @@ EndsFill now before (Ok end) ends =
 EndsFill now before (Err e) ends = ends ≡ before
 
 -- reads into a room from a place on, until it is full or the source ends
-pub record Fills (room : List ℕ) (had : Incoming) (from : ℕ) (result : Result ℕ ReadEnd) (now : List ℕ) (left : Incoming) : Type 0 where
+pub record Fills (room : List ℕ) (had : Incoming) (from : ℕ) (result : Result ℕ ReadEnd)
+    (now : List ℕ) (left : Incoming) : Type 0 where
   pub got : List ℕ
   pub gave : Gave had.left got left.left
   pub bound : from + length got ≤ length now

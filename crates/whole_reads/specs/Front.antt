@@ -7,8 +7,8 @@ use Rattle.outside.specs.Ends.{Incoming}
 use Rattle.whole_reads.specs.declared.front.ReadEnd.{ReadEnd}
 use Rattle.whole_reads.specs.declared.front.ReadEnd.TheVariants.{Failed, Memory}
 
--- The answer to the bytes that the source gave, with what it has left. Fewer than the most come only where it ended. After an
--- error they are gone, and were fewer than the most.
+-- The answer to the bytes that the source gave, with what it has left. Fewer than the most come
+-- only where it ended. After an error they are gone, and were fewer than the most.
 abbrev pub IsFront : ℕ → List ℕ → Result (Vec ℕ) ReadEnd → Option (List ℕ) → Type 0
 IsFront most got (Ok bytes) left = (bytes.items ≡ got) × (IsEnd left ⊎ (length got ≡ most))
 IsFront most got (Err e) left = length got < most
@@ -19,16 +19,17 @@ CountsRead before (Ok done) now = now ≡ before
 CountsRead before (Err Failed) now = (before ≤ now) × Rose before now
 CountsRead before (Err Memory) now = now ≡ before
 
--- The end was reached by one read where fewer bytes came than the most, and by none where as many came, or at an error. So
--- behind the end nothing is read.
+-- The end was reached by one read where fewer bytes came than the most, and by none where as many
+-- came, or at an error. So behind the end nothing is read.
 abbrev pub CountsEnds : ℕ → List ℕ → ℕ → Result (Vec ℕ) ReadEnd → ℕ → Type 0
 CountsEnds most got before (Ok bytes) now =
     ((length got < most) × (now ≡ counted before)) ⊎ ((length got ≡ most) × (now ≡ before))
 CountsEnds most got before (Err e) now = now ≡ before
 
--- What reading up to so many bytes did: what the source gave, never more than the most, the answer to it, and the counts of
--- failed reads and of ends.
-pub record ReadsFront (before : Incoming) (most : ℕ) (result : Result (Vec ℕ) ReadEnd) (after : Incoming) : Type 0 where
+-- What reading up to so many bytes did: what the source gave, never more than the most, the answer
+-- to it, and the counts of failed reads and of ends.
+pub record ReadsFront (before : Incoming) (most : ℕ) (result : Result (Vec ℕ) ReadEnd)
+    (after : Incoming) : Type 0 where
   pub got : List ℕ
   pub gave : Gave before.left got after.left
   pub bounded : length got ≤ most

@@ -42,10 +42,11 @@ impl From<AllocError> for ReadEnd {
     }
 }
 
-/// Reads until the source ends or `most` bytes are there, whichever comes first, and never a byte more.
+/// Reads until the source ends or `most` bytes are there, whichever comes first, and never a byte
+/// more.
 ///
-/// `Failed` comes where a read failed, and `Memory` for want of memory; either way what was read is gone, and the
-/// source stands behind it.
+/// `Failed` comes where a read failed, and `Memory` for want of memory; either way what was read is
+/// gone, and the source stands behind it.
 pub fn read_front<S: Source>(alloc: Global, source: &mut S, most: usize) -> Result<Vec<u8>, ReadEnd>
     ensures { ReadsFront (S.ends source.old) most result (S.ends source.new) }
 {
@@ -78,7 +79,8 @@ fn extend(bytes: &mut Vec<u8>, most: usize) -> Result<(), AllocError>
     bytes.resize(end, 0)
 }
 
-/// Reads into the room from a place on until it is full or the source ends, and answers up to where it is filled.
+/// Reads into the room from a place on until it is full or the source ends, and answers up to where
+/// it is filled.
 fn fill<S: Source>(source: &mut S, room: &mut [u8], from: usize) -> Result<usize, ReadEnd>
     requires { from ≤ length room.old }
     ensures { Fills room.old (S.ends source.old) from result room.new (S.ends source.new) }

@@ -11,7 +11,7 @@ use call_forms::Asked;
 use message_forms::Request;
 use page_tokens::{Query, VerdictCursor};
 use std::alloc::{AllocError, Global};
-use update_tokens::update_token;
+use update_tokens::{Secret, update_token};
 use workload_draws::DrawnInvocation;
 use workload_draws::names_realms::lists::Bytes;
 
@@ -19,7 +19,7 @@ use workload_draws::names_realms::lists::Bytes;
 #[derive(Clone, Copy)]
 pub struct Asking<'s> {
     pub alloc: Global,
-    pub secret: &'s [u8],
+    pub secret: &'s Secret,
 }
 
 impl<'s> Asking<'s> {

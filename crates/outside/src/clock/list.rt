@@ -7,7 +7,8 @@ use std::alloc::{AllocError, Global};
 use std::collections::VecDeque;
 use std::marker::Model;
 
-/// The moments that a clock has still to answer: the present one, and the others in turn. The last one stays for ever.
+/// The moments that a clock has still to answer: the present one, and the others in turn. The last
+/// one stays for ever.
 #[derive(Drop)]
 pub struct Moments {
     present: i64,
@@ -59,7 +60,8 @@ impl Model for ListClock {
 }
 
 impl ListClock {
-    /// A clock over `moments`, in microseconds since 1970-01-01T00:00:00Z, of which there is one at least.
+    /// A clock over `moments`, in microseconds since 1970-01-01T00:00:00Z, of which there is one at
+    /// least.
     pub fn new(_alloc: Global, moments: Vec<i64>) -> Result<ListClock, AllocError>
         requires { 0 < length moments.items }
         ensures { IfOk result (λ c. c ≡ moments.items) }

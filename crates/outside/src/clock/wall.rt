@@ -23,7 +23,8 @@ impl<R: std::time::Clock> Clock for WallClock<R> {
 
     ghost tells = { λ _ _. ⊥ };
 
-    /// The microseconds since 1970, or 0 where the system's clock can't be read or stands before 1970.
+    /// The microseconds since 1970, or 0 where the system's clock can't be read or stands before
+    /// 1970.
     fn now(&mut self) -> i64
         ensures { pos 0 ≤ℤ result }
     {

@@ -41,8 +41,9 @@ impl Model for MemoryLink {
 impl MemoryLink {
     /// A link whose reads give the pieces as they are cut. Empty ones are passed over.
     ///
-    /// The calls whose numbers, counted from 1 over reads and writes, stand in `fails` fail. Where the number of a
-    /// write stands there twice, the write takes nothing instead, if its piece isn't empty.
+    /// The calls whose numbers, counted from 1 over reads and writes, stand in `fails` fail. Where
+    /// the number of a write stands there twice, the write takes nothing instead, if its piece
+    /// isn't empty.
     pub fn new(
         alloc: Global,
         pieces: Vec<Vec<u8>>,

@@ -21,7 +21,11 @@ impl Model for Output {
 
     ghost Value = { Output };
 
-    ghost view = { λ o. record { written = o.written.items; faults = o.faults; stalls = o.stalls } };
+    ghost view = { λ o. record {
+      written = o.written.items;
+      faults = o.faults;
+      stalls = o.stalls;
+    } };
 }
 
 impl Output {
@@ -53,7 +57,8 @@ impl Output {
         self.stalls.value()
     }
 
-    /// Takes the whole piece, or ends as `outcome` says. Where there is no memory for the piece, the write fails too.
+    /// Takes the whole piece, or ends as `outcome` says. Where there is no memory for the piece,
+    /// the write fails too.
     pub fn write(&mut self, outcome: Outcome, piece: &[u8]) -> Result<usize, Failed>
         ensures write { WritesOnce (output_ends self.old) piece.now result (output_ends self.new) }
         ensures ends { EndsWrite outcome piece.now result }

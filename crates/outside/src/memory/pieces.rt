@@ -76,8 +76,8 @@ impl Pieces {
         }
     }
 
-    /// Puts bytes of the first piece that isn't empty at the front of `room`, as many as fit, and answers how many
-    /// they are.
+    /// Puts bytes of the first piece that isn't empty at the front of `room`, as many as fit, and
+    /// answers how many they are.
     pub fn give(&mut self, room: &mut [u8]) -> usize
         ensures count { result ≡ min (length (first_piece self.old)) (length room.new) }
         ensures given { take result room.new ≡ take result (first_piece self.old) }

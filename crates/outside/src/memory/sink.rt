@@ -29,8 +29,8 @@ impl Model for MemorySink {
 impl MemorySink {
     /// A sink that took nothing yet.
     ///
-    /// The calls whose numbers, counted from 1, stand in `fails` fail. Where a number stands there twice, the write
-    /// takes nothing instead, if its piece isn't empty.
+    /// The calls whose numbers, counted from 1, stand in `fails` fail. Where a number stands there
+    /// twice, the write takes nothing instead, if its piece isn't empty.
     pub fn new(alloc: Global, fails: Vec<u64>) -> Result<MemorySink, AllocError>
         ensures calls { IfOk result (λ s. s.calls ≡ no_call_yet fails.items) }
         ensures output { IfOk result (λ s. s.output ≡ nothing_written) }
