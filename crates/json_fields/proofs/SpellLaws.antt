@@ -4,7 +4,7 @@ use Rattle.names_realms.specs.NameParts.Parts.{IsPart, part_fault}
 use Rattle.names_realms.specs.NameParts.declared.parts.PartForm.{PartForm}
 use Rattle.names_realms.proofs.NameParts.PartLemmas.{IsPart-part_fault}
 use Rattle.names_realms.specs.Realms.{IsRealm, realm_fault}
-use Rattle.names_realms.specs.Names.{IsInvocationId, IsTestId, IsResultId, IsArtifactId, invocation_id_fault, test_id_fault, result_id_fault, artifact_id_fault}
+use Rattle.names_realms.specs.Names.{IsTestId, IsResultId, IsArtifactId, test_id_fault, result_id_fault, artifact_id_fault}
 use Rattle.names_realms.specs.Parents.{IsParentName, parent_name, parent_fault}
 use Rattle.names_realms.specs.ResultNames.{IsResultName, result_name, result_name_fault}
 use Rattle.names_realms.specs.ArtifactNames.{IsArtifactName, artifact_name, artifact_name_fault}
@@ -26,30 +26,15 @@ use Rattle.json_fields.proofs.NameTextLaws.{result_name_utf8, parent_name_utf8, 
 use Rattle.json_fields.proofs.TextLaws.{moment_empty, moment_fault-None, span_empty, span_fault-None}
 use Rattle.json_fields.proofs.WriteLaws.{spelled_out}
 
-part_spelled : (form : PartForm) (text : List ℕ) → IsPart form text → IsSpelled (part_fault form) IsSame text text
+pub part_spelled : (form : PartForm) (text : List ℕ) → IsPart form text → IsSpelled (part_fault form) IsSame text text
 part_spelled form text is = spelled_out (part_fault form) IsSame text text refl (IsPart-part_fault form text is) refl
 
--- each kind of id by the words in which a goal names it
-pub invocation_id_right : (text : List ℕ) → IsInvocationId text → invocation_id_fault text ≡ None
-invocation_id_right text is = IsPart-part_fault _ text is
-
-pub invocation_id_spelled : (text : List ℕ) → IsInvocationId text → IsSpelled invocation_id_fault IsSame text text
-invocation_id_spelled text is = part_spelled _ text is
-
-pub test_id_right : (text : List ℕ) → IsTestId text → test_id_fault text ≡ None
-test_id_right text is = IsPart-part_fault _ text is
-
+-- ids of three kinds by the words in which the proofs above name them
 pub test_id_spelled : (text : List ℕ) → IsTestId text → IsSpelled test_id_fault IsSame text text
 test_id_spelled text is = part_spelled _ text is
 
-pub result_id_right : (text : List ℕ) → IsResultId text → result_id_fault text ≡ None
-result_id_right text is = IsPart-part_fault _ text is
-
 pub result_id_spelled : (text : List ℕ) → IsResultId text → IsSpelled result_id_fault IsSame text text
 result_id_spelled text is = part_spelled _ text is
-
-pub artifact_id_right : (text : List ℕ) → IsArtifactId text → artifact_id_fault text ≡ None
-artifact_id_right text is = IsPart-part_fault _ text is
 
 pub artifact_id_spelled : (text : List ℕ) → IsArtifactId text → IsSpelled artifact_id_fault IsSame text text
 artifact_id_spelled text is = part_spelled _ text is
@@ -77,4 +62,4 @@ span_spelled n range =
     spelled_out span_fault IsSpanText (span_text n) n span_empty (span_fault-None (span_text n) n said range) said
 
 -- that a text is read without a fault, and what is written of a value
-pub ruleset spellings = (IsRealm-realm_fault, IsResultName-fault, IsArtifactName-fault, IsParentName-fault, moment_fault-None, span_fault-None, result_name_utf8, parent_name_utf8, artifact_name_utf8, invocation_id_right, invocation_id_spelled, test_id_right, test_id_spelled, result_id_right, result_id_spelled, artifact_id_right, artifact_id_spelled, realm_spelled, result_name_spelled, artifact_name_spelled, parent_spelled, moment_spelled, span_spelled)
+pub ruleset spellings = (IsRealm-realm_fault, IsResultName-fault, IsArtifactName-fault, IsParentName-fault, moment_fault-None, span_fault-None, result_name_utf8, parent_name_utf8, artifact_name_utf8, IsPart-part_fault, part_spelled, realm_spelled, result_name_spelled, artifact_name_spelled, parent_spelled, moment_spelled, span_spelled)

@@ -16,8 +16,7 @@ use crate::whys::Why;
 use crate::writing::Written;
 use names_realms::name_parts::owned_text;
 use names_realms::{
-    ArtifactId, ArtifactName, InvocationId, Moment, NameFault, Parent, Realm, ResultId, ResultName,
-    Span, TestId,
+    ArtifactName, Id, IdGrammar, Moment, NameFault, Parent, Realm, ResultName, Span,
 };
 use serde_json::Value;
 use std::alloc::{AllocError, Global};
@@ -119,20 +118,20 @@ impl<T: SpelledOut> Written for T {
     }
 }
 
-impl Spelled for InvocationId {
+impl<G: IdGrammar> Spelled for Id<G> {
     ghost use Rattle.json_fields.specs.Texts.{IsSame};
-    ghost use Rattle.names_realms.specs.Names.{invocation_id_fault};
+    ghost use Rattle.names_realms.specs.NameParts.Parts.{part_fault};
 
-    ghost text_fault = { invocation_id_fault };
+    ghost text_fault = { part_fault G.form };
 
     ghost spells = { IsSame };
 
-    fn parse_text(alloc: Global, text: &[u8]) -> Result<InvocationId, NameFault> {
-        InvocationId::parse(alloc, text)
+    fn parse_text(alloc: Global, text: &[u8]) -> Result<Id<G>, NameFault> {
+        Id::parse(alloc, text)
     }
 }
 
-impl SpelledOut for InvocationId {
+impl<G: IdGrammar> SpelledOut for Id<G> {
     ghost spelling = { λ x. x };
 
     fn to_spelling(&self, alloc: Global) -> Result<String, AllocError> {
@@ -154,69 +153,6 @@ impl Spelled for Realm {
 }
 
 impl SpelledOut for Realm {
-    ghost spelling = { λ x. x };
-
-    fn to_spelling(&self, alloc: Global) -> Result<String, AllocError> {
-        String::from_str(alloc, self.as_str())
-    }
-}
-
-impl Spelled for TestId {
-    ghost use Rattle.json_fields.specs.Texts.{IsSame};
-    ghost use Rattle.names_realms.specs.Names.{test_id_fault};
-
-    ghost text_fault = { test_id_fault };
-
-    ghost spells = { IsSame };
-
-    fn parse_text(alloc: Global, text: &[u8]) -> Result<TestId, NameFault> {
-        TestId::parse(alloc, text)
-    }
-}
-
-impl SpelledOut for TestId {
-    ghost spelling = { λ x. x };
-
-    fn to_spelling(&self, alloc: Global) -> Result<String, AllocError> {
-        String::from_str(alloc, self.as_str())
-    }
-}
-
-impl Spelled for ResultId {
-    ghost use Rattle.json_fields.specs.Texts.{IsSame};
-    ghost use Rattle.names_realms.specs.Names.{result_id_fault};
-
-    ghost text_fault = { result_id_fault };
-
-    ghost spells = { IsSame };
-
-    fn parse_text(alloc: Global, text: &[u8]) -> Result<ResultId, NameFault> {
-        ResultId::parse(alloc, text)
-    }
-}
-
-impl SpelledOut for ResultId {
-    ghost spelling = { λ x. x };
-
-    fn to_spelling(&self, alloc: Global) -> Result<String, AllocError> {
-        String::from_str(alloc, self.as_str())
-    }
-}
-
-impl Spelled for ArtifactId {
-    ghost use Rattle.json_fields.specs.Texts.{IsSame};
-    ghost use Rattle.names_realms.specs.Names.{artifact_id_fault};
-
-    ghost text_fault = { artifact_id_fault };
-
-    ghost spells = { IsSame };
-
-    fn parse_text(alloc: Global, text: &[u8]) -> Result<ArtifactId, NameFault> {
-        ArtifactId::parse(alloc, text)
-    }
-}
-
-impl SpelledOut for ArtifactId {
     ghost spelling = { λ x. x };
 
     fn to_spelling(&self, alloc: Global) -> Result<String, AllocError> {

@@ -38,8 +38,8 @@ fn of_invocation(mut parts: NameParts) -> ArtifactName
     let invocation = parts.take_first();
     let artifact = parts.take_first();
     ArtifactName {
-        parent: Parent::Invocation(InvocationId { text: invocation }),
-        artifact: ArtifactId { text: artifact },
+        parent: Parent::Invocation(InvocationId::of_text(invocation)),
+        artifact: ArtifactId::of_text(artifact),
     }
 }
 
@@ -53,13 +53,13 @@ fn of_result(mut parts: NameParts) -> ArtifactName
     let result = parts.take_first();
     let artifact = parts.take_first();
     let parent = ResultName {
-        invocation: InvocationId { text: invocation },
-        test: TestId { text: test },
-        result: ResultId { text: result },
+        invocation: InvocationId::of_text(invocation),
+        test: TestId::of_text(test),
+        result: ResultId::of_text(result),
     };
     ArtifactName {
         parent: Parent::Result(parent),
-        artifact: ArtifactId { text: artifact },
+        artifact: ArtifactId::of_text(artifact),
     }
 }
 

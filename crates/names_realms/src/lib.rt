@@ -15,7 +15,10 @@ mod states;
 mod variants;
 
 pub use artifact_names::ArtifactName;
-pub use ids::{ArtifactId, InvocationId, ResultId, TestId};
+pub use ids::{
+    ArtifactId, Id, IdGrammar, InvocationId, OfArtifact, OfInvocation, OfResult, OfTest, ResultId,
+    TestId,
+};
 pub use moments_spans::{Moment, Span};
 pub use name_parts::{self, Bytes, NameFault, Numbers, lists};
 pub use pairs::{Pair, PairFault};

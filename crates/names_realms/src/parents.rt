@@ -38,9 +38,7 @@ fn invocation_of(mut parts: NameParts) -> InvocationId
     requires { AreParts (Piece.Invocation ∷ []) parts }
     ensures { IsInvocationName result (name_text (Piece.Invocation ∷ []) parts) }
 {
-    InvocationId {
-        text: parts.take_first(),
-    }
+    InvocationId::of_text(parts.take_first())
 }
 
 /// How many bytes a parent's name has.

@@ -28,9 +28,9 @@ pub(crate) fn result_of(mut parts: NameParts) -> ResultName
     let test = parts.take_first();
     let result = parts.take_first();
     ResultName {
-        invocation: InvocationId { text: invocation },
-        test: TestId { text: test },
-        result: ResultId { text: result },
+        invocation: InvocationId::of_text(invocation),
+        test: TestId::of_text(test),
+        result: ResultId::of_text(result),
     }
 }
 

@@ -10,5 +10,6 @@ returns c =
     let x : List ℕ = string_bytes c.take_first-invocation.result in
     let y : List ℕ = string_bytes c.take_first-artifact.result in
     let whole : c.args.parts ≡ x ∷ y ∷ c.take_first-artifact.new.self = c.take_first-invocation.ensures ∙ ap (λ (ps : List (List ℕ)). x ∷ ps) c.take_first-artifact.ensures in
-    subst (λ (ps : List (List ℕ)). IsArtifactName (record { parent = parent.Invocation x; artifact = y }) (name_text short_pieces ps)) (sym whole)
-    (short_named x y c.take_first-artifact.new.self (subst (λ (ps : List (List ℕ)). AreParts short_pieces ps) whole c.requires))
+    rw (c.of_text.ensures, c.of_text-2.ensures)
+    (subst (λ (ps : List (List ℕ)). IsArtifactName (record { parent = parent.Invocation x; artifact = y }) (name_text short_pieces ps)) (sym whole)
+    (short_named x y c.take_first-artifact.new.self (subst (λ (ps : List (List ℕ)). AreParts short_pieces ps) whole c.requires)))

@@ -15,5 +15,6 @@ returns c =
     let whole : c.args.parts ≡ x ∷ y ∷ z ∷ w ∷ rest =
     c.take_first-invocation.ensures ∙ ap (λ (ps : List (List ℕ)). x ∷ ps) c.take_first-test.ensures
     ∙ ap (λ (ps : List (List ℕ)). x ∷ y ∷ ps) c.take_first-result.ensures ∙ ap (λ (ps : List (List ℕ)). x ∷ y ∷ z ∷ ps) c.take_first-artifact.ensures in
-    subst (λ (ps : List (List ℕ)). IsArtifactName (record { parent = parent.Result (record { invocation = x; test = y; result = z }); artifact = w }) (name_text long_pieces ps)) (sym whole)
-    (long_named x y z w rest (subst (λ (ps : List (List ℕ)). AreParts long_pieces ps) whole c.requires))
+    rw (c.of_text.ensures, c.of_text-2.ensures, c.of_text-3.ensures, c.of_text-4.ensures)
+    (subst (λ (ps : List (List ℕ)). IsArtifactName (record { parent = parent.Result (record { invocation = x; test = y; result = z }); artifact = w }) (name_text long_pieces ps)) (sym whole)
+    (long_named x y z w rest (subst (λ (ps : List (List ℕ)). AreParts long_pieces ps) whole c.requires)))
