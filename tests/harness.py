@@ -141,6 +141,14 @@ def run(feed, folder, stdout=subprocess.PIPE, config=FARM, journal=None):
     return out, errors, program.returncode
 
 
+@contextlib.contextmanager
+def folder_in_memory(folder):
+    """A folder where a sync costs nothing, for a check that makes many: one in memory where the system has that."""
+    memory = pathlib.Path("/dev/shm")
+    with tempfile.TemporaryDirectory(dir=memory if memory.is_dir() else folder) as own:
+        yield own
+
+
 def unread(command):
     """Runs a command over a file as input, of which it reads nothing: the place in it, which is shared, stays."""
     with tempfile.TemporaryFile(buffering=0) as file:

@@ -4,8 +4,8 @@ drawn graphs beside a model.
 
 import random
 
-from harness import Wrong, adding, changing, exonerations, named, new, replies, request, results, run, same, told, told_by
-from harness import token, updating
+from harness import Wrong, adding, changing, exonerations, folder_in_memory, named, new, replies, request, results, run
+from harness import same, token, told, told_by, updating
 from moments import micros, moment_in, now
 
 
@@ -130,13 +130,11 @@ def full_tables(folder):
     def including(name, count):
         return changing(name, "UpdateIncludedInvocations", adding(name, *others[:count]))
 
-    got = told(
-        b"".join(request("CreateInvocation", new(name)) for name in [*names, "u-more", "u-0"])
-        + b"".join(including(name, 500) for name in several)
-        + b"".join(including(*row) for row in ((most, 145), (most, 144), (names[525], 1), (most, 144)))
-        + request("GetInvocation", named(most)),
-        folder,
-    )
+    stream = b"".join(request("CreateInvocation", new(name)) for name in [*names, "u-more", "u-0"])
+    stream += b"".join(including(name, 500) for name in several)
+    stream += b"".join(including(*row) for row in ((most, 145), (most, 144), (names[525], 1), (most, 144)))
+    with folder_in_memory(folder) as own:
+        got = told(stream + request("GetInvocation", named(most)), own)
     created, got = got[: len(names)], got[len(names) :]
     same({status for status, _ in created}, {200})
     same(got[:2], [(429, "20 TableFull: invocations 65536\n"), (409, "19 Taken: invocations/u-0\n")])
