@@ -3,13 +3,10 @@
 use std::hint::spin_loop;
 use std::sync::{Mutex, MutexGuard, Wait};
 
-/// So often the next in line looks whether the room is free before it sleeps: for as long as a
-/// change and its two syncs take on a fast disk.
-const LOOKS: u32 = 1000;
-
-/// So many pauses of the processor lie between two looks, each of which takes the lock's word away
-/// from whoever leaves.
-const PAUSES: u32 = 8;
+/// So often the next in line looks whether the room is free before it sleeps, with a pause of the
+/// processor after each look: for as long as a turn without the disk takes. Whoever looks on longer
+/// has a processor that the callers outside, and the threads that write to the disk, could use.
+const LOOKS: u32 = 300;
 
 /// The way to the tickets: a room for one caller, and two lines before it, of which the callers
 /// behind the first sleep.
@@ -89,9 +86,7 @@ impl Entrance {
             if let Some(inside) = self.room.try_lock() {
                 return inside;
             }
-            for _ in 0..PAUSES {
-                spin_loop();
-            }
+            spin_loop();
         }
         self.room.lock(rt)
     }
