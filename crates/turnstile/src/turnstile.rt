@@ -80,13 +80,13 @@ impl<T: Held> Turnstile<T> {
         ensures spent { IfErr result (λ _. (seat.new.knows.drawn ≡ 2 ^ 63)
             × (seat.new.knows.seen ≡ seat.old.knows.seen)) }
     {
-        let inside = self.entrance.enter(rt, seat.number);
+        let inside = self.entrance.enter(rt);
         let Some(ticket) = draw_next(rt, &self.board, &mut seat.place) else {
             return Err(Spent);
         };
         wait(rt, &self.board, &mut seat.place, ticket);
         let answer = serve(&self.board, &mut seat.place, ticket, seat.number, call);
-        inside.leave();
+        drop(inside);
         Ok(answer)
     }
 
