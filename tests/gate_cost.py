@@ -3,9 +3,12 @@
 
     tests/gate_cost.py run LOG [WORD..]   runs `rt ci WORD..` and writes to LOG what each of its commands took
     tests/gate_cost.py watch LOG PID      does so for an rt ci that is running, from now on
-    tests/gate_cost.py table LOG          makes the table of a log
-    tests/gate_cost.py write LOG          writes docs/gate-cost.md from the log of a run
-    tests/gate_cost.py edits LOG          makes the table of the wrong bodies of a log
+    tests/gate_cost.py table LOG..        makes the table of a log, or of those of several runs
+    tests/gate_cost.py write LOG..        writes docs/gate-cost.md from the log of a run, or of several
+    tests/gate_cost.py edits LOG..        makes the table of the wrong bodies
+
+A run begins with what earlier ones kept. So where one was cut off, its log and those of the runs after it tell together
+what one run would have: of what was done twice, as a crate that changed between them, the last counts.
 
 rt prints no times, so its commands are looked at in /proc a few times a second while they run, with the processes that
 they have waited for. What is missed is the last part of a second of each; the table tells how much in all. Only what a
@@ -104,7 +107,7 @@ def run(path, words):
         whole = {"seconds": used.ru_utime + used.ru_stime, "wall": time.time() - began, "words": words}
         whole |= {"of": state(), "processors": len(os.sched_getaffinity(0)), "day": time.strftime("%Y-%m-%d", time.gmtime())}
         log.write(json.dumps(whole) + "\n")
-    print("\n".join(table(path)))
+    print("\n".join(table([path])))
     return os.waitstatus_to_exitcode(status)
 
 
@@ -115,9 +118,11 @@ def state():
     return f"{commit}, with {kit}"
 
 
-def entries(path):
-    lines = [json.loads(line) for line in pathlib.Path(path).read_text().splitlines()]
-    return [line for line in lines if "crate" in line], next((line for line in lines if "wall" in line), None)
+def entries(paths):
+    """What each command took, the last time that it ran; and of each run that ended what it took whole."""
+    lines = [json.loads(line) for path in paths for line in pathlib.Path(path).read_text().splitlines()]
+    last = {(line["crate"], line["part"], line["number"]): line for line in lines if "crate" in line}
+    return [*last.values()], [line for line in lines if "wall" in line]
 
 
 def crates():
@@ -129,9 +134,9 @@ def minutes(seconds):
     return f"{seconds / 60:.1f}"
 
 
-def table(path):
+def table(paths):
     """The lines of the table."""
-    found, whole = entries(path)
+    found, wholes = entries(paths)
     sums = collections.Counter()
     for entry in found:
         sums[entry["crate"], entry["part"]] += entry["seconds"]
@@ -147,31 +152,36 @@ def table(path):
         lines.append(f"| `{name}` | {' | '.join(cells)} | {edits} |".replace("|  |", "| |").replace("|  |", "| |"))
     totals = [sum(sums[name, part] for name in names) for part in PARTS]
     lines.append(f"| All | {' | '.join(minutes(total) for total in totals)} | |")
-    if whole:
-        rest = whole["seconds"] - sum(totals)
-        lines += ["", f"{minutes(whole['seconds'])} processor minutes in {minutes(whole['wall'])} minutes for {len(names)} crates, "]
+    all_minutes = f"for {len(names)} crates"
+    if len(paths) == len(wholes) == 1:
+        whole, rest = wholes[0], wholes[0]["seconds"] - sum(totals)
+        lines += ["", f"{minutes(whole['seconds'])} processor minutes in {minutes(whole['wall'])} minutes {all_minutes}, "]
         lines[-1] += f"{minutes(rest)} of them in no crate's row."
+    else:
+        lines += ["", f"{minutes(sum(totals))} processor minutes {all_minutes}."]
     return lines
 
 
-def write_page(path):
-    whole = entries(path)[1]
-    if not whole:
+def write_page(paths):
+    wholes = entries(paths)[1]
+    if not wholes:
         sys.exit("only the log of a whole run says what the gate costs")
+    whole = wholes[-1]
     words = " ".join(["rt ci", *whole["words"]])
+    runs = "" if len(paths) == 1 else f", in {len(paths)} runs of which each went on where the one before was cut off"
     front = (
-        f"Written by `tests/gate_cost.py`, of `{words}` over {whole['of']}, on {whole['day']}, on a machine of "
+        f"Written by `tests/gate_cost.py`, of `{words}` over {whole['of']}, on {whole['day']}{runs}, on a machine of "
         f"{whole['processors']} processors. All figures are processor minutes, and bold is what is over the budget of "
         "[CONTRIBUTING.md](../CONTRIBUTING.md#the-gates-budget). Another machine has been seen to take half as much again, "
         "so that figures of one machine alone are compared."
     )
-    lines = ["# What the gate costs", "", *textwrap.wrap(front, 120, break_on_hyphens=False), "", *table(path)]
+    lines = ["# What the gate costs", "", *textwrap.wrap(front, 120, break_on_hyphens=False), "", *table(paths)]
     PAGE.write_text("\n".join(lines) + "\n")
 
 
-def edits(path):
+def edits(paths):
     """By wrong body: those that were tried over what the crate's own check proved, and what that check took."""
-    found, _ = entries(path)
+    found, _ = entries(paths)
     sums = collections.Counter()
     for entry in found:
         if entry["part"] == "wrong bodies":
@@ -190,13 +200,13 @@ def main(words):
     if words[:1] == ["watch"] and len(words) == 3 and words[2].isdigit():
         with open(words[1], "w", encoding="utf-8") as log:
             watch(int(words[2]), lambda: stat_of(words[2]) is not None, log)
-        print("\n".join(table(words[1])))
+        print("\n".join(table([words[1]])))
         return 0
-    if len(words) == 2 and words[0] in ("table", "write", "edits"):
+    if len(words) > 1 and words[0] in ("table", "write", "edits"):
         if words[0] == "table":
-            print("\n".join(table(words[1])))
+            print("\n".join(table(words[1:])))
         else:
-            (write_page if words[0] == "write" else edits)(words[1])
+            (write_page if words[0] == "write" else edits)(words[1:])
         return 0
     sys.exit(__doc__)
 
