@@ -1,5 +1,5 @@
-pub use Rattle.result_forms.proofs as ResultForms
-pub use Rattle.field_kinds.proofs.TextKinds
+pub mod ResultForms
+pub mod TextKinds
 pub mod Opened
 pub mod NameThere
 pub mod DecodedBytes

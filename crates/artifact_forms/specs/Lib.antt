@@ -1,5 +1,5 @@
-pub use Rattle.result_forms.specs as ResultForms
-pub use Rattle.field_kinds.specs.TextKinds
+pub mod ResultForms
+pub mod TextKinds
 pub mod Names
 pub mod Hashes
 pub mod Fields

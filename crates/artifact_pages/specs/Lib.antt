@@ -1,4 +1,4 @@
-pub use Rattle.artifact_replies.specs.ArtifactForms
-pub use Rattle.artifact_replies.specs as ArtifactReplies
+pub mod ArtifactForms
+pub mod ArtifactReplies
 pub mod Pages
 pub mod Laws

@@ -1,5 +1,5 @@
-pub use Rattle.artifact_forms.proofs as ArtifactForms
-pub use Rattle.artifact_forms.proofs.TextKinds
+pub mod ArtifactForms
+pub mod TextKinds
 pub mod ObjectLaws
 pub mod PlainLaws
 pub mod LineLaws

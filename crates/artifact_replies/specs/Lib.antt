@@ -1,6 +1,6 @@
-pub use Rattle.artifact_forms.specs as ArtifactForms
-pub use Rattle.artifacts.specs as Artifacts
-pub use Rattle.artifact_forms.specs.TextKinds
+pub mod ArtifactForms
+pub mod Artifacts
+pub mod TextKinds
 pub mod Names
 pub mod Replies
 pub mod Texts

@@ -1,5 +1,5 @@
-pub use Rattle.pair_kinds.proofs as PairKinds
-pub use Rattle.pair_kinds.proofs.TextKinds
+pub mod PairKinds
+pub mod TextKinds
 pub mod NumberLaws
 pub mod ListLaws
 pub mod ObjectLaws

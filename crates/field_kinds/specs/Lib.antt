@@ -1,5 +1,5 @@
-pub use Rattle.pair_kinds.specs as PairKinds
-pub use Rattle.pair_kinds.specs.TextKinds
+pub mod PairKinds
+pub mod TextKinds
 pub mod Numbers
 pub mod Readings
 pub mod Flags

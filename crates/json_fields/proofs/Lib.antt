@@ -1,5 +1,5 @@
-pub use Rattle.names_realms.proofs.NameParts
-pub use Rattle.names_realms.proofs as NamesRealms
+pub mod NameParts
+pub mod NamesRealms
 pub mod NameLaws
 pub mod ListLaws
 pub mod WriteLaws

@@ -1,5 +1,5 @@
-pub use Rattle.names_realms.specs.NameParts
-pub use Rattle.names_realms.specs as NamesRealms
+pub mod NameParts
+pub mod NamesRealms
 pub mod Names
 pub mod Whys
 pub mod Faults

@@ -1,4 +1,4 @@
-pub use Rattle.artifact_replies.proofs.TextKinds
+pub mod TextKinds
 pub mod MethodLaws
 pub mod RequestLaws
 pub mod FaultLaws

@@ -1,6 +1,6 @@
-pub use Rattle.query_forms.specs.InvocationForms
-pub use Rattle.query_forms.specs as QueryForms
-pub use Rattle.artifact_replies.specs.TextKinds
+pub mod InvocationForms
+pub mod QueryForms
+pub mod TextKinds
 pub mod Names
 pub mod Rows
 pub mod Methods

@@ -1,5 +1,4 @@
-pub use Rattle.text_kinds.proofs.JsonFields
-pub use Rattle.text_kinds.proofs.NameParts
-pub use Rattle.text_kinds.proofs.NamesRealms
-pub use Rattle.text_kinds.proofs as TextKinds
+pub mod JsonFields
+pub mod NameParts
+pub mod TextKinds
 pub mod TagLaws

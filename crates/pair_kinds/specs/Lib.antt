@@ -1,5 +1,5 @@
-pub use Rattle.text_kinds.specs.JsonFields
-pub use Rattle.text_kinds.specs.NameParts
-pub use Rattle.text_kinds.specs.NamesRealms
-pub use Rattle.text_kinds.specs as TextKinds
+pub mod JsonFields
+pub mod NameParts
+pub mod NamesRealms
+pub mod TextKinds
 pub mod Tags

@@ -1,4 +1,4 @@
-pub use Rattle.names_realms.specs as NamesRealms
+pub mod NamesRealms
 pub mod Checks
 pub mod Index
 pub mod Owners

@@ -1,6 +1,6 @@
-pub use Rattle.field_kinds.proofs as FieldKinds
-pub use Rattle.invocation_forms.proofs as InvocationForms
-pub use Rattle.result_forms.proofs as ResultForms
+pub mod FieldKinds
+pub mod InvocationForms
+pub mod ResultForms
 pub mod Opened
 mod DecodedLaws
 pub mod TokenLaws

@@ -1,6 +1,6 @@
-pub use Rattle.field_kinds.specs as FieldKinds
-pub use Rattle.invocation_forms.specs as InvocationForms
-pub use Rattle.result_forms.specs as ResultForms
+pub mod FieldKinds
+pub mod InvocationForms
+pub mod ResultForms
 pub mod Names
 pub mod Sizes
 pub mod Lists

@@ -1,5 +1,5 @@
-pub use Rattle.verdict_lists.specs as VerdictLists
-pub use Rattle.verdict_masks.specs as VerdictMasks
+pub mod VerdictLists
+pub mod VerdictMasks
 pub mod Followed
 pub mod Inside
 pub mod Laws

@@ -1,4 +1,4 @@
-pub use Rattle.query_pages.proofs as QueryPages
+pub mod QueryPages
 pub mod PlainLaws
 pub mod TextLaws
 pub mod WholeLaws

@@ -1,5 +1,5 @@
-pub use Rattle.query_pages.specs as QueryPages
-pub use Rattle.query_pages.specs.VerdictLists
+pub mod QueryPages
+pub mod VerdictLists
 pub mod Names
 pub mod Results
 pub mod Verdicts

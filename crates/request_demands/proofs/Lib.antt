@@ -1,4 +1,4 @@
-pub use Rattle.message_forms.proofs as MessageForms
+pub mod MessageForms
 pub mod Judged
 pub mod AloneFacts
 pub mod Said

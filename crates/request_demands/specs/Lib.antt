@@ -1,6 +1,6 @@
-pub use Rattle.message_forms.specs.InvocationForms
-pub use Rattle.message_forms.specs as MessageForms
-pub use Rattle.message_forms.specs.QueryForms
+pub mod InvocationForms
+pub mod MessageForms
+pub mod QueryForms
 pub mod Settings
 pub mod Grants
 pub mod Demands

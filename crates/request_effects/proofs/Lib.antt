@@ -1,6 +1,6 @@
-pub use Rattle.request_rules.proofs.MessageForms
-pub use Rattle.request_rules.proofs.RequestDemands
-pub use Rattle.request_rules.proofs as RequestRules
+pub mod MessageForms
+pub mod RequestDemands
+pub mod RequestRules
 pub mod PlaceFacts
 pub mod QueryFacts
 pub mod SafeLaws

@@ -1,5 +1,5 @@
-pub use Rattle.request_demands.proofs.MessageForms
-pub use Rattle.request_demands.proofs as RequestDemands
+pub mod MessageForms
+pub mod RequestDemands
 pub mod Firsts
 pub mod RuleFacts
 pub mod PlaceLaws

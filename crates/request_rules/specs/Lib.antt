@@ -1,8 +1,8 @@
-pub use Rattle.request_demands.specs.InvocationForms
-pub use Rattle.request_demands.specs.MessageForms
-pub use Rattle.policy_checks.specs as PolicyChecks
-pub use Rattle.request_demands.specs.QueryForms
-pub use Rattle.request_demands.specs as RequestDemands
+pub mod InvocationForms
+pub mod MessageForms
+pub mod PolicyChecks
+pub mod QueryForms
+pub mod RequestDemands
 pub mod Held
 pub mod Named
 pub mod Rights

@@ -1,4 +1,4 @@
-pub use Rattle.field_kinds.proofs as FieldKinds
+pub mod FieldKinds
 pub mod MemberLaws
 pub mod FieldLaws
 pub mod ShownLaws

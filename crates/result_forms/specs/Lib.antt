@@ -1,4 +1,4 @@
-pub use Rattle.field_kinds.specs.TextKinds
+pub mod TextKinds
 pub mod Names
 pub mod Members
 pub mod Shown

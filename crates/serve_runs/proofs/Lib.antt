@@ -1,3 +1,3 @@
-pub use Rattle.served_desk.proofs.RecordDesk
+pub mod RecordDesk
 pub mod ServingLaws
 pub mod StatusLaws

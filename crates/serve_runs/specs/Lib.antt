@@ -1,6 +1,6 @@
-pub use Rattle.served_desk.specs.RecordDesk
-pub use Rattle.served_desk.specs.ServiceCore
-pub use Rattle.served_desk.specs.ServiceMachine
+pub mod RecordDesk
+pub mod ServiceCore
+pub mod ServiceMachine
 pub mod Endings
 pub mod Runs
 pub mod Statuses

@@ -1,4 +1,4 @@
-pub use Rattle.service_desk.proofs.RecordDesk
+pub mod RecordDesk
 pub mod SeatLaws
 pub mod PostLaws
 pub mod AttendLaws

@@ -1,7 +1,7 @@
-pub use Rattle.request_effects.proofs.MessageForms
-pub use Rattle.request_effects.proofs.RequestDemands
-pub use Rattle.request_effects.proofs as RequestEffects
-pub use Rattle.request_effects.proofs.RequestRules
+pub mod MessageForms
+pub mod RequestDemands
+pub mod RequestEffects
+pub mod RequestRules
 pub mod ClearedLaws
 pub mod HistoryLaws
 pub mod UniqueLaws

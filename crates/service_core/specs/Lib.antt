@@ -1,11 +1,11 @@
-pub use Rattle.request_effects.specs.ArtifactForms
-pub use Rattle.request_effects.specs.ArtifactPages
-pub use Rattle.invocation_world.specs as InvocationWorld
-pub use Rattle.request_effects.specs.MessageForms
-pub use Rattle.request_effects.specs.QueryReplies
-pub use Rattle.request_effects.specs.RequestDemands
-pub use Rattle.request_effects.specs as RequestEffects
-pub use Rattle.request_effects.specs.RequestRules
+pub mod ArtifactForms
+pub mod ArtifactPages
+pub mod InvocationWorld
+pub mod MessageForms
+pub mod QueryReplies
+pub mod RequestDemands
+pub mod RequestEffects
+pub mod RequestRules
 pub mod Service
 pub mod Step
 pub mod History

@@ -1,4 +1,4 @@
-pub use Rattle.record_desk.proofs as RecordDesk
+pub mod RecordDesk
 pub mod TurnLaws
 pub mod ShelfLaws
 pub mod SendLaws

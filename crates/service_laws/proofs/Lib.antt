@@ -1,6 +1,6 @@
-pub use Rattle.service_core.proofs.RequestEffects
-pub use Rattle.service_core.proofs.RequestRules
-pub use Rattle.service_core.proofs as ServiceCore
+pub mod RequestEffects
+pub mod RequestRules
+pub mod ServiceCore
 pub mod DecideLaws
 pub mod ThereLaws
 pub mod StepLaws

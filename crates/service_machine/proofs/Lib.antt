@@ -1,3 +1,3 @@
-pub use Rattle.service_replay.proofs.ServiceCore
+pub mod ServiceCore
 pub mod MachineLaws
 pub mod PlanFacts

@@ -1,5 +1,5 @@
-pub use Rattle.service_core.proofs.RequestDemands
-pub use Rattle.service_core.proofs as ServiceCore
-pub use Rattle.service_effects.proofs as ServiceEffects
+pub mod RequestDemands
+pub mod ServiceCore
+pub mod ServiceEffects
 pub mod ReplayLaws
 pub mod AgainLaws

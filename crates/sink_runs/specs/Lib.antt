@@ -1,4 +1,4 @@
-pub use Rattle.sink_uploads.specs as SinkUploads
+pub mod SinkUploads
 pub mod Texts
 pub mod Configs
 pub mod Reports

@@ -1,4 +1,4 @@
-pub use Rattle.message_forms.proofs as MessageForms
+pub mod MessageForms
 pub mod TryLaws
 pub mod VisitLaws
 pub mod RunLaws

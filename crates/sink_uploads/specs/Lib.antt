@@ -1,4 +1,4 @@
-pub use Rattle.message_forms.specs as MessageForms
+pub mod MessageForms
 pub mod Visits
 pub mod Tries
 pub mod Dialled

@@ -1,6 +1,5 @@
-pub use Rattle.json_fields.proofs as JsonFields
-pub use Rattle.json_fields.proofs.NameParts
-pub use Rattle.json_fields.proofs.NamesRealms
+pub mod JsonFields
+pub mod NameParts
 pub mod ContentLaws
 pub mod HashLaws
 pub mod TextLaws

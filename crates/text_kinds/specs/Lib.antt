@@ -1,6 +1,6 @@
-pub use Rattle.json_fields.specs as JsonFields
-pub use Rattle.json_fields.specs.NameParts
-pub use Rattle.json_fields.specs.NamesRealms
+pub mod JsonFields
+pub mod NameParts
+pub mod NamesRealms
 pub mod Statuses
 pub mod Texts
 pub mod Contents

@@ -1,4 +1,4 @@
-pub use Rattle.invocations.specs as Invocations
+pub mod Invocations
 pub mod Entries
 pub mod Groups
 pub mod Laws

@@ -1,3 +1,3 @@
-pub use Rattle.workload_draws.specs as WorkloadDraws
+pub mod WorkloadDraws
 pub mod Requests
 pub mod Plans

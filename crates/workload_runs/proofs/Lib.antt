@@ -1,1 +1,1 @@
-pub use Rattle.workload_turns.proofs as WorkloadTurns
+pub mod WorkloadTurns

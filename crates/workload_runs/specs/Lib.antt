@@ -1,5 +1,5 @@
-pub use Rattle.policy_reading.specs as PolicyReading
-pub use Rattle.workload_turns.specs as WorkloadTurns
+pub mod PolicyReading
+pub mod WorkloadTurns
 pub mod Policies
 pub mod Lines
 pub mod Endings

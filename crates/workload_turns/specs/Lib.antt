@@ -1,4 +1,3 @@
-pub use Rattle.workload_plans.specs as WorkloadPlans
 pub mod Stops
 pub mod Tallies
 pub mod Pages

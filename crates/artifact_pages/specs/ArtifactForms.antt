@@ -1,0 +1,2 @@
+-- What is cited of artifact_forms, here or above.
+pub use Rattle.artifact_replies.specs.ArtifactForms.declared

@@ -1,0 +1,2 @@
+-- What is cited of artifacts, here or above.
+pub use Rattle.artifacts.specs.declared

@@ -1,0 +1,2 @@
+-- What is cited of name_parts, here or above.
+pub use Rattle.text_kinds.specs.NameParts.declared

@@ -1,0 +1,3 @@
+-- What is cited of field_kinds, here or above.
+pub use Rattle.field_kinds.proofs.ReadLaws
+pub use Rattle.field_kinds.proofs.RequestLaws

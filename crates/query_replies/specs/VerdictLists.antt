@@ -1,0 +1,2 @@
+-- What is cited of verdict_lists, here or above.
+pub use Rattle.query_pages.specs.VerdictLists.World

@@ -1,0 +1,6 @@
+-- What is cited of message_forms, here or above.
+pub use Rattle.message_forms.specs.Forms
+pub use Rattle.message_forms.specs.Methods
+pub use Rattle.message_forms.specs.Reading
+pub use Rattle.message_forms.specs.Replies
+pub use Rattle.message_forms.specs.declared

@@ -1,0 +1,2 @@
+-- What is cited of request_demands, here or above.
+pub use Rattle.service_core.proofs.RequestDemands.PolicyLaws

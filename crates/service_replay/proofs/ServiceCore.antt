@@ -1,0 +1,5 @@
+-- What is cited of service_core, here or above.
+pub use Rattle.service_core.proofs.ClearedLaws
+pub use Rattle.service_core.proofs.HistoryLaws
+pub use Rattle.service_core.proofs.PlanLaws
+pub use Rattle.service_core.proofs.ServeLaws

@@ -1,0 +1,2 @@
+-- What is cited of sink_uploads, here or above.
+pub use Rattle.sink_uploads.specs.declared

@@ -1,0 +1,3 @@
+-- What is cited of message_forms, here or above.
+pub use Rattle.message_forms.proofs.MethodLaws
+pub use Rattle.message_forms.proofs.RequestLaws

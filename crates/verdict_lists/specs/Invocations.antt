@@ -1,0 +1,2 @@
+-- What is cited of invocations, here or above.
+pub use Rattle.invocations.specs.declared

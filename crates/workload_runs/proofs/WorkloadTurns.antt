@@ -1,0 +1,2 @@
+-- What is cited of workload_turns, here or above.
+pub use Rattle.workload_turns.proofs.StopLaws
