@@ -250,13 +250,19 @@ def words_of_cell(tree, page, name, number, cell):
                     yield page, number, f"{word} has no clause {clause}"
 
 
+def hands_on(file):
+    """Whether a file of specs/ has no definition, and only passes on modules of a crate further down."""
+    lines = file.read_text().splitlines() if file.is_file() else [""]
+    return all(line.startswith(("--", "pub use ")) for line in lines)
+
+
 def definitions(tree):
-    """Each file of specs/ is read aloud on the page of its crate."""
+    """Each file of specs/ that defines something is read aloud on the page of its crate."""
     for page, name in with_pages(tree):
         said = TICKED.findall(section(tree.text(page), "Definitions"))
         for spec in sorted(tree.crate(name).glob("specs/**/*.antt")):
             path = str(spec.relative_to(tree.crate(name)))
-            if spec.name != "Lib.antt" and path not in said:
+            if spec.name != "Lib.antt" and path not in said and not hands_on(spec):
                 yield page, 0, f"Definitions doesn't name {path}"
 
 
@@ -495,7 +501,8 @@ def home(tree, owner, file):
     while True:
         first, _, rest = file.partition(".")
         further = re.sub(r"(?<!^)([A-Z])", r"_\1", first).lower()
-        if not rest or further not in tree.stands_on or (tree.crate(owner) / "specs" / f"{first}.antt").is_file():
+        own = tree.crate(owner) / "specs" / f"{first}.antt"
+        if not rest or further not in tree.stands_on or own.is_file() and not hands_on(own):
             return owner, file
         owner, file = further, rest
 

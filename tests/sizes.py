@@ -1,5 +1,6 @@
 #!/usr/bin/env python3
-"""Counts what CONTRIBUTING.md limits: the sizes of crates and files, wide lines, wrong bodies, and paths of crates.
+"""Counts what CONTRIBUTING.md limits: the sizes of crates and files, wide lines, wrong bodies, paths of crates, and the
+libraries that a crate hands on whole.
 
     tests/sizes.py          tells what is over a limit, and ends with status 1 where there is any
     tests/sizes.py --lower  takes down the numbers of what is listed below and fell; none is ever raised
@@ -23,6 +24,7 @@ LIMITS = {
     "wide lines": (0, f"lines of code and definitions over {WIDTH} columns"),
     "file": (800, "lines in one file"),
     "paths": (3000, "paths through crates.txt"),
+    "whole": (4, "libraries handed on whole"),
 }
 
 # begin of the list
@@ -36,6 +38,7 @@ LISTED = {
 
 FUNCTION = re.compile(r"\s*(?:pub(?:\([a-z]+\))? )?fn \w+")
 IMPORT = re.compile(r"\s*(?:pub |ghost )*use ")
+HANDS_ON = re.compile(r"pub use Rattle\.(\w+)\.(specs|proofs) as \w+")
 
 
 def lines_of(path):
@@ -61,6 +64,7 @@ def counted(top):
             yield "file", str(file.relative_to(top)), len(lines_of(file))
     for name, count in paths(top).items():
         yield "paths", name, count
+        yield "whole", name, whole(top, name, "specs") + whole(top, name, "proofs")
     for file in sorted([*top.glob("tests/*.py"), *top.glob("bench/*.py"), top / "build", top / "rdb"]):
         yield "file", str(file.relative_to(top)), len(lines_of(file))
 
@@ -80,6 +84,14 @@ def paths(top):
         if not ready:
             sys.exit("crates.txt: crates stand on each other")
     return found
+
+
+def whole(top, crate, part):
+    """How many libraries a crate hands on whole, each with those that it hands on itself. The prover takes the modules of
+    each by each way that leads there, and keeps them in memory."""
+    file = top / "crates" / crate / part / "Lib.antt"
+    lines = lines_of(file) if file.is_file() else []
+    return sum(1 + whole(top, found[1], found[2]) for found in map(HANDS_ON.fullmatch, lines) if found)
 
 
 def faults(top, listed):
