@@ -11,7 +11,7 @@ mod clerks;
 
 use books::{Outcome, policy_of, try_book, try_desk};
 use disks::{Disk, FileDisk, MemoryDisk};
-use service_desk::service_core::permissions::Policy;
+use service_desk::Policy;
 use standard_files::{DevNull, hold_standard};
 use std::alloc::{AllocError, Global};
 use std::process::ExitCode;

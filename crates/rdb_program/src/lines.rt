@@ -6,7 +6,7 @@ ghost use Rattle.rdb_program.specs.Lines.{fault_text};
 
 use error_lines::{Line, put, put_number};
 use result_journal::OpenFault;
-use serve_runs::service_core::Counts;
+use serve_runs::Counts;
 
 /// Puts why a journal isn't opened.
 fn put_fault(line: &mut Line, fault: OpenFault)

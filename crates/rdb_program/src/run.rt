@@ -27,9 +27,7 @@ use permissions::{Policy, PolicyFault};
 use program_words::{
     Command, ServeWords, SinkWords, WordFault, WorkloadWords, help_text, read_words, version_text,
 };
-use serve_runs::record_desk::BookTeller;
-use serve_runs::service_core::Core;
-use serve_runs::service_machine::ServiceMachine;
+use serve_runs::{BookTeller, Core, ServiceMachine};
 use sink_runs::{send_report, tell};
 use std::alloc::Global;
 use std::mem::forget;

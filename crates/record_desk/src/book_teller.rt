@@ -11,8 +11,7 @@ use call_forms::{Asked, Told};
 use disks::Disk;
 use journal_book::Book;
 use outside::Clock;
-use service_machine::ServiceMachine;
-use service_machine::service_core::permissions::Policy;
+use service_machine::{Policy, ServiceMachine};
 use std::alloc::Global;
 use tellers::Teller;
 

@@ -3,8 +3,7 @@ ghost use Rattle.std.specs.Prelude.{◌≡◌, IfOk};
 ghost use Rattle.service_machine.specs.RequestDemands.Understood.{IsUnderstood};
 
 use call_forms::Asked;
-use service_machine::request_demands::{Understood, understand};
-use service_machine::service_core::permissions::Policy;
+use service_machine::{Policy, Understood, understand};
 use std::alloc::{AllocError, Global};
 
 /// What is asked under a policy, and what these two alone say of it, where there was memory.

@@ -8,4 +8,4 @@ mod recording;
 pub use book_teller::BookTeller;
 pub use inquiry::Inquiry;
 pub use recording::serve;
-pub use service_machine::{self, service_core};
+pub use service_machine::{Core, Counts, Policy, ServiceMachine};

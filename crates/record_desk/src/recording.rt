@@ -22,10 +22,7 @@ use call_forms::{Answer, Standin, Told};
 use disks::Disk;
 use journal_book::{Book, RecordFault};
 use names_realms::Moment;
-use service_machine::request_demands::Understood;
-use service_machine::service_core::permissions::Policy;
-use service_machine::service_core::{Plan, Prepared};
-use service_machine::{RecordedPlan, ServiceMachine, Wanted};
+use service_machine::{Plan, Policy, Prepared, RecordedPlan, ServiceMachine, Understood, Wanted};
 use std::alloc::{AllocError, Global};
 
 /// What is told where a change isn't recorded. That the journal is full can't be told apart from

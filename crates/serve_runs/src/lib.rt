@@ -6,4 +6,4 @@ mod run;
 
 pub use ending::{ServeEnding, served_line};
 pub use run::{Returned, serve_all};
-pub use served_desk::{self, record_desk, service_core, service_machine};
+pub use served_desk::{BookTeller, Core, Counts, Office, ServiceMachine};

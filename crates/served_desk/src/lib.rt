@@ -8,5 +8,5 @@ mod staff;
 mod sums;
 
 pub use office::Office;
-pub use service_desk::{record_desk, service_core, service_machine};
+pub use service_desk::{BookTeller, Core, Counts, Policy, ServiceMachine};
 pub use serving::serve_office;

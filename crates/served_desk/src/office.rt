@@ -2,7 +2,7 @@
 use disks::Disk;
 use journal_book::Book;
 use outside::Clock;
-use service_desk::service_machine::ServiceMachine;
+use service_desk::ServiceMachine;
 
 /// A book of the service, the clock at whose moments it is asked, and the doors at which its
 /// callers come in.

@@ -8,5 +8,5 @@ mod shelf;
 
 pub use clerk::Clerk;
 pub use desk::Desk;
-pub use record_desk::{self, service_core, service_machine};
+pub use record_desk::{BookTeller, Core, Counts, Policy, ServiceMachine};
 pub use shelf::{Line, Shelf};

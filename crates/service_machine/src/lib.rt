@@ -8,4 +8,4 @@ mod plans;
 
 pub use machine::ServiceMachine;
 pub use plans::{PlanFault, RecordedPlan, Wanted};
-pub use service_replay::{request_demands, service_core};
+pub use service_replay::{Core, Counts, Plan, Policy, Prepared, Understood, understand};

@@ -2,8 +2,7 @@
 use crate::plans::RecordedPlan;
 use call_forms::Answer;
 use journal_book::{Machine, ReplayFault};
-use service_replay::service_core::Core;
-use service_replay::{ReplayFault as Fault, replay};
+use service_replay::{Core, ReplayFault as Fault, replay};
 use std::alloc::Global;
 
 /// The service: its world is that of the core, and what it answers to a change is the plan's

@@ -18,10 +18,7 @@ use call_forms::Asked;
 use lists::Bytes;
 use names_realms::Moment;
 use recorded_calls::{RecordedCall, write_call, write_tick};
-use service_replay::kind_of;
-use service_replay::permissions::Policy;
-use service_replay::request_demands::caller_of;
-use service_replay::service_core::{Core, Plan};
+use service_replay::{Core, Plan, Policy, caller_of, kind_of};
 use std::alloc::{AllocError, Global};
 use std::marker::Model;
 

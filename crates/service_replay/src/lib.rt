@@ -6,4 +6,4 @@ mod replaying;
 
 pub use laws::{one_replay, recorded_is_replayed, tick_is_replayed};
 pub use replaying::{ReplayFault, kind_of, replay};
-pub use service_core::{self, permissions, request_demands};
+pub use service_core::{Core, Counts, Plan, Policy, Prepared, Understood, caller_of, understand};

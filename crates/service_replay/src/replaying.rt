@@ -21,11 +21,10 @@ ghost use Rattle.service_replay.specs.Replaying.{IsActedAgain, IsRightIn};
 use call_forms::Asked;
 use names_realms::Moment;
 use recorded_calls::{CallKind, Command, RecordedCall, read_command, record_length};
-use service_core::message_forms::{FormFault, Method, Request, read_request};
-use service_core::request_demands::{Demand, NumberCheck, check_digest, demand_of, digest_again};
-use service_core::request_effects::{Context, Numbered, numbered_in};
-use service_core::request_rules::{Located, is_right};
-use service_core::{CallRecord, Core};
+use service_core::{
+    CallRecord, Context, Core, Demand, FormFault, Located, Method, NumberCheck, Numbered, Request,
+    check_digest, demand_of, digest_again, is_right, numbered_in, read_request,
+};
 use std::alloc::{AllocError, Global};
 
 /// Why a command isn't made again.
