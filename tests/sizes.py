@@ -24,7 +24,8 @@ LIMITS = {
     "wide lines": (0, f"lines of code and definitions over {WIDTH} columns"),
     "file": (800, "lines in one file"),
     "paths": (3000, "paths through crates.txt"),
-    "whole": (4, "libraries handed on whole"),
+    "whole": (4, "libraries handed on whole by its definitions and lemmas"),
+    "whole code": (8, "libraries handed on whole by its code"),
 }
 
 # begin of the list
@@ -32,6 +33,18 @@ LISTED = {
     "wide lines": {
         "field_kinds": 1,
         "permissions": 1,
+    },
+    "whole code": {
+        "artifact_forms": 9,
+        "artifact_replies": 20,
+        "field_kinds": 27,
+        "invocation_forms": 18,
+        "message_forms": 21,
+        "pair_kinds": 17,
+        "query_forms": 20,
+        "request_demands": 43,
+        "request_effects": 168,
+        "request_rules": 94,
     },
 }
 # end of the list
@@ -65,6 +78,7 @@ def counted(top):
     for name, count in paths(top).items():
         yield "paths", name, count
         yield "whole", name, whole(top, name, "specs") + whole(top, name, "proofs")
+        yield "whole code", name, whole_code(top, name)
     for file in sorted([*top.glob("tests/*.py"), *top.glob("bench/*.py"), top / "build", top / "rdb"]):
         yield "file", str(file.relative_to(top)), len(lines_of(file))
 
@@ -92,6 +106,17 @@ def whole(top, crate, part):
     file = top / "crates" / crate / part / "Lib.antt"
     lines = lines_of(file) if file.is_file() else []
     return sum(1 + whole(top, found[1], found[2]) for found in map(HANDS_ON.fullmatch, lines) if found)
+
+
+def whole_code(top, crate):
+    """The same of its code: the crates that `pub use` names."""
+    file = top / "crates" / crate / "src/lib.rt"
+    text = file.read_text() if file.is_file() else ""
+    found = set()
+    for path, _, inside in re.findall(r"^pub use ([\w:]+?)(::\{([^}]*)\})?;", text, re.M):
+        last = path.split("::")[-1]
+        found |= {last if name.strip() == "self" else name.strip() for name in inside.split(",")} if inside else {last}
+    return sum(1 + whole_code(top, name) for name in found if (top / "crates" / name / "src").is_dir())
 
 
 def faults(top, listed):
