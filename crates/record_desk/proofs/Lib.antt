@@ -1,5 +1,5 @@
 pub mod ServiceCore
-pub mod ServiceMachine
+pub mod Machines
 pub mod ClockedLaws
 pub mod StandingLaws
 pub mod RecordingLaws

@@ -11,7 +11,7 @@ use Rattle.outside.specs.declared.clock.Clock
 use Rattle.permissions.proofs.policy.Policy.TheSendSync as policy
 use Rattle.permissions.specs.contracts.policy.Policy
 use Rattle.journal_book.proofs.book.Book.TheSendSync as book
-use Rattle.record_desk.proofs.ServiceMachine.machine.ServiceMachine.TheSendSync as machine
+use Rattle.record_desk.proofs.Machines.machine.ServiceMachine.TheSendSync as machine
 use Rattle.record_desk.specs.ServiceMachine.contracts.machine.ServiceMachine
 use Rattle.record_desk.specs.ServiceMachine.contracts.plans.RecordedPlan
 use Rattle.call_forms.specs.contracts.forms.Answer
