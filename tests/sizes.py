@@ -23,7 +23,7 @@ LIMITS = {
     "wrong bodies": (6, "wrong bodies"),
     "wide lines": (0, f"lines of code and definitions over {WIDTH} columns"),
     "file": (800, "lines in one file"),
-    "paths": (3000, "paths through crates.txt"),
+    "paths": (5000, "paths through crates.txt"),
     "whole": (4, "libraries handed on whole by its definitions and lemmas"),
     "whole code": (8, "libraries handed on whole by its code"),
 }

@@ -1,103 +1,165 @@
--- Kinds of fields of artifacts: what a value means is one thing, of its form, and what is written of
--- it is read again.
-use Rattle.std.proofs.Common.{◌≡◌, ◌≤◌, ◌<◌, ◌==◌, nat_lt, if◌then◌else◌, ℕ, zero, suc, Bool, true, false, List, [], ◌∷◌, length, decimal, Option, Some, None, option_map, Ok, refl, sym, ap, subst, ◌∙◌, arith}
+-- Kinds of fields of artifacts, which are lawful.
+use Rattle.std.proofs.Common.{◌≡◌, ◌≤◌, ◌<◌, ◌==◌, ◌⊎◌, inl, inr, nat_lt, if◌then◌else◌, ℕ, zero, suc, Bool, true, false, List, [], ◌∷◌, length, decimal}
+use Rattle.std.proofs.Common.{Option, Some, None, option_map, Ok, refl, sym, ap, subst, ◌∙◌, arith}
 use Rattle.std.specs.Str.{IsUtf8}
 use Rattle.std.proofs.lemmas.Bool.{ltb-false}
 use Rattle.std.proofs.lemmas.Option.{none-some, same_Some}
-use Rattle.std.proofs.lemmas.Str.{IsUtf8-nil}
 use Rattle.base64.specs.Engines.{standard}
 use Rattle.base64.specs.GeneralPurpose.{encode_of, decode_of, decoded_of, IsBytes}
 use Rattle.base64.proofs.EngineFacts.{decode_of-encode_of, encode_of-nil}
-use Rattle.serde_json.specs.Data.{Data, null, boolean, number, string, array, object}
+use Rattle.serde_json.specs.Data.{Data, null, boolean, number, unsigned, string, array, object}
 use Rattle.json_fields.specs.Names.{NameForm}
 use Rattle.json_fields.specs.Faults.{here}
-use Rattle.json_fields.specs.Fields.{member, optional, set_at, HoldsMaybe}
-use Rattle.json_fields.specs.Kinds.{empty_text}
+use Rattle.json_fields.specs.Fields.{optional, set_at}
+use Rattle.json_fields.specs.Kinds.{empty_text, never_empty}
+use Rattle.json_fields.specs.Texts.{IsText}
+use Rattle.json_fields.specs.Writing.{IsWritten}
 use Rattle.json_fields.specs.declared.faults.FaultKind.TheVariants.{BadValue}
+use Rattle.json_fields.specs.declared.whys.Why.{Why}
 use Rattle.json_fields.specs.declared.whys.Why.TheVariants.{OutOfRange, TooLong}
 use Rattle.json_fields.proofs.FormLaws.{GivesForm}
 use Rattle.json_fields.proofs.MeaningLaws.{text_one}
-use Rattle.field_kinds.specs.TextKinds.Contents.{contents_why, contents_why_of}
+use Rattle.json_fields.proofs.PlainLaws.{IsPlain, plain_text}
+use Rattle.field_kinds.specs.TextKinds.Contents.{contents_why, contents_why_of, Encodes}
 use Rattle.field_kinds.specs.TextKinds.Hashes.{hash_why}
+use Rattle.field_kinds.specs.TextKinds.Texts.{a_string}
 use Rattle.field_kinds.proofs.TextKinds.ContentLaws.{why_decoded, contents_written}
-use Rattle.field_kinds.specs.Defaults.{HoldsOr}
-use Rattle.field_kinds.specs.Numbers.{Said, no_number, no_whole, below_zero, says, said, beyond, a_whole, IsSaid, most_of_bytes}
-use Rattle.field_kinds.proofs.NumberLaws.{bytes_written}
+use Rattle.field_kinds.specs.Numbers.{Said, no_number, no_whole, below_zero, says, said, beyond, a_whole, IsSaid, most_of_bytes, most_of_page}
+use Rattle.field_kinds.proofs.NumberLaws.{bytes_written, page_written}
+use Rattle.field_kinds.proofs.ReadValues.{IsReadValue}
 use Rattle.field_kinds.proofs.ThereLaws.{IsThere}
-use Rattle.result_forms.specs.Fields.{IsUtf8Text}
+use Rattle.form_fields.specs.Fields.{Fields, Kind, default_field}
+use Rattle.form_fields.specs.Laws.{AreAt, AreLawful, IsLawfulKind, MayBePlain}
+use Rattle.form_fields.proofs.FieldLaws.{default_lawful}
 use Rattle.result_forms.specs.Shown.{unless_empty}
-use Rattle.result_forms.proofs.FieldLaws.{default_read, other_read, unset_read, set_read}
-use Rattle.result_forms.proofs.KindLaws.{or_one, or_form, limited_form, unbad}
+use Rattle.result_forms.proofs.KindLaws.{unbad}
 use Rattle.artifact_forms.specs.Hashes.{IsDigest, hash_text, SpellsHash}
-use Rattle.artifact_forms.specs.Fields.{type_why, a_type, IsContentType, some_contents, IsContentsOf, AreContents, a_size, unless_0, SaysSize, IsSize, a_hash, IsHashOf, IsHash}
+use Rattle.artifact_forms.specs.Fields.{some_contents, IsContentsOf, AreContents, a_size, unless_0, SaysSize, IsSize}
 use Rattle.artifact_forms.specs.Files.{contents_shown}
+use Rattle.artifact_forms.specs.Listed.{size_shown}
 use Rattle.artifact_forms.proofs.DecodedBytes.{decoded_are}
 use Rattle.artifact_forms.proofs.HashLaws.{hash_one, hash_right, hash_there}
 
--- ---- types of contents
+-- ---- what is so of texts is so of what means something as a text, or has no fault as one
 
-pub type_form : GivesForm a_type IsUtf8Text IsContentType
-type_form = limited_form type_why
+by_text : {A : Type 0} (spells : List ℕ → A → Type 0) (P : Data → A → Type 0) → ((s : List ℕ) (a : A) → spells s a → P (string s) a)
+    → (d : Data) (a : A) → IsText spells d a → P d a
+by_text spells P law null a is = absurd is
+by_text spells P law (boolean b) a is = absurd is
+by_text spells P law (number n) a is = absurd is
+by_text spells P law (string s) a is = law s a is
+by_text spells P law (array ds) a is = absurd is
+by_text spells P law (object ms) a is = absurd is
 
-pub type_empty : IsContentType []
-type_empty = (IsUtf8-nil, refl)
+by_string : (why : List ℕ → Option Why) (P : Data → Type 0) → ((s : List ℕ) → why s ≡ None → P (string s)) → (d : Data) → a_string why d ≡ None → P d
+by_string why P law null h = absurd cc
+by_string why P law (boolean b) h = absurd cc
+by_string why P law (number n) h = absurd cc
+by_string why P law (string s) h = law s (unbad (why s) h)
+by_string why P law (array ds) h = absurd cc
+by_string why P law (object ms) h = absurd cc
 
-pub type_there : IsThere a_type IsUtf8Text
-type_there null is h = absurd cc
-type_there (boolean b) is h = absurd cc
-type_there (number n) is h = absurd cc
-type_there (string s) is h = (s, (refl, is))
-type_there (array ds) is h = absurd cc
-type_there (object ms) is h = absurd cc
+-- ---- texts that are refused for a reason, and else spell a value
 
--- ---- contents
+abbrev pub string_kind : {A : Type 0} → (List ℕ → Option Why) → (List ℕ → A → Type 0) → (A → Type 0) → (A → List ℕ) → Kind A
+string_kind why spells OfForm spelling = record {
+  fault = a_string why;
+  means = IsText spells;
+  empty = empty_text;
+  blank = λ a. false;
+  OfForm = OfForm;
+  json = λ a. string (spelling a);
+  levels = 0;
+}
 
-decoded_there : (s : List ℕ) (o : Option (List ℕ)) → IsUtf8 s → decoded_of standard s ≡ o → contents_why_of o ≡ None → (bytes : List ℕ) × (s ≡ encode_of standard bytes) × IsBytes bytes
+filled : {A : Type 0} (spells : List ℕ → A → Type 0) → ((a : A) → spells [] a → ⊥) → (s : List ℕ) (a : A) → spells s a → empty_text (string s) ≡ false
+filled spells none [] a is = absurd (none a is)
+filled spells none (b ∷ bs) a is = grind arith
+
+-- no value has the empty text, and a text spells one value, which has that text
+pub string_lawful : {A : Type 0} (why : List ℕ → Option Why) (spells : List ℕ → A → Type 0) (OfForm : A → Type 0) (spelling : A → List ℕ)
+    → ((a : A) → spells [] a → ⊥) → ((s : List ℕ) (a b : A) → spells s a → spells s b → a ≡ b)
+    → ((s : List ℕ) → IsUtf8 s → why s ≡ None → (a : A) × spells s a) → ((s : List ℕ) (a : A) → spells s a → OfForm a)
+    → ((a : A) → OfForm a → (why (spelling a) ≡ None) × spells (spelling a) a) → IsLawfulKind (string_kind why spells OfForm spelling)
+string_lawful {A} why spells OfForm spelling none one there formed right = record {
+  one = text_one spells one;
+  there = λ d is no. by_string why (λ e. IsReadValue e → (a : A) × IsText spells e a) (λ s fine utf8. there s utf8 fine) d no is;
+  formed = λ d a no is. by_text spells (λ e x. OfForm x) formed d a is;
+  told = λ d a no is. by_text spells (λ e x. empty_text e ≡ false) (filled spells none) d a is;
+  again = λ a is.
+      let read = right a is in
+      record { is_set = refl; no_fault = rw (read.0) refl; meant = read.1; emptiness = filled spells none (spelling a) a read.1 };
+  plain = λ a. plain_text 0 (spelling a);
+}
+
+-- ---- hashes
+
+abbrev pub hash_kind : Kind (List ℕ)
+hash_kind = string_kind hash_why SpellsHash IsDigest hash_text
+
+no_hash : (hash : List ℕ) → SpellsHash [] hash → ⊥
+no_hash hash is = let none : [] ≡ hash_text hash = is.0 in absurd cc
+
+pub hash_lawful : IsLawfulKind hash_kind
+hash_lawful =
+    string_lawful hash_why SpellsHash IsDigest hash_text no_hash hash_one (λ s utf8 none. hash_there s none) (λ s hash is. is.1)
+    (λ hash is. (hash_right hash is, (refl, is)))
+
+-- ---- contents, which are left out where they are empty
+
+pub decodes : (s bytes : List ℕ) → s ≡ encode_of standard bytes → IsBytes bytes → decode_of standard s ≡ Ok bytes
+decodes s bytes e are = subst (λ (t : List ℕ). decode_of standard t ≡ Ok bytes) (sym e) (decode_of-encode_of standard bytes refl are)
+
+one_decoded : (s a b : List ℕ) → s ≡ encode_of standard a → IsBytes a → (s ≡ encode_of standard b) × IsBytes b → a ≡ b
+one_decoded s a b is are other = let both : Ok a ≡ Ok b = sym (decodes s a is are) ∙ decodes s b other.0 other.1 in cc
+
+contents_one : (d : Data) (a b : List ℕ) → IsContentsOf d a → IsContentsOf d b → a ≡ b
+contents_one d a b h k =
+    by_text Encodes (λ e x. IsBytes x → IsContentsOf e b → x ≡ b) (λ s x is are other. one_decoded s x b is are other) d a h.0 h.1 k
+
+decoded_there : (s : List ℕ) (o : Option (List ℕ)) → IsUtf8 s → decoded_of standard s ≡ o → contents_why_of o ≡ None
+    → (bytes : List ℕ) × IsContentsOf (string s) bytes
 decoded_there s None utf8 e h = absurd cc
-decoded_there s (Some bytes) utf8 e h = let are = decoded_are s bytes utf8 e in (bytes, are.1, are.0)
+decoded_there s (Some bytes) utf8 e h = let are = decoded_are s bytes utf8 e in (bytes, (are.1, are.0))
 
-text_contents : (s : List ℕ) → IsUtf8 s → contents_why s ≡ None → (bytes : List ℕ) × IsContentsOf (string s) bytes
-text_contents s utf8 h = let there = decoded_there s (decoded_of standard s) utf8 refl h in (there.0, (there.1, there.2))
-
-pub contents_there : IsThere some_contents IsContentsOf
-contents_there null is h = absurd cc
-contents_there (boolean b) is h = absurd cc
-contents_there (number n) is h = absurd cc
-contents_there (string s) is h = text_contents s is (unbad (contents_why s) h)
-contents_there (array ds) is h = absurd cc
-contents_there (object ms) is h = absurd cc
-
-pub contents_one : (d : Data) (a b : List ℕ) → IsContentsOf d a → IsContentsOf d b → a ≡ b
-contents_one null a b h k = absurd (h.0)
-contents_one (boolean t) a b h k = absurd (h.0)
-contents_one (number n) a b h k = absurd (h.0)
-contents_one (string s) a b h k =
-    let one : decode_of standard s ≡ Ok a = subst (λ (t : List ℕ). decode_of standard t ≡ Ok a) (sym h.0) (decode_of-encode_of standard a refl h.1) in
-    let two : decode_of standard s ≡ Ok b = subst (λ (t : List ℕ). decode_of standard t ≡ Ok b) (sym k.0) (decode_of-encode_of standard b refl k.1) in
-    let both : Ok a ≡ Ok b = sym one ∙ two in
-    cc
-contents_one (array ds) a b h k = absurd (h.0)
-contents_one (object ms) a b h k = absurd (h.0)
+contents_there : IsThere some_contents IsContentsOf
+contents_there d is none =
+    by_string contents_why (λ e. IsReadValue e → (bytes : List ℕ) × IsContentsOf e bytes)
+    (λ s fine utf8. decoded_there s (decoded_of standard s) utf8 refl fine) d none is
 
 not_long : (n : ℕ) (t : Bool) → nat_lt 1048576 n ≡ t → (if t then Some (TooLong n) else None) ≡ None → n ≤ 1048576
 not_long n true e h = absurd cc
 not_long n false e h = ltb-false 1048576 n e
 
-few_of : (s bytes : List ℕ) → contents_why s ≡ None → s ≡ encode_of standard bytes → IsBytes bytes → length bytes ≤ 1048576
-few_of s bytes none e are =
-    let decoded : decode_of standard s ≡ Ok bytes = subst (λ (t : List ℕ). decode_of standard t ≡ Ok bytes) (sym e) (decode_of-encode_of standard bytes refl are) in
-    not_long (length bytes) (nat_lt 1048576 (length bytes)) refl (sym (why_decoded s bytes decoded) ∙ none)
+few_of : (s bytes : List ℕ) → s ≡ encode_of standard bytes → some_contents (string s) ≡ None → IsBytes bytes → AreContents bytes
+few_of s bytes e none are =
+    (are, not_long (length bytes) (nat_lt 1048576 (length bytes)) refl (sym (why_decoded s bytes (decodes s bytes e are)) ∙ unbad (contents_why s) none))
 
-pub contents_form : GivesForm some_contents IsContentsOf AreContents
-contents_form null bytes none is = absurd (is.0)
-contents_form (boolean b) bytes none is = absurd (is.0)
-contents_form (number n) bytes none is = absurd (is.0)
-contents_form (string s) bytes none is = (is.1, few_of s bytes (unbad (contents_why s) none) is.0 is.1)
-contents_form (array ds) bytes none is = absurd (is.0)
-contents_form (object ms) bytes none is = absurd (is.0)
+contents_form : GivesForm some_contents IsContentsOf AreContents
+contents_form d bytes none is = by_text Encodes (λ e x. some_contents e ≡ None → IsBytes x → AreContents x) few_of d bytes is.0 none is.1
 
-pub contents_empty : AreContents []
-contents_empty = (λ i. omega arith, omega arith)
+abbrev contents_kind : Kind (List ℕ)
+contents_kind = record {
+  fault = some_contents;
+  means = IsContentsOf;
+  empty = never_empty;
+  blank = λ bytes. false;
+  OfForm = AreContents;
+  json = λ bytes. string (encode_of standard bytes);
+  levels = 0;
+}
+
+contents_lawful : IsLawfulKind contents_kind
+contents_lawful = record {
+  one = contents_one;
+  there = contents_there;
+  formed = contents_form;
+  told = λ d bytes none is. refl;
+  again = λ bytes are.
+      let w = contents_written bytes are.0 are.1 in
+      record { is_set = refl; no_fault = w.no_fault; meant = (w.meant, are.0); emptiness = refl };
+  plain = λ bytes. plain_text 0 (encode_of standard bytes);
+}
 
 shown_some : (text : List ℕ) → empty_text (string text) ≡ false → unless_empty text ≡ Some (string text)
 shown_some [] e = absurd cc
@@ -106,22 +168,28 @@ shown_some (b ∷ bs) e = refl
 some_byte : (b : ℕ) (bs : List ℕ) → (length (b ∷ bs) == 0) ≡ false
 some_byte b bs = grind arith
 
-pub contents_read : (n : NameForm) (d : Data) (bytes : List ℕ) → member n d ≡ contents_shown bytes → AreContents bytes
-    → (optional n some_contents d ≡ None) × HoldsOr IsContentsOf [] (set_at n d) bytes
-contents_read n d [] there are = default_read n d some_contents IsContentsOf [] [] (there ∙ ap unless_empty (encode_of-nil standard)) refl
-contents_read n d (b ∷ bs) there are =
-    let text : List ℕ = encode_of standard (b ∷ bs) in
-    let w = contents_written (b ∷ bs) are.0 are.1 in
-    let some : unless_empty text ≡ Some (string text) = shown_some text (w.emptiness ∙ some_byte b bs) in
-    other_read n d some_contents IsContentsOf [] (b ∷ bs) (string text) (there ∙ some) refl w.no_fault (w.meant, are.0)
+contents_or_none : (bytes : List ℕ) → AreContents bytes
+    → ((contents_shown bytes ≡ None) × (bytes ≡ [])) ⊎ (contents_shown bytes ≡ Some (string (encode_of standard bytes)))
+contents_or_none [] are = inl (ap unless_empty (encode_of-nil standard), refl)
+contents_or_none (b ∷ bs) are =
+    inr (shown_some (encode_of standard (b ∷ bs)) ((contents_written (b ∷ bs) are.0 are.1).emptiness ∙ some_byte b bs))
 
--- ---- sizes
+filled_plain : (text : List ℕ) → MayBePlain 0 (unless_empty text)
+filled_plain [] = tt
+filled_plain (b ∷ bs) = plain_text 0 (b ∷ bs)
 
-pub number_one : (d : Data) (a b : ℕ) → IsSaid d a → IsSaid d b → a ≡ b
-number_one d a b h k = let both : says a ≡ says b = sym h ∙ k in cc
+abbrev pub contents_field : NameForm → Fields (List ℕ)
+contents_field n = default_field n contents_kind [] contents_shown
 
-pub size_one : (o : Option Data) (a b : Option ℕ) → SaysSize o a → SaysSize o b → a ≡ b
-size_one o a b h k = h.is ∙ ap unless_0 (or_one IsSaid 0 number_one o h.number k.number h.said k.said) ∙ sym (k.is)
+pub contents_field_lawful : (n : NameForm) → AreLawful (contents_field n)
+contents_field_lawful n =
+    default_lawful n contents_kind contents_lawful [] contents_shown (λ i. omega arith, omega arith) contents_or_none
+    (λ bytes. filled_plain (encode_of standard bytes))
+
+-- ---- whole numbers, of which 0 is left out
+
+said_one : (d : Data) (a b : ℕ) → IsSaid d a → IsSaid d b → a ≡ b
+said_one d a b h k = let both : says a ≡ says b = sym h ∙ k in cc
 
 said_some : (most : ℕ) (s : Said) → beyond most s ≡ None → (n : ℕ) × (s ≡ says n)
 said_some most no_number h = absurd cc
@@ -129,16 +197,67 @@ said_some most no_whole h = absurd cc
 said_some most below_zero h = absurd cc
 said_some most (says n) h = (n, refl)
 
-pub number_there : (most : ℕ) → IsThere (a_whole most) IsSaid
-number_there most d is h = said_some most (said d) h
-
 within : (most n : ℕ) (t : Bool) → nat_lt most n ≡ t → (if t then Some (here (BadValue OutOfRange)) else None) ≡ None → n ≤ most
 within most n true e h = absurd cc
 within most n false e h = ltb-false most n e
 
-pub number_form : (most : ℕ) → GivesForm (a_whole most) IsSaid (λ n. n ≤ most)
-number_form most d n none is =
-    within most n (nat_lt most n) refl (subst (λ (s : Said). beyond most s ≡ None) is none)
+abbrev whole_kind : ℕ → (ℕ → Data) → Kind ℕ
+whole_kind most json = record {
+  fault = a_whole most;
+  means = IsSaid;
+  empty = never_empty;
+  blank = λ n. false;
+  OfForm = λ n. n ≤ most;
+  json = json;
+  levels = 0;
+}
+
+abbrev pub whole_field : NameForm → ℕ → (ℕ → Data) → Fields ℕ
+whole_field n most json = default_field n (whole_kind most json) 0 (λ m. option_map json (unless_0 m))
+
+module _ (json : ℕ → Data) (plain : (m : ℕ) → IsPlain 0 (json m)) where
+  said_plain : (o : Option ℕ) → MayBePlain 0 (option_map json o)
+  said_plain None = tt
+  said_plain (Some m) = plain m
+
+  whole_or_none : (m : ℕ) → ((option_map json (unless_0 m) ≡ None) × (m ≡ 0)) ⊎ (option_map json (unless_0 m) ≡ Some (json m))
+  whole_or_none zero = inl (refl, refl)
+  whole_or_none (suc m) = let some : unless_0 (suc m) ≡ Some (suc m) = grind arith in inr (ap (option_map json) some)
+
+  whole_lawful : (most : ℕ) → ((m : ℕ) → m ≤ most → IsWritten (a_whole most) IsSaid never_empty (λ _. false) m (json m)) → IsLawfulKind (whole_kind most json)
+  whole_lawful most written = record {
+    one = said_one;
+    there = λ d is none. said_some most (said d) none;
+    formed = λ d m none is. within most m (nat_lt most m) refl (subst (λ (s : Said). beyond most s ≡ None) is none);
+    told = λ d m none is. refl;
+    again = written;
+    plain = plain;
+  }
+
+  whole_field_lawful : (n : NameForm) (most : ℕ) → ((m : ℕ) → m ≤ most → IsWritten (a_whole most) IsSaid never_empty (λ _. false) m (json m))
+      → AreLawful (whole_field n most json)
+  whole_field_lawful n most written =
+      default_lawful n (whole_kind most json) (whole_lawful most written) 0 (λ m. option_map json (unless_0 m)) (omega arith) (λ m few. whole_or_none m)
+      (λ m. said_plain (unless_0 m))
+
+-- the size of a page
+abbrev pub page_json : ℕ → Data
+page_json n = number (unsigned n)
+
+pub page_shown : (n : ℕ) → size_shown n ≡ option_map page_json (unless_0 n)
+page_shown zero = refl
+page_shown (suc n) = let no : (suc n == 0) ≡ false = grind arith in rw no refl
+
+pub page_size_lawful : (n : NameForm) → AreLawful (whole_field n most_of_page page_json)
+page_size_lawful n = whole_field_lawful page_json (λ m. record { no_float = refl; deep = omega arith }) n most_of_page (page_written most_of_page)
+
+-- ---- how many bytes there are
+
+abbrev bytes_json : ℕ → Data
+bytes_json n = string (decimal n)
+
+bytes_plain : (n : ℕ) → IsPlain 0 (bytes_json n)
+bytes_plain n = plain_text 0 (decimal n)
 
 size_some : (n : ℕ) → n ≤ most_of_bytes → IsSize (unless_0 n)
 size_some zero few m e = absurd (none-some m e)
@@ -147,50 +266,37 @@ size_some (suc n) few m e =
     let same : suc n ≡ m = same_Some (suc n) m (sym some ∙ e) in
     (omega (arith, same), omega (arith, same, few))
 
-pub size_form : (n : NameForm) (d : Data) (size : Option ℕ) → optional n a_size d ≡ None → SaysSize (set_at n d) size → IsSize size
-size_form n d size none is =
-    let few : is.number ≤ most_of_bytes = or_form n a_size IsSaid 0 (λ m. m ≤ most_of_bytes) (number_form most_of_bytes) (omega arith) d is.number none is.said in
-    subst IsSize (sym is.is) (size_some is.number few)
-
 of_some : (n : ℕ) → 0 < n → Some n ≡ unless_0 n
 of_some n some = let no : (n == 0) ≡ false = grind arith in rw no refl
 
-pub size_read : (n : NameForm) (d : Data) (size : Option ℕ) → member n d ≡ option_map (λ m. string (decimal m)) size → IsSize size
-    → (optional n a_size d ≡ None) × SaysSize (set_at n d) size
-size_read n d None there is =
-    let unset = default_read n d a_size IsSaid 0 0 there refl in
-    (unset.0, record { number = 0; said = unset.1; is = refl })
-size_read n d (Some m) there is =
-    let right = is m refl in
-    let few : m ≤ most_of_bytes = right.1 in
-    let w = bytes_written most_of_bytes m few (omega (arith, few)) in
-    let found = other_read n d a_size IsSaid 0 m (string (decimal m)) there refl w.no_fault w.meant in
-    (found.0, record { number = m; said = found.1; is = of_some m right.0 })
+abbrev pub size_field : NameForm → Fields (Option ℕ)
+size_field n = record {
+  names = n ∷ [];
+  fault = optional n a_size;
+  means = λ d. SaysSize (set_at n d);
+  OfForm = IsSize;
+  members = λ o. (n, option_map bytes_json o) ∷ [];
+  levels = 0;
+}
 
--- ---- hashes
+module _ (n : NameForm) where
+  bytes_lawful : AreLawful (whole_field n most_of_bytes bytes_json)
+  bytes_lawful = whole_field_lawful bytes_json bytes_plain n most_of_bytes (λ m few. bytes_written most_of_bytes m few (omega (arith, few)))
 
-pub hash_of_one : (d : Data) (a b : List ℕ) → IsHashOf d a → IsHashOf d b → a ≡ b
-hash_of_one d a b h k = text_one SpellsHash hash_one d a b h k
+  size_again : (o : Option ℕ) (d : Data) → IsSize o → AreAt d ((n, option_map bytes_json o) ∷ []) → (optional n a_size d ≡ None) × SaysSize (set_at n d) o
+  size_again None d is at = let read = bytes_lawful.again 0 d (omega arith) at in (read.0, record { number = 0; said = read.1; is = refl })
+  size_again (Some m) d is at =
+      let right = is m refl in
+      let some : Some m ≡ unless_0 m = of_some m right.0 in
+      let read = bytes_lawful.again m d right.1 (at.0 ∙ ap (option_map bytes_json) some, tt) in
+      (read.0, record { number = m; said = read.1; is = some })
 
-pub hash_form : GivesForm a_hash IsHashOf IsDigest
-hash_form null hash none is = absurd is
-hash_form (boolean b) hash none is = absurd is
-hash_form (number n) hash none is = absurd is
-hash_form (string s) hash none is = is.1
-hash_form (array ds) hash none is = absurd is
-hash_form (object ms) hash none is = absurd is
-
-pub hash_read : (n : NameForm) (d : Data) (hash : Option (List ℕ)) → member n d ≡ option_map (λ h. string (hash_text h)) hash → IsHash hash
-    → (optional n a_hash d ≡ None) × HoldsMaybe IsHashOf (set_at n d) hash
-hash_read n d None there is = unset_read n d a_hash IsHashOf there
-hash_read n d (Some h) there is =
-    let right = is h refl in
-    set_read n d a_hash IsHashOf (string (hash_text h)) h there refl (rw (hash_right h right) refl) (refl, right)
-
-pub hash_of_there : (d : Data) → a_hash d ≡ None → (hash : List ℕ) × IsHashOf d hash
-hash_of_there null h = absurd cc
-hash_of_there (boolean b) h = absurd cc
-hash_of_there (number n) h = absurd cc
-hash_of_there (string s) h = hash_there s (unbad (hash_why s) h)
-hash_of_there (array ds) h = absurd cc
-hash_of_there (object ms) h = absurd cc
+  pub size_field_lawful : AreLawful (size_field n)
+  size_field_lawful = record {
+    one = λ d a b h k. h.is ∙ ap unless_0 (bytes_lawful.one d h.number k.number h.said k.said) ∙ sym k.is;
+    there = λ d is none. let there = bytes_lawful.there d is none in (unless_0 there.0, record { number = there.0; said = there.1; is = refl });
+    formed = λ d o none is. subst IsSize (sym is.is) (size_some is.number (bytes_lawful.formed d is.number none is.said));
+    named = λ o. refl;
+    again = size_again;
+    plain = λ o. (said_plain bytes_json bytes_plain o, tt);
+  }

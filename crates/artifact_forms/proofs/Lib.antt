@@ -11,5 +11,4 @@ pub mod BatchLaws
 pub mod NamedLaws
 pub mod TokenLaws
 pub mod ListLaws
-pub mod ThereLaws
 pub mod MethodLaws

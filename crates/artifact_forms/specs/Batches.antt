@@ -11,7 +11,7 @@ use Rattle.json_fields.specs.Writing.{list_data}
 use Rattle.json_fields.specs.declared.faults.FieldFault.{FieldFault}
 use Rattle.field_kinds.specs.TextKinds.Texts.{a_request_id, IsRequestId}
 use Rattle.field_kinds.specs.Filled.{optional_filled}
-use Rattle.result_forms.specs.Members.{object_of}
+use Rattle.form_fields.specs.Members.{object_of}
 use Rattle.artifacts.specs.Orders.{invocation_of}
 use Rattle.artifacts.specs.declared.new_artifact.NewArtifact.{NewArtifact}
 use Rattle.artifact_forms.specs.Names as name

@@ -11,7 +11,7 @@ use Rattle.json_fields.specs.Texts.{a_text, IsText, IsSame}
 use Rattle.json_fields.specs.declared.faults.FieldFault.{FieldFault}
 use Rattle.field_kinds.specs.Defaults.{HoldsOr}
 use Rattle.result_forms.specs.Fields.{IsUtf8Text}
-use Rattle.result_forms.specs.Members.{object_of}
+use Rattle.form_fields.specs.Members.{object_of}
 use Rattle.result_forms.specs.Shown.{unless_empty, text_shown}
 use Rattle.artifacts.specs.declared.new_artifact.NewArtifact.{NewArtifact}
 use Rattle.artifact_forms.specs.Names as name

@@ -1,3 +1,4 @@
+pub mod FormFields
 pub mod ResultForms
 pub mod TextKinds
 pub mod Names

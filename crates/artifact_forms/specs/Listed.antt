@@ -12,7 +12,7 @@ use Rattle.field_kinds.specs.Defaults.{HoldsOr}
 use Rattle.field_kinds.specs.Filled.{optional_filled}
 use Rattle.field_kinds.specs.Numbers.{a_whole, IsSaid, most_of_page}
 use Rattle.result_forms.specs.Fields.{text_in}
-use Rattle.result_forms.specs.Members.{object_of}
+use Rattle.form_fields.specs.Members.{object_of}
 use Rattle.artifact_forms.specs.Names as name
 use Rattle.artifact_forms.specs.Parents.{a_parent, IsParentOf}
 use Rattle.artifact_forms.specs.Tokens.{a_token, IsTokenOf, list_query, token_text}

@@ -7,7 +7,7 @@ use Rattle.json_fields.specs.Fields.{required, fault_of, filled_at, Holds}
 use Rattle.json_fields.specs.Kinds.{an_object, empty_text}
 use Rattle.json_fields.specs.Texts.{a_text, IsText}
 use Rattle.json_fields.specs.declared.faults.FieldFault.{FieldFault}
-use Rattle.result_forms.specs.Members.{object_of}
+use Rattle.form_fields.specs.Members.{object_of}
 use Rattle.artifact_forms.specs.Names as name
 
 abbrev pub an_artifact_name : Data → Option FieldFault

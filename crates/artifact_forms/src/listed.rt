@@ -8,7 +8,7 @@ ghost use Rattle.json_fields.specs.Fields.{optional, set_at};
 ghost use Rattle.field_kinds.specs.Defaults.{HoldsOr};
 ghost use Rattle.field_kinds.specs.Numbers.{a_whole, IsSaid, most_of_page};
 ghost use Rattle.result_forms.specs.Laws.{IsReadAgain};
-ghost use Rattle.result_forms.specs.Members.{put_some};
+ghost use Rattle.form_fields.specs.Members.{put_some};
 ghost use Rattle.artifact_forms.specs.Listed.{query_in, query_of, size_shown, counted_size};
 ghost use Rattle.artifact_forms.specs.Methods.{list_form};
 ghost use Rattle.artifact_forms.specs.Names.{page_size, page_token};

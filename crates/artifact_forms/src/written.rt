@@ -6,7 +6,7 @@ ghost use Rattle.serde_json.specs.Data.{string};
 ghost use Rattle.serde_json.specs.View.{view, members_view};
 ghost use Rattle.names_realms.specs.Parents.{parent_name};
 ghost use Rattle.json_fields.specs.Writing.{list_data};
-ghost use Rattle.result_forms.specs.Members.{put_some, put_all, object_of};
+ghost use Rattle.form_fields.specs.Members.{put_some, put_all, object_of};
 ghost use Rattle.result_forms.specs.Shown.{as_text, unless_empty};
 ghost use Rattle.artifact_forms.specs.Batches.{element_data};
 ghost use Rattle.artifact_forms.specs.Files.{file_of, file_data, file_members};

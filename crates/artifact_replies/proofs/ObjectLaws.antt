@@ -8,7 +8,7 @@ use Rattle.json.specs.Print.{quoted}
 use Rattle.serde_json.specs.Data.{Data, Members, no_members, member, put}
 use Rattle.serde_json.specs.Written.{comma_if, compact_text, members_text}
 use Rattle.json_fields.specs.Names.{NameForm}
-use Rattle.artifact_forms.specs.ResultForms.Members.{put_some, put_all, object_of}
+use Rattle.artifact_forms.specs.FormFields.Members.{put_some, put_all, object_of}
 use Rattle.artifact_replies.specs.Texts.{member_text}
 
 -- a name stands before those of the members

@@ -4,7 +4,7 @@ use Rattle.serde_json.specs.Data.{Data, string}
 use Rattle.json_fields.specs.NamesRealms.ArtifactNames.{artifact_name}
 use Rattle.json_fields.specs.Names.{NameForm}
 use Rattle.json_fields.specs.Writing.{list_data}
-use Rattle.artifact_forms.specs.ResultForms.Members.{object_of}
+use Rattle.artifact_forms.specs.FormFields.Members.{object_of}
 use Rattle.artifact_forms.specs.ResultForms.Shown.{text_shown}
 use Rattle.artifacts.specs.declared.artifact.Artifact.{Artifact}
 use Rattle.artifact_forms.specs.Names as name

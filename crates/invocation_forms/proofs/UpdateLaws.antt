@@ -28,7 +28,9 @@ use Rattle.invocation_forms.specs.Named.{an_invocation_name, IsNameOf, a_named, 
 use Rattle.invocation_forms.specs.Updates.{a_changed, IsChanged, Given, IsGiven, HoldsChanged, some_changes, an_update_request, IsUpdate, mask_written, changed_data, update_members, update_data, ChangesSomething, IsUpdateOfForm, update_form, mask_for, IsReadAsChanged}
 use Rattle.invocation_forms.specs.declared.masks.UpdateMask.{UpdateMask}
 use Rattle.invocation_forms.specs.declared.updates.UpdateInvocation.{UpdateInvocation}
+use Rattle.field_kinds.proofs.ReadValues.{IsReadValue}
 use Rattle.field_kinds.proofs.RequestLaws.{IsLawful, plain_within}
+use Rattle.field_kinds.proofs.ThereLaws.{there_required}
 use Rattle.invocation_forms.proofs.NamedLaws.{named_one, named_there, named_formed}
 
 -- a deadline in the years 1 to 9999, and tags of their grammar
@@ -95,13 +97,13 @@ update_one d a b h k =
     let given = holds_one (IsGiven (mask_in d)) (changed_one (mask_in d)) at (a.deadline, a.tags) (b.deadline, b.tags) h.changed_is k.changed_is in
     λ x. record { id = ids x; deadline = (given x).0; tags = (given x).1 }
 
-update_there : (d : Data) → an_update_request d ≡ None → (q : UpdateInvocation) × IsUpdate d q
+update_there : (d : Data) → IsReadValue d → an_update_request d ≡ None → (q : UpdateInvocation) × IsUpdate d q
 unfolding an_update_request
-update_there d h =
+update_there d read h =
     let one = first_right (an_object d) _ h in
     let two = first_right (required name.invocation never_empty a_named d) _ one in
     let three = first_right (required name.update_mask empty_text a_mask d) _ two in
-    let id = required_there name.invocation never_empty a_named IsNamed named_there d (first_left _ _ one) in
+    let id = there_required a_named IsNamed named_there name.invocation never_empty d read (first_left _ _ one) in
     let given = required_there name.invocation never_empty (a_changed (mask_in d)) (IsGiven (mask_in d))
     (changed_there (mask_in d)) d (first_left _ _ three) in
     (record { id = id.0; deadline = given.0.0; tags = given.0.1 }, record { id_is = id.1; changed_is = given.1 })
@@ -222,7 +224,7 @@ update_data_plain q = update_plain (mask_written q.deadline q.tags) (changed_dat
 pub update_lawful : IsLawful update_form
 update_lawful = record {
   one = update_one;
-  there = λ d is none. update_there d none;
+  there = update_there;
   formed = update_formed;
   asked = update_asked;
   plain = λ q. plain_within 4 68 (update_data q) (omega arith) (update_data_plain q);

@@ -59,15 +59,15 @@ pub record IsCreate (d : Data) (q : CreateInvocation) : Type 0 where
 -- What is written of the invocation, with what is unset or empty left out, and of the request.
 abbrev pub new_invocation_data : NewInvocation → Data
 new_invocation_data new =
-    object (put_optional name.deadline (λ z. string (moment_text z)) new.deadline
-    (put_required name.realm (λ text. string text) new.realm
+    object (put_required name.realm (λ text. string text) new.realm
+    (put_optional name.deadline (λ z. string (moment_text z)) new.deadline
     (put_list name.tags tag_data new.tags no_members)))
 
 abbrev pub create_members : Option (List ℕ) → List ℕ → Data → Data
 create_members request_id id new =
-    object (put_required name.invocation (λ d. d) new
+    object (put_optional name.request_id (λ text. string text) request_id
     (put_required name.invocation_id (λ text. string text) id
-    (put_optional name.request_id (λ text. string text) request_id no_members)))
+    (put_required name.invocation (λ d. d) new no_members)))
 
 abbrev pub create_data : CreateInvocation → Data
 create_data q = create_members q.request_id q.id (new_invocation_data q.invocation)
@@ -83,6 +83,15 @@ pub record IsCreateOfForm (q : CreateInvocation) : Type 0 where
   pub request_id : ForSome q.request_id IsRequestId
   pub id : IsInvocationId q.id
   pub invocation : IsNewOfForm q.invocation
+
+abbrev pub new_form : RequestForm NewInvocation
+new_form = record {
+  fault = a_new_invocation;
+  means = IsNewInvocation;
+  json = new_invocation_data;
+  OfForm = IsNewOfForm;
+  CanBeAsked = λ new. ⊤;
+}
 
 abbrev pub create_form : RequestForm CreateInvocation
 create_form = record {

@@ -66,8 +66,8 @@ impl NewInvocation {
     {
         let mut map = Map::new(alloc);
         write_list(alloc, &mut map, tags(), self.tags.as_slice())?;
-        write_required(alloc, &mut map, realm(), &self.realm)?;
         write_optional(alloc, &mut map, deadline(), &self.deadline)?;
+        write_required(alloc, &mut map, realm(), &self.realm)?;
         Ok(Value::Object(map))
     }
 }
@@ -120,9 +120,9 @@ fn create_value(
         (λ _. false) id.now (string id.now)) }
 {
     let mut map = Map::new(alloc);
-    write_optional(alloc, &mut map, request_id(), number)?;
-    write_required(alloc, &mut map, invocation_id(), id)?;
     put(alloc, &mut map, &invocation(), new)?;
+    write_required(alloc, &mut map, invocation_id(), id)?;
+    write_optional(alloc, &mut map, request_id(), number)?;
     Ok(Value::Object(map))
 }
 

@@ -1,88 +1,77 @@
 -- The names of a query: they name one list of invocations at most, and one where they have no
 -- fault; and what is written of it is read again.
-use Rattle.std.proofs.Common.{◌≡◌, ◌≤◌, ◌+◌, ◌<◌, ℕ, false, List, [], ◌∷◌, ◌++◌, length, map, take, get_or, Option, Some, None, refl, sym, ap, ◌∙◌, arith}
+use Rattle.std.proofs.Common.{◌≡◌, ◌≢◌, ◌≤◌, ◌+◌, ◌<◌, ℕ, false, List, [], ◌∷◌, ◌++◌, length, map, take, get_or, Option, Some, None, refl, sym, ap, ◌∙◌, arith}
 use Rattle.std.specs.Prelude.{All}
 use Rattle.std.proofs.lemmas.List.{take_more, map-append}
-use Rattle.std.proofs.lemmas.List.Elements.{All-head, All-tail}
-use Rattle.serde_json.specs.Data.{Data, null, boolean, number, string, array, object, no_items, item}
+use Rattle.serde_json.specs.Data.{Data, null, boolean, number, string, array, object}
 use Rattle.serde_json.specs.View.{items_of}
 use Rattle.names_realms.specs.Names.{IsInvocationId, invocation_name}
-use Rattle.json_fields.specs.Fields.{member, filled_at, list_of, Holds, Pairs}
-use Rattle.json_fields.specs.Kinds.{a_list, empty_list, empty_text, IsEach}
-use Rattle.json_fields.specs.Writing.{AllWritten, is_bare, list_data}
-use Rattle.json_fields.proofs.FormLaws.{GivesForm, list_form, required_form}
-use Rattle.json_fields.proofs.MeaningLaws.{each_one, each_there, first_left, first_right, holds_one, required_there}
-use Rattle.field_kinds.proofs.TextKinds.NameLaws.{name_one, name_there}
-use Rattle.json_fields.proofs.WriteLaws.{listed_written}
+use Rattle.json_fields.specs.Fields.{filled_at, list_of, Holds, Pairs}
+use Rattle.json_fields.specs.Kinds.{a_list, empty_list, IsEach}
+use Rattle.json_fields.specs.Writing.{is_bare, list_data}
+use Rattle.json_fields.proofs.MeaningLaws.{first_left, first_right}
 use Rattle.field_kinds.specs.Lists.{a_limited_list, most_names, too_many}
 use Rattle.field_kinds.proofs.ListLaws.{limit_kept, limited_written}
+use Rattle.form_fields.specs.Fields.{Fields, Kind, list_kind, required_field}
+use Rattle.form_fields.specs.Kinds.{invocation_kind}
+use Rattle.form_fields.specs.Laws.{AreLawful, IsLawfulKind}
+use Rattle.form_fields.proofs.FieldLaws.{each_told, list_lawful, required_lawful}
+use Rattle.form_fields.proofs.KindLaws.{invocation_lawful}
 use Rattle.invocation_forms.specs.Named.{an_invocation_name, IsNameOf, name_data}
-use Rattle.invocation_forms.proofs.NamedLaws.{name_form, name_written}
 use Rattle.page_tokens.specs.Tokens.{query_hash}
-use Rattle.result_forms.proofs.FieldLaws.{required_read}
-use Rattle.result_forms.proofs.KindLaws.{is_filled}
 use Rattle.query_forms.specs.Names as name
-use Rattle.query_forms.specs.Lists.{names_of_query, AreNamed, text_of, names_in, names_at, AreOfForm}
+use Rattle.query_forms.specs.Lists.{AreNamed, text_of, names_in, names_at, AreOfForm}
 use Rattle.query_forms.specs.Tokens.{query_in}
 
-pub names_one : (d : Data) (a b : List (List ℕ)) → AreNamed d a → AreNamed d b → a ≡ b
-names_one d a b h k = holds_one (IsEach IsNameOf) (each_one IsNameOf name_one) (filled_at name.invocations empty_list d) a b h k
+-- ---- the names of a query as a kind of values
 
-limited_there : (d : Data) → a_limited_list most_names an_invocation_name d ≡ None → (ids : List (List ℕ)) × IsEach IsNameOf d ids
-limited_there d h = each_there an_invocation_name IsNameOf name_there d (first_right (too_many most_names d) (a_list an_invocation_name d) h)
+abbrev pub names_kind : Kind (List (List ℕ))
+names_kind = record {
+  fault = a_limited_list most_names an_invocation_name;
+  means = IsEach IsNameOf;
+  empty = empty_list;
+  blank = is_bare;
+  OfForm = λ ids. (length ids ≤ most_names) × All IsInvocationId ids;
+  json = list_data name_data;
+  levels = 1;
+}
 
-pub names_there : (d : Data) → names_of_query d ≡ None → (ids : List (List ℕ)) × AreNamed d ids
-names_there d h = required_there name.invocations empty_list (a_limited_list most_names an_invocation_name) (IsEach IsNameOf) limited_there d h
+each_lawful : IsLawfulKind (list_kind invocation_kind)
+each_lawful = list_lawful invocation_kind invocation_lawful
 
--- ---- of their form
+pub names_lawful : IsLawfulKind names_kind
+names_lawful = record {
+  one = each_lawful.one;
+  there = λ d is none. each_lawful.there d is (first_right (too_many most_names d) (a_list an_invocation_name d) none);
+  formed = λ d ids none is. (
+    limit_kept IsNameOf most_names d ids None refl (sym (first_left (too_many most_names d) (a_list an_invocation_name d) none)) is,
+    each_lawful.formed d ids (first_right (too_many most_names d) (a_list an_invocation_name d) none) is,
+  );
+  told = λ d ids none is. each_told IsNameOf d ids is;
+  again = λ ids is. limited_written most_names an_invocation_name IsNameOf name_data ids ids refl (each_lawful.again ids is.1) is.0;
+  plain = each_lawful.plain;
+}
 
-limited_form : GivesForm (a_limited_list most_names an_invocation_name) (IsEach IsNameOf) (λ ids. (length ids ≤ most_names) × All IsInvocationId ids)
-limited_form d ids none is = (
-  limit_kept IsNameOf most_names d ids None refl (sym (first_left (too_many most_names d) (a_list an_invocation_name d) none)) is,
-  list_form an_invocation_name IsNameOf IsInvocationId name_form d ids (first_right (too_many most_names d) (a_list an_invocation_name d) none) is,
-)
+abbrev pub names_field : Fields (List (List ℕ))
+names_field = required_field name.invocations names_kind
 
-each_some : (d : Data) (ids : List (List ℕ)) → empty_list d ≡ false → IsEach IsNameOf d ids → ids ≡ [] → ⊥
-each_some null ids e is same = absurd is
-each_some (boolean b) ids e is same = absurd is
-each_some (number n) ids e is same = absurd is
-each_some (string s) ids e is same = absurd is
-each_some (array no_items) ids e is same = absurd cc
-each_some (array (item d ds)) [] e is same = absurd is
-each_some (array (item d ds)) (id ∷ ids) e is same = absurd cc
-each_some (object ms) ids e is same = absurd is
+pub names_are : AreLawful names_field
+names_are = required_lawful name.invocations names_kind names_lawful
 
-held_some : (o : Option Data) (ids : List (List ℕ)) → ((e : Data) → o ≡ Some e → empty_list e ≡ false) → Holds (IsEach IsNameOf) o ids → ids ≡ [] → ⊥
-held_some None ids some holds = absurd holds
-held_some (Some d) ids some holds = each_some d ids (some d refl) holds
-
-pub names_formed : (d : Data) (ids : List (List ℕ)) → names_of_query d ≡ None → AreNamed d ids → AreOfForm ids
-names_formed d ids none is =
-    let held = required_form name.invocations empty_list (a_limited_list most_names an_invocation_name) (IsEach IsNameOf)
-    (λ ids. (length ids ≤ most_names) × All IsInvocationId ids) limited_form d ids none is in
-    record {
-      some = held_some (filled_at name.invocations empty_list d) ids (is_filled name.invocations empty_list d) is;
-      few = held.0;
-      grammar = held.1;
-    }
-
--- ---- what is written
-
-all_written : (ids : List (List ℕ)) → All IsInvocationId ids → AllWritten an_invocation_name IsNameOf empty_text (λ _. false) name_data ids
-all_written [] all = tt
-all_written (id ∷ ids) all = (name_written id (All-head IsInvocationId id ids all), all_written ids (All-tail IsInvocationId id ids all))
-
-some_ids : (ids : List (List ℕ)) → (ids ≡ [] → ⊥) → is_bare ids ≡ false
+some_ids : (ids : List (List ℕ)) → ids ≢ [] → is_bare ids ≡ false
 some_ids [] some = absurd (some refl)
 some_ids (id ∷ ids) some = grind arith
 
-pub names_written : (d : Data) (ids : List (List ℕ)) → AreOfForm ids → member name.invocations d ≡ Some (list_data name_data ids)
-    → (names_of_query d ≡ None) × AreNamed d ids
-names_written d ids is there =
-    let w = limited_written most_names an_invocation_name IsNameOf name_data ids ids refl
-    (listed_written an_invocation_name IsNameOf empty_text (λ _. false) name_data ids (all_written ids is.grammar)) is.few in
-    required_read name.invocations d (a_limited_list most_names an_invocation_name) (IsEach IsNameOf) empty_list (list_data name_data ids) ids there w.is_set
-    (w.emptiness ∙ some_ids ids is.some) w.no_fault w.meant
+not_bare : (ids : List (List ℕ)) → is_bare ids ≡ false → ids ≢ []
+not_bare [] some e = absurd cc
+not_bare (id ∷ ids) some e = cc
+
+-- the form of the names, in the words of the field and of a query
+pub names_in_form : (ids : List (List ℕ)) → AreOfForm ids → names_field.OfForm ids
+names_in_form ids of = ((of.few, of.grammar), some_ids ids of.some)
+
+pub names_of_form : (ids : List (List ℕ)) → names_field.OfForm ids → AreOfForm ids
+names_of_form ids of = record { some = not_bare ids of.1; few = of.0.0; grammar = of.0.1 }
 
 -- ---- the names as they are written
 

@@ -1,27 +1,28 @@
 -- Page tokens: a text is one cursor's at most, and some cursor's where it has no fault; and a token
 -- that is written is read again.
-use Rattle.std.proofs.Common.{◌≡◌, ℕ, suc, ◌+◌, ◌^◌, ◌<◌, ◌==◌, true, false, List, [], ◌∷◌, ◌++◌, length, get_or, Option, Some, None, IfSome, option_map, refl, sym, ap, subst, ◌∙◌, arith}
+use Rattle.std.proofs.Common.{◌≡◌, ℕ, suc, ◌+◌, ◌^◌, ◌<◌, ◌==◌, true, false, List, [], ◌∷◌, ◌++◌, length, get_or, Option, Some, None, IfSome, option_map, map, refl, sym, ap, subst, ◌∙◌, arith}
 use Rattle.std.specs.Option.{ForSome, option_or}
 use Rattle.std.specs.Int.{w32, to_le_bytes, from_le_bytes}
 use Rattle.std.specs.Str.{IsUtf8}
 use Rattle.std.proofs.lemmas.Nat.{le_bytes_4, from_le_bytes-to_le_bytes_4}
 use Rattle.std.proofs.lemmas.List.{append-nil}
+use Rattle.std.proofs.lemmas.Option.{none-some, same_Some}
 use Rattle.std.specs.Prelude.{if◌then◌else◌}
-use Rattle.serde_json.specs.Data.{Data, null, boolean, number, string, array, object, Members}
+use Rattle.serde_json.specs.Data.{Data, null, boolean, number, string, array, object}
 use Rattle.base64.specs.Engines.{standard}
 use Rattle.base64.specs.GeneralPurpose.{IsBytes, decoded_of, encode_of}
 use Rattle.base64.proofs.Streams.{decoded_of-nil}
 use Rattle.sha2.proofs.Facts256.{length-sha256}
-use Rattle.json_fields.specs.Fields.{filled_at, member, HoldsMaybe}
+use Rattle.names_realms.specs.Names.{invocation_name}
 use Rattle.json_fields.specs.Kinds.{empty_text}
-use Rattle.json_fields.specs.Writing.{IsWritten, put_optional}
+use Rattle.json_fields.specs.Writing.{IsWritten}
 use Rattle.json_fields.proofs.FormLaws.{GivesForm}
-use Rattle.json_fields.proofs.MeaningLaws.{maybe_one, text_one}
-use Rattle.field_kinds.specs.Defaults.{HoldsOr}
-use Rattle.field_kinds.proofs.FilledLaws.{filled_form, filled_written}
-use Rattle.field_kinds.specs.Filled.{optional_filled}
-use Rattle.field_kinds.proofs.ReadValues.{IsReadValue}
-use Rattle.field_kinds.proofs.ThereLaws.{IsThere, there_or_filled}
+use Rattle.json_fields.proofs.MeaningLaws.{text_one}
+use Rattle.json_fields.proofs.PlainLaws.{plain_text}
+use Rattle.field_kinds.proofs.ThereLaws.{IsThere}
+use Rattle.form_fields.specs.Fields.{Fields, Kind, filled_field}
+use Rattle.form_fields.specs.Laws.{AreLawful, IsLawfulKind}
+use Rattle.form_fields.proofs.FieldLaws.{filled_lawful}
 use Rattle.page_tokens.specs.declared.faults.TokenFault.{TokenFault}
 use Rattle.page_tokens.specs.declared.faults.TokenFault.TheVariants.{NotBase64, BadForm, OtherQuery, Memory}
 use Rattle.page_tokens.specs.declared.keys.KeyPart.{KeyPart}
@@ -35,7 +36,7 @@ use Rattle.page_tokens.specs.Tokens.{IsToken, bytes_fault, decoded_fault, front_
 use Rattle.page_tokens.proofs.KindLemmas.{one_byte}
 use Rattle.page_tokens.proofs.TokenLemmas.{at_front, no_fault, one_told, only_tokens}
 use Rattle.query_forms.specs.Names as name
-use Rattle.query_forms.specs.Tokens.{CursorForm, result_cursors, verdict_cursors, token_refused, a_token, IsTokenOf, IsCursor, a_page_token, IsPageToken, query_in, token_text, IsCursorOfForm}
+use Rattle.query_forms.specs.Tokens.{CursorForm, result_cursors, verdict_cursors, token_refused, a_token, IsTokenOf, IsCursor, token_text, IsCursorOfForm}
 use Rattle.query_forms.proofs.DecodedLaws.{decoded_is, utf8_bytes}
 
 -- What the laws ask of a kind of cursors: what the parts of one hold is this one's, and each that
@@ -130,46 +131,34 @@ module _ {C : Type 0} (f : CursorForm C) (law : IsLawfulCursor f) where
   cursor_one : (query : List ℕ) (d : Data) (a b : C) → IsCursor f query d a → IsCursor f query d b → a ≡ b
   cursor_one query d a b h k = text_one (IsTokenOf f query) (text_one_cursor query) d a b h k
 
-  pub page_token_one : (method : List ℕ) (d : Data) (a b : Option C) → IsPageToken f method d a → IsPageToken f method d b → a ≡ b
-  page_token_one method d a b h k = maybe_one (IsCursor f (query_in method d)) (cursor_one (query_in method d)) (filled_at name.page_token empty_text d) a b h k
+-- ---- the cursor of a token as a kind of values
 
--- ---- a field of a request
-
-query_size : (method : List ℕ) (names : List (List ℕ)) → length (query_hash method names) ≡ 32
+pub query_size : (method : List ℕ) (names : List (List ℕ)) → length (query_hash method names) ≡ 32
 unfolding query_hash
 query_size method names = length-sha256 _
 
-abbrev IsOne : {C : Type 0} → (Data → C → Type 0) → Data → Option C → Type 0
-IsOne means d None = ⊥
-IsOne means d (Some c) = means d c
+-- the token of a cursor is one
+abbrev pub HasToken : {C : Type 0} → CursorForm C → List ℕ → C → Type 0
+HasToken f query c = IsTokenOf f query (token_text f query c) c
 
-or_none : {C : Type 0} (means : Data → C → Type 0) (o : Option Data) (a : Option C) → HoldsOr (IsOne means) None o a → HoldsMaybe means o a
-or_none means None None h = tt
-or_none means None (Some c) h = cc h
-or_none means (Some d) None h = h
-or_none means (Some d) (Some c) h = h
+abbrev pub cursor_kind : {C : Type 0} → CursorForm C → List ℕ → Kind C
+cursor_kind f query = record {
+  fault = a_token f query;
+  means = IsCursor f query;
+  empty = empty_text;
+  blank = λ c. false;
+  OfForm = HasToken f query;
+  json = λ c. string (token_text f query c);
+  levels = 0;
+}
 
-pub page_token_there : {C : Type 0} (f : CursorForm C) → IsLawfulCursor f → (method : List ℕ) (d : Data) → IsReadValue d → a_page_token f method d ≡ None
-    → (a : Option C) × IsPageToken f method d a
-page_token_there f law method d is h =
-    let query : List ℕ = query_in method d in
-    let size : length query ≡ 32 = query_size method _ in
-    let found = there_or_filled (a_token f query) (IsOne (IsCursor f query)) (λ e read none. let c = cursor_there f law query size e read none in (Some c.0, c.1))
-    name.page_token empty_text None d is h in
-    (found.0, or_none (IsCursor f query) (filled_at name.page_token empty_text d) found.0 found.1)
-
-cursor_formed : {C : Type 0} (f : CursorForm C) (query : List ℕ) → GivesForm (a_token f query) (IsCursor f query) (IsCursorOfForm f)
+cursor_formed : {C : Type 0} (f : CursorForm C) (query : List ℕ) → GivesForm (a_token f query) (IsCursor f query) (HasToken f query)
 cursor_formed f query null c none is = absurd is
 cursor_formed f query (boolean b) c none is = absurd is
 cursor_formed f query (number n) c none is = absurd is
-cursor_formed f query (string s) c none is = record { are = is.is_token.are; fits = is.fits }
+cursor_formed f query (string s) c none is = subst (λ (text : List ℕ). IsTokenOf f query text c) is.is_token.spelling is
 cursor_formed f query (array ds) c none is = absurd is
 cursor_formed f query (object ms) c none is = absurd is
-
-pub page_token_formed : {C : Type 0} (f : CursorForm C) (method : List ℕ) (d : Data) (a : Option C) → a_page_token f method d ≡ None → IsPageToken f method d a
-    → ForSome a (IsCursorOfForm f)
-page_token_formed f method d a none is =
-    filled_form name.page_token empty_text (a_token f (query_in method d)) (IsCursor f (query_in method d)) (IsCursorOfForm f) (cursor_formed f (query_in method d)) d a none is
 
 -- ---- what is written
 
@@ -194,21 +183,45 @@ token_written f query c size is =
       emptiness = some_text query f.number f.parts (token_text f query c) right;
     }
 
--- beside members without its name it is read again as a token of what the request asks
-pub token_kept : {C : Type 0} (f : CursorForm C) (method query : List ℕ) (o : Option C) (ms : Members) → member name.page_token (object ms) ≡ None
-    → let d : Data = object (put_optional name.page_token (λ c. string (token_text f query c)) o ms) in query_in method d ≡ query
-    → IfSome o (λ c. IsWritten (a_token f query) (IsCursor f query) empty_text (λ _. false) c (string (token_text f query c)))
-    → (a_page_token f method d ≡ None) × IsPageToken f method d o
-token_kept f method query o ms none same w =
-    let d : Data = object (put_optional name.page_token (λ c. string (token_text f query c)) o ms) in
-    let read = filled_written (a_token f query) (IsCursor f query) empty_text (λ _. false) (λ c. string (token_text f query c)) name.page_token o ms none (each_some o w) in
-    subst (λ (q : List ℕ). (optional_filled name.page_token empty_text (a_token f q) d ≡ None) × HoldsMaybe (IsCursor f q) (filled_at name.page_token empty_text d) o)
-    (sym same) read
-  where
-    each_some : (o : _) → IfSome o (λ c. IsWritten (a_token f query) (IsCursor f query) empty_text (λ _. false) c (string (token_text f query c)))
-        → IfSome o (λ c. IsWritten (a_token f query) (IsCursor f query) empty_text (λ _. false) c (string (token_text f query c)) × (false ≡ false))
-    each_some None w = tt
-    each_some (Some c) w = (w, refl)
+cursor_told : {C : Type 0} (f : CursorForm C) (query : List ℕ) → length query ≡ 32 → (d : Data) (c : C) → IsCursor f query d c → empty_text d ≡ false
+cursor_told f query size null c is = absurd is
+cursor_told f query size (boolean b) c is = absurd is
+cursor_told f query size (number n) c is = absurd is
+cursor_told f query size (string s) c is = some_text query f.number f.parts s (no_fault query f.number f.parts (f.held c) s size is.is_token)
+cursor_told f query size (array ds) c is = absurd is
+cursor_told f query size (object ms) c is = absurd is
+
+pub cursor_lawful : {C : Type 0} (f : CursorForm C) → IsLawfulCursor f → (query : List ℕ) → length query ≡ 32 → IsLawfulKind (cursor_kind f query)
+cursor_lawful f law query size = record {
+  one = cursor_one f law query;
+  there = cursor_there f law query size;
+  formed = cursor_formed f query;
+  told = λ d c none is. cursor_told f query size d c is;
+  again = λ c is. token_written f query c size is;
+  plain = λ c. plain_text 0 (token_text f query c);
+}
+
+-- ---- a token and what the profile leaves out, beside the names of a query
+
+abbrev pub query_of : List ℕ → List (List ℕ) → List ℕ
+query_of method ids = query_hash method (map invocation_name ids)
+
+abbrev pub token_field : {C : Type 0} → CursorForm C → List ℕ → Fields (Option C)
+token_field f query = filled_field name.page_token (cursor_kind f query)
+
+pub token_are : {C : Type 0} (f : CursorForm C) → IsLawfulCursor f → (method : List ℕ) (ids : List (List ℕ)) → AreLawful (token_field f (query_of method ids))
+token_are f law method ids =
+    filled_lawful name.page_token (cursor_kind f (query_of method ids)) (cursor_lawful f law (query_of method ids) (query_size method (map invocation_name ids))) (λ c is. refl)
+
+-- what is written of a token is one
+pub tokens_written : {C : Type 0} (f : CursorForm C) (query : List ℕ) (o : Option C)
+    → IfSome o (λ c. IsWritten (a_token f query) (IsCursor f query) empty_text (λ _. false) c (string (token_text f query c))) → ForSome o (HasToken f query)
+tokens_written f query None w c e = absurd (none-some c e)
+tokens_written f query (Some b) w c e = subst (HasToken f query) (same_Some b c e) w.meant
+
+-- a cursor with a token is of its form
+pub tokens_of_form : {C : Type 0} (f : CursorForm C) (query : List ℕ) (o : Option C) → ForSome o (HasToken f query) → ForSome o (IsCursorOfForm f)
+tokens_of_form f query o are c e = let is = are c e in record { are = is.is_token.are; fits = is.fits }
 
 -- ---- the kinds of cursors
 

@@ -1,158 +1,136 @@
--- Requests for a page of verdicts.
-use Rattle.std.proofs.Common.{◌≡◌, ℕ, false, List, Some, None, IfSome, refl, ◌∙◌, arith}
-use Rattle.serde_json.specs.Data.{Data, Members, no_members, object, string}
-use Rattle.json_fields.specs.Fields.{member}
+-- Requests for a page of verdicts, made of their fields.
+use Rattle.std.proofs.Common.{◌≡◌, ℕ, false, List, [], ◌∷◌, Option, None, IfSome, refl, sym, ap, subst, ◌∙◌, arith}
+use Rattle.std.specs.Prelude.{⊤}
+use Rattle.std.specs.Option.{ForSome}
+use Rattle.serde_json.specs.Data.{Data, string}
+use Rattle.json_fields.specs.Faults.{first}
+use Rattle.json_fields.specs.Fields.{filled_at, optional, HoldsMaybe}
 use Rattle.json_fields.specs.Kinds.{an_object, empty_text}
-use Rattle.json_fields.specs.Writing.{IsWritten, list_data, put_required}
+use Rattle.json_fields.specs.Writing.{IsWritten}
+use Rattle.json_fields.specs.declared.faults.FieldFault.{FieldFault}
 use Rattle.json_fields.proofs.FormLaws.{GivesForm}
-use Rattle.json_fields.proofs.MeaningLaws.{first_left, first_right}
-use Rattle.json_fields.proofs.PlainLaws.{IsPlain, no_members_plain, plain-put, plain-put_optional, plain_object, plain_text}
-use Rattle.json_fields.proofs.WriteLaws.{kept_none, kept_set, member_beside_optional, member_other, member_put, optional_lost}
+use Rattle.field_kinds.specs.Filled.{optional_filled}
 use Rattle.field_kinds.specs.OutsideProfile.{an_empty_message, an_empty_text}
-use Rattle.field_kinds.proofs.ReadValues.{IsReadValue}
-use Rattle.field_kinds.proofs.RequestLaws.{IsLawful, plain_within}
-use Rattle.invocation_forms.specs.Named.{name_data}
-use Rattle.names_realms.specs.Names.{invocation_name}
+use Rattle.field_kinds.specs.Requests.{RequestForm}
+use Rattle.field_kinds.proofs.RequestLaws.{IsLawful}
+use Rattle.form_fields.specs.Fields.{Fields, beside, both, last, unused_field}
+use Rattle.form_fields.specs.Laws.{AreLawful, IsMadeOf}
+use Rattle.form_fields.proofs.FieldLaws.{after_object, beside_lawful, both_lawful, last_lawful, unused_lawful}
+use Rattle.form_fields.proofs.MemberLaws.{put_optional_is}
+use Rattle.form_fields.proofs.RequestLaws.{read_again, request_formed, request_lawful}
 use Rattle.page_tokens.specs.declared.kinds.VerdictCursor.{VerdictCursor}
 use Rattle.result_forms.specs.Laws.{IsReadAgain}
-use Rattle.result_forms.proofs.PlainLaws.{list_plain}
 use Rattle.query_forms.specs.Names as name
 use Rattle.query_forms.specs.Lists.{names_of_query}
-use Rattle.query_forms.specs.Variants.{IsVariantsOfForm, IsVariantsQuery, a_variants_query, variants_data, variants_form, variants_method, variants_query}
-use Rattle.query_forms.specs.Sizes.{a_size, put_size}
+use Rattle.query_forms.specs.Variants.{IsVariantsOfForm, a_variants_query, variants_form, variants_method, variants_query}
+use Rattle.query_forms.specs.Sizes.{a_size}
 use Rattle.query_forms.specs.Tokens.{IsCursor, a_page_token, a_token, verdict_cursors, token_text}
 use Rattle.query_forms.specs.declared.variants.QueryTestVariants.{QueryTestVariants}
-use Rattle.query_forms.proofs.ListLaws.{asked_as_written, names_formed, names_one, names_there, names_written}
-use Rattle.query_forms.proofs.SizeLaws.{member_beside_size, plain-put_size, size_formed, size_one, size_there, size_written}
-use Rattle.query_forms.proofs.TokenLaws.{page_token_formed, page_token_one, page_token_there, verdict_cursor_lawful, token_kept}
+use Rattle.query_forms.proofs.ListLaws.{asked_as_written, names_are, names_field, names_in_form, names_of_form}
+use Rattle.query_forms.proofs.SizeLaws.{put_size_is, size_are, size_field}
+use Rattle.query_forms.proofs.TokenLaws.{HasToken, query_of, token_are, token_field, tokens_of_form, tokens_written, verdict_cursor_lawful}
 
-variants_one : (d : Data) (a b : QueryTestVariants) → IsVariantsQuery d a → IsVariantsQuery d b → a ≡ b
-variants_one d a b h k =
-    let invocations : a.invocations ≡ b.invocations = names_one d a.invocations b.invocations h.invocations_are k.invocations_are in
-    let result_limit : a.result_limit ≡ b.result_limit = size_one name.result_limit d a.result_limit b.result_limit h.result_limit_is k.result_limit_is in
-    let page_size : a.page_size ≡ b.page_size = size_one name.page_size d a.page_size b.page_size h.page_size_is k.page_size_is in
-    let page_token : a.page_token ≡ b.page_token = page_token_one verdict_cursors verdict_cursor_lawful variants_method d a.page_token b.page_token h.page_token_is k.page_token_is in
-    λ i. record { invocations = invocations i; result_limit = result_limit i; page_size = page_size i; page_token = page_token i }
+-- the names, how many results of a verdict are shown, and the size of a page
+abbrev asked_fields : Fields (List (List ℕ) × (ℕ × ℕ))
+asked_fields = both names_field (both (size_field name.result_limit) (size_field name.page_size))
 
--- the fields up to the token have no fault
-record AreRight (d : Data) : Type 0 where
-  names : names_of_query d ≡ None
-  limit : a_size name.result_limit d ≡ None
-  size : a_size name.page_size d ≡ None
-  token : a_page_token verdict_cursors variants_method d ≡ None
+asked_are : AreLawful asked_fields
+asked_are = both_lawful names_field _ names_are (both_lawful _ _ (size_are name.result_limit) (size_are name.page_size))
 
-right_fields : (d : Data) → a_variants_query d ≡ None → AreRight d
+-- and what is judged beside the names, or is outside the profile
+abbrev rest_fields : List (List ℕ) → Fields (Option VerdictCursor × (⊤ × (⊤ × ⊤)))
+rest_fields ids =
+    both (token_field verdict_cursors (query_of variants_method ids))
+    (both (unused_field name.predicate an_empty_message)
+    (both (unused_field name.read_mask an_empty_message) (last (unused_field name.order_by an_empty_text))))
+
+rest_are : (ids : List (List ℕ)) → AreLawful (rest_fields ids)
+rest_are ids =
+    both_lawful _ _ (token_are verdict_cursors verdict_cursor_lawful variants_method ids)
+    (both_lawful _ _ (unused_lawful name.predicate an_empty_message)
+    (both_lawful _ _ (unused_lawful name.read_mask an_empty_message) (last_lawful _ (unused_lawful name.order_by an_empty_text))))
+
+abbrev unread : Data → Option FieldFault
+unread d = first (optional name.predicate an_empty_message d) (first (optional name.read_mask an_empty_message d) (first (optional name.order_by an_empty_text d) None))
+
+abbrev rest_fault : Data → Option FieldFault
+rest_fault d = first (a_page_token verdict_cursors variants_method d) (unread d)
+
+same_rest : (d : Data) (v : List (List ℕ) × (ℕ × ℕ)) → asked_fields.means d v → rest_fault d ≡ (rest_fields v.0).fault d
+same_rest d v is =
+    ap (λ (query : List ℕ). first (optional_filled name.page_token empty_text (a_token verdict_cursors query) d) (unread d)) (asked_as_written variants_method d v.0 is.0)
+
+abbrev variants_fields : Fields ((List (List ℕ) × (ℕ × ℕ)) × (Option VerdictCursor × (⊤ × (⊤ × ⊤))))
+variants_fields =
+    beside asked_fields (λ v. rest_fields v.0) rest_fault (name.page_token ∷ name.predicate ∷ name.read_mask ∷ name.order_by ∷ []) 0
+
+variants_are : AreLawful variants_fields
+variants_are =
+    beside_lawful asked_fields (λ v. rest_fields v.0) rest_fault (name.page_token ∷ name.predicate ∷ name.read_mask ∷ name.order_by ∷ []) 0 asked_are (λ v. rest_are v.0)
+    (λ d v none is. same_rest d v is) (λ v. refl) (λ v. omega arith)
+
+-- the form of requests whose cursor has a token, as it has where it is written or read
+abbrev told_form : RequestForm QueryTestVariants
+told_form = record {
+  fault = variants_form.fault;
+  means = variants_form.means;
+  json = variants_form.json;
+  OfForm = λ q. IsVariantsOfForm q × ForSome q.page_token (HasToken verdict_cursors (variants_query q));
+  CanBeAsked = IsVariantsOfForm;
+}
+
+abbrev IsTokenAsked : List ℕ → Data → Option VerdictCursor → Type 0
+IsTokenAsked query d o = HoldsMaybe (IsCursor verdict_cursors query) (filled_at name.page_token empty_text d) o
+
+variants_made : IsMadeOf told_form variants_fields
 unfolding a_variants_query
-right_fields d h =
-    let one = first_right (an_object d) _ h in
-    let two = first_right (names_of_query d) _ one in
-    let three = first_right (a_size name.result_limit d) _ two in
-    let four = first_right (a_size name.page_size d) _ three in
-    record { names = first_left _ _ one; limit = first_left _ _ two; size = first_left _ _ three; token = first_left _ _ four }
-
-variants_there : (d : Data) → IsReadValue d → a_variants_query d ≡ None → (q : QueryTestVariants) × IsVariantsQuery d q
-variants_there d is h =
-    let right = right_fields d h in
-    let names = names_there d right.names in
-    let limit = size_there name.result_limit d is right.limit in
-    let size = size_there name.page_size d is right.size in
-    let token = page_token_there verdict_cursors verdict_cursor_lawful variants_method d is right.token in (
-      record { invocations = names.0; result_limit = limit.0; page_size = size.0; page_token = token.0 },
-      record { invocations_are = names.1; result_limit_is = limit.1; page_size_is = size.1; page_token_is = token.1 },
-    )
-
-variants_formed : GivesForm a_variants_query IsVariantsQuery IsVariantsOfForm
-variants_formed d q none is =
-    let right = right_fields d none in
+variants_made = record {
+  made = λ v. record { invocations = v.0.0; result_limit = v.0.1.0; page_size = v.0.1.1; page_token = v.1.0 };
+  parts = λ q. ((q.invocations, (q.result_limit, q.page_size)), (q.page_token, (tt, (tt, tt))));
+  held = λ v. refl;
+  whole = λ d q is. refl;
+  faults = λ d.
+      ap (first (an_object d))
+      (sym (after_object (names_of_query d) (first (a_size name.result_limit d) (a_size name.page_size d)) (rest_fault d)
+      ∙ ap (first (names_of_query d)) (after_object (a_size name.result_limit d) (a_size name.page_size d) (rest_fault d))));
+  told = λ d q is.
+      let token = subst (λ (query : List ℕ). IsTokenAsked query d q.page_token) (asked_as_written variants_method d q.invocations is.invocations_are) is.page_token_is in
+      ((is.invocations_are, (is.result_limit_is, is.page_size_is)), (token, (tt, (tt, tt))));
+  said = λ d q of is. record {
+    invocations_are = is.0.0;
+    result_limit_is = is.0.1.0;
+    page_size_is = is.0.1.1;
+    page_token_is = subst (λ (query : List ℕ). IsTokenAsked query d q.page_token) (sym (asked_as_written variants_method d q.invocations is.0.0)) is.1.0;
+  };
+  in_form = λ q of. ((names_in_form q.invocations of.0.invocations, (of.0.result_limit, of.0.page_size)), (of.1, (tt, (tt, tt))));
+  of_form = λ v of. (
     record {
-      invocations = names_formed d q.invocations right.names is.invocations_are;
-      result_limit = size_formed name.result_limit d q.result_limit right.limit is.result_limit_is;
-      page_size = size_formed name.page_size d q.page_size right.size is.page_size_is;
-      page_token = page_token_formed verdict_cursors variants_method d q.page_token right.token is.page_token_is;
-    }
-
--- what is written is read again
-pub variants_again : (q : QueryTestVariants) → IsVariantsOfForm q
-    → IfSome q.page_token (λ c. IsWritten (a_token verdict_cursors (variants_query q)) (IsCursor verdict_cursors (variants_query q)) empty_text (λ _. false) c
-    (string (token_text verdict_cursors (variants_query q) c)))
-    → IsReadAgain variants_form q
-unfolding a_variants_query
-variants_again q is w =
-    let query : List ℕ = variants_query q in
-    let json : VerdictCursor → Data = λ c. string (token_text verdict_cursors query c) in
-    let named : Members = put_required name.invocations (list_data name_data) q.invocations no_members in
-    let limited : Members = put_size name.result_limit q.result_limit named in
-    let sized : Members = put_size name.page_size q.page_size limited in
-    let d : Data = variants_data q in
-    let behind : member name.page_size d ≡ member name.page_size (object sized) = member_beside_optional name.page_size name.page_token json q.page_token sized refl refl in
-    let there : member name.invocations d ≡ Some (list_data name_data q.invocations) =
-    member_beside_optional name.invocations name.page_token json q.page_token sized refl refl
-    ∙ member_beside_size name.invocations name.page_size q.page_size limited refl refl
-    ∙ member_beside_size name.invocations name.result_limit q.result_limit named refl refl
-    ∙ member_put name.invocations (list_data name_data q.invocations) no_members in
-    let no_token : member name.page_token (object sized) ≡ None =
-    member_beside_size name.page_token name.page_size q.page_size limited refl refl
-    ∙ member_beside_size name.page_token name.result_limit q.result_limit named refl refl
-    ∙ member_other name.page_token name.invocations (list_data name_data q.invocations) no_members refl refl in
-    let no_predicate : member name.predicate d ≡ None =
-    member_beside_optional name.predicate name.page_token json q.page_token sized refl refl
-    ∙ member_beside_size name.predicate name.page_size q.page_size limited refl refl
-    ∙ member_beside_size name.predicate name.result_limit q.result_limit named refl refl
-    ∙ member_other name.predicate name.invocations (list_data name_data q.invocations) no_members refl refl in
-    let no_mask : member name.read_mask d ≡ None =
-    member_beside_optional name.read_mask name.page_token json q.page_token sized refl refl
-    ∙ member_beside_size name.read_mask name.page_size q.page_size limited refl refl
-    ∙ member_beside_size name.read_mask name.result_limit q.result_limit named refl refl
-    ∙ member_other name.read_mask name.invocations (list_data name_data q.invocations) no_members refl refl in
-    let no_order : member name.order_by d ≡ None =
-    member_beside_optional name.order_by name.page_token json q.page_token sized refl refl
-    ∙ member_beside_size name.order_by name.page_size q.page_size limited refl refl
-    ∙ member_beside_size name.order_by name.result_limit q.result_limit named refl refl
-    ∙ member_other name.order_by name.invocations (list_data name_data q.invocations) no_members refl refl in
-    let around : member name.result_limit d ≡ member name.result_limit (object limited) =
-    member_beside_optional name.result_limit name.page_token json q.page_token sized refl refl
-    ∙ member_beside_size name.result_limit name.page_size q.page_size limited refl refl in
-    let names = names_written d q.invocations is.invocations there in
-    let limit = size_written name.result_limit q.result_limit named is.result_limit
-    (member_other name.result_limit name.invocations (list_data name_data q.invocations) no_members refl refl) in
-    let size = size_written name.page_size q.page_size limited is.page_size
-    (member_beside_size name.page_size name.result_limit q.result_limit named refl refl
-    ∙ member_other name.page_size name.invocations (list_data name_data q.invocations) no_members refl refl) in
-    let token = token_kept verdict_cursors variants_method query q.page_token sized no_token (asked_as_written variants_method d q.invocations names.1) w in (
+      invocations = names_of_form v.0.0 of.0.0;
+      result_limit = of.0.1.0;
+      page_size = of.0.1.1;
+      page_token = tokens_of_form verdict_cursors (query_of variants_method v.0.0) v.1.0 of.1.0;
+    },
+    of.1.0,
+  );
+  members = λ q.
       rw (
-        names.0,
-        kept_none name.result_limit _ d (object limited) around limit.0,
-        kept_none name.page_size _ d (object sized) behind size.0,
-        token.0,
-        optional_lost name.predicate d an_empty_message no_predicate,
-        optional_lost name.read_mask d an_empty_message no_mask,
-        optional_lost name.order_by d an_empty_text no_order,
-      ) refl,
-      record {
-        invocations_are = names.1;
-        result_limit_is = rw (kept_set name.result_limit d (object limited) around) limit.1;
-        page_size_is = rw (kept_set name.page_size d (object sized) behind) size.1;
-        page_token_is = token.1;
-      },
-    )
+        put_size_is name.result_limit q.result_limit,
+        put_size_is name.page_size q.page_size,
+        put_optional_is name.page_token (λ c. string (token_text verdict_cursors (variants_query q) c)) q.page_token,
+      ) refl;
+  apart = refl;
+}
 
-variants_plain : (q : QueryTestVariants) → IsPlain 3 (variants_data q)
-variants_plain q =
-    let named : Members = put_required name.invocations (list_data name_data) q.invocations no_members in
-    let one = plain-put 2 name.invocations.camel (list_data name_data q.invocations) no_members
-    (plain_within 1 2 _ (omega arith) (list_plain 0 name_data q.invocations (λ id. plain_text 0 (invocation_name id)))) (no_members_plain 2) in
-    let two = plain-put_size 2 name.result_limit q.result_limit named one in
-    let limited : Members = put_size name.result_limit q.result_limit named in
-    let three = plain-put_size 2 name.page_size q.page_size limited two in
-    plain_object 2 _
-    (plain-put_optional 2 name.page_token (λ (c : VerdictCursor). string (token_text verdict_cursors (variants_query q) c)) q.page_token
-    (put_size name.page_size q.page_size limited) (λ c. plain_text 2 (token_text verdict_cursors (variants_query q) c)) three)
+variants_asked : GivesForm told_form.fault told_form.means told_form.CanBeAsked
+variants_asked d q none is = (request_formed told_form variants_fields variants_made variants_are d q none is).0
 
 pub variants_lawful : IsLawful variants_form
-variants_lawful = record {
-  one = variants_one;
-  there = variants_there;
-  formed = variants_formed;
-  asked = variants_formed;
-  plain = λ q. plain_within 3 68 (variants_data q) (omega arith) (variants_plain q);
-}
+variants_lawful =
+    let law = request_lawful told_form variants_fields variants_made variants_are variants_asked (omega arith) in
+    record { one = law.one; there = law.there; formed = variants_asked; asked = variants_asked; plain = law.plain }
+
+-- what is written is read again, where the token is written so
+pub variants_again : (q : QueryTestVariants) → variants_form.CanBeAsked q
+    → IfSome q.page_token (λ c. IsWritten (a_token verdict_cursors (variants_query q)) (IsCursor verdict_cursors (variants_query q)) empty_text (λ _. false) c
+    (string (token_text verdict_cursors (variants_query q) c))) → IsReadAgain variants_form q
+variants_again q is w = read_again told_form variants_fields variants_made variants_are q (is, tokens_written verdict_cursors (variants_query q) q.page_token w)

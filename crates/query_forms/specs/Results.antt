@@ -49,10 +49,10 @@ results_query q = query_hash results_method (map invocation_name q.invocations)
 -- what is written of the request, with what is unset or 0 left out
 abbrev pub results_members : QueryTestResults → Members
 results_members q =
-    put_optional name.page_token
-    (λ c. string (token_text result_cursors (results_query q) c)) q.page_token
+    put_required name.invocations (list_data name_data) q.invocations
     (put_size name.page_size q.page_size
-    (put_required name.invocations (list_data name_data) q.invocations no_members))
+    (put_optional name.page_token
+    (λ c. string (token_text result_cursors (results_query q) c)) q.page_token no_members))
 
 abbrev pub results_data : QueryTestResults → Data
 results_data q = object (results_members q)

@@ -53,11 +53,11 @@ variants_query q = query_hash variants_method (map invocation_name q.invocations
 -- what is written of the request, with what is unset or 0 left out
 abbrev pub variants_members : QueryTestVariants → Members
 variants_members q =
-    put_optional name.page_token
-    (λ c. string (token_text verdict_cursors (variants_query q) c)) q.page_token
-    (put_size name.page_size q.page_size
+    put_required name.invocations (list_data name_data) q.invocations
     (put_size name.result_limit q.result_limit
-    (put_required name.invocations (list_data name_data) q.invocations no_members)))
+    (put_size name.page_size q.page_size
+    (put_optional name.page_token
+    (λ c. string (token_text verdict_cursors (variants_query q) c)) q.page_token no_members)))
 
 abbrev pub variants_data : QueryTestVariants → Data
 variants_data q = object (variants_members q)

@@ -87,9 +87,9 @@ impl QueryTestResults {
     {
         let mut map = Map::new(alloc);
         let (names, query) = asked(alloc, METHOD, self.invocations.as_slice())?;
-        put(alloc, &mut map, &invocations(), names)?;
-        put_size(alloc, &mut map, page_size(), &self.page_size)?;
         put_page_token(alloc, &mut map, &query, &self.page_token)?;
+        put_size(alloc, &mut map, page_size(), &self.page_size)?;
+        put(alloc, &mut map, &invocations(), names)?;
         Ok(Value::Object(map))
     }
 }

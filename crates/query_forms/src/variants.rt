@@ -101,10 +101,10 @@ impl QueryTestVariants {
     {
         let mut map = Map::new(alloc);
         let (names, query) = asked(alloc, METHOD, self.invocations.as_slice())?;
-        put(alloc, &mut map, &invocations(), names)?;
-        put_size(alloc, &mut map, result_limit(), &self.result_limit)?;
-        put_size(alloc, &mut map, page_size(), &self.page_size)?;
         put_page_token(alloc, &mut map, &query, &self.page_token)?;
+        put_size(alloc, &mut map, page_size(), &self.page_size)?;
+        put_size(alloc, &mut map, result_limit(), &self.result_limit)?;
+        put(alloc, &mut map, &invocations(), names)?;
         Ok(Value::Object(map))
     }
 }

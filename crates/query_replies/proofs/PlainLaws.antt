@@ -9,7 +9,10 @@ use Rattle.json_fields.proofs.PlainLaws.{IsPlain, plain_text}
 use Rattle.json_fields.specs.Names.{NameForm}
 use Rattle.result_forms.proofs.FieldKinds.RequestLaws.{plain_within}
 use Rattle.result_forms.specs.Shown.{flag_shown, properties_shown, tags_shown, text_shown, variant_shown}
-use Rattle.result_forms.proofs.PlainLaws.{EachPlain, MayBePlain, list_plain, members_plain, result_plain}
+use Rattle.form_fields.specs.Laws.{EachPlain, MayBePlain}
+use Rattle.form_fields.proofs.MemberLaws.{object_plain}
+use Rattle.result_forms.proofs.PlainLaws.{list_plain}
+use Rattle.result_forms.proofs.RowLaws.{result_plain}
 use Rattle.test_results.specs.declared.result.TestResult.{TestResult}
 use Rattle.query_pages.specs.VerdictMasks.Masks.{Hidden, Seen}
 use Rattle.query_pages.specs.Seen.{SeenHeld, SeenVerdict, seen_held, seen_verdict}
@@ -81,7 +84,7 @@ pub seen_plain : (held : SeenHeld) → IsPlain 65 (seen_data held)
 seen_plain held =
     let s : Seen = held.result in
     let all : EachPlain 64 (result_members (row_of s)) = result_plain (row_of s) in
-    members_plain 64 (seen_members held) (
+    object_plain 64 (seen_members held) (
       plain_text 64 (name_of_seen held),
       (
         any_text s.label,
@@ -138,14 +141,14 @@ paired_plain None = tt
 paired_plain (Some pairs) = any_pairs pairs
 
 outcome_plain : (held : SeenHeld) → IsPlain 66 (outcome_data held)
-outcome_plain held = members_plain 65 ((name.outcome, Some (seen_data held)) ∷ []) (seen_plain held, tt)
+outcome_plain held = object_plain 65 ((name.outcome, Some (seen_data held)) ∷ []) (seen_plain held, tt)
 
 exoneration_plain : (o : Option (List ℕ)) → IsPlain 66 (exoneration_data o)
-exoneration_plain o = plain_within 65 66 (exoneration_data o) (omega arith) (members_plain 64 ((field.explanation_html, option_and_then text_shown o) ∷ []) (told_plain o, tt))
+exoneration_plain o = plain_within 65 66 (exoneration_data o) (omega arith) (object_plain 64 ((field.explanation_html, option_and_then text_shown o) ∷ []) (told_plain o, tt))
 
 pub verdict_plain : (verdict : SeenVerdict) → IsPlain 68 (verdict_data verdict)
 verdict_plain verdict =
-    members_plain 67 (verdict_members verdict) (
+    object_plain 67 (verdict_members verdict) (
       plain_text 67 verdict.test,
       (
         raised 67 (option_and_then variant_shown verdict.variant) (omega arith) (paired_plain verdict.variant),
@@ -170,7 +173,7 @@ verdict_plain verdict =
 page_plain : {A : Type 0} (n : ℕ) (rows : NameForm) (shown : A → Data) (xs : List A) (next : Option (List ℕ)) → 64 ≤ n → ((a : A) → IsPlain n (shown a))
     → IsPlain (n + 1 + 1) (page_data rows shown xs next)
 page_plain n rows shown xs next few law =
-    members_plain (n + 1) ((rows, list_shown shown xs) ∷ (name.next_page_token, option_and_then text_shown next) ∷ [])
+    object_plain (n + 1) ((rows, list_shown shown xs) ∷ (name.next_page_token, option_and_then text_shown next) ∷ [])
     (listed_plain n shown xs law, (raised (n + 1) (option_and_then text_shown next) (omega arith) (told_plain next), tt))
 
 pub pages_plain : ShowsPlain

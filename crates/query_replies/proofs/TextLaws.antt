@@ -12,7 +12,7 @@ use Rattle.serde_json.specs.View.{items_of, view}
 use Rattle.serde_json.specs.Written.{comma_if, compact_text, has_float, items_text, members_text}
 use Rattle.serde_json.specs.declared.value.Value.{Value}
 use Rattle.json_fields.specs.Names.{NameForm}
-use Rattle.result_forms.specs.Members.{put_all, put_some}
+use Rattle.form_fields.specs.Members.{put_all, put_some}
 use Rattle.result_forms.specs.Shown.{text_shown, unless_empty, as_text}
 use Rattle.query_replies.specs.Names as name
 use Rattle.query_replies.specs.Pages.{page_data, reply_of}

@@ -7,7 +7,7 @@ use Rattle.names_realms.specs.Variants.{label_of, pair_bytes}
 use Rattle.names_realms.specs.declared.pairs.Pair.{Pair}
 use Rattle.sha2.specs.Sha256.{sha256}
 use Rattle.sha2.proofs.Facts256.{length-sha256}
-use Rattle.result_forms.specs.Members.{object_of}
+use Rattle.form_fields.specs.Members.{object_of}
 use Rattle.result_forms.specs.Names as field
 use Rattle.result_forms.specs.Replies.{name_of_result}
 use Rattle.result_forms.specs.Results.{result_members}

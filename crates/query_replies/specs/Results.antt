@@ -4,7 +4,7 @@ use Rattle.serde_json.specs.Data.{Data, string}
 use Rattle.names_realms.specs.ResultNames.{result_name}
 use Rattle.json_fields.specs.Names.{NameForm}
 use Rattle.result_forms.specs.TextKinds.Statuses.{status_name}
-use Rattle.result_forms.specs.Members.{object_of}
+use Rattle.form_fields.specs.Members.{object_of}
 use Rattle.result_forms.specs.Names as field
 use Rattle.result_forms.specs.Shown.{flag_shown, moment_data, properties_shown, reason_shown, span_data, tags_shown, text_shown, variant_shown}
 use Rattle.query_pages.specs.VerdictMasks.Masks.{Hidden, Seen}

@@ -3,7 +3,7 @@ use Rattle.std.specs.Prelude.{ℕ, List, [], ◌∷◌, codes, Option, Some, Non
 use Rattle.serde_json.specs.Data.{Data, string}
 use Rattle.json_fields.specs.Names.{NameForm}
 use Rattle.json_fields.specs.Writing.{list_data}
-use Rattle.result_forms.specs.Members.{object_of}
+use Rattle.form_fields.specs.Members.{object_of}
 use Rattle.result_forms.specs.Names as field
 use Rattle.result_forms.specs.Shown.{flag_shown, text_shown, variant_shown}
 use Rattle.query_pages.specs.VerdictLists.declared.verdict.VerdictStatus.{VerdictStatus}

@@ -9,10 +9,11 @@ ghost use Rattle.query_replies.specs.Verdicts.{exoneration_data, list_shown, out
 
 use crate::names::outcome;
 use crate::results::held_value;
+use form_fields::put_some;
 use lists::Bytes;
 use query_pages::HeldResult;
+use result_forms::bytes_value;
 use result_forms::names::explanation_html;
-use result_forms::{bytes_value, put_some};
 use serde_json::{Map, Value};
 use std::alloc::{AllocError, Global};
 

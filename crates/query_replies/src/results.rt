@@ -1,13 +1,14 @@
 //! A result that is shown, as JSON.
 ghost use Rattle.std.specs.Prelude.{◌≡◌, IfOk, OnOk, option_map, string_bytes};
 ghost use Rattle.serde_json.specs.View.{view, members_view};
-ghost use Rattle.result_forms.specs.Members.{put_all};
+ghost use Rattle.form_fields.specs.Members.{put_all};
 ghost use Rattle.result_forms.specs.Shown.{properties_shown, tags_shown, text_shown, variant_shown};
 ghost use Rattle.query_pages.specs.VerdictMasks.Masks.{seen};
 ghost use Rattle.query_pages.specs.Seen.{seen_held};
 ghost use Rattle.query_replies.specs.Results.{more_seen, name_of_seen, seen_data, unless_hidden, what_seen};
 
 use crate::names::is_masked;
+use form_fields::put_some;
 use query_pages::HeldResult;
 use query_pages::verdict_masks::ShownResult;
 use result_forms::names::{
@@ -15,8 +16,8 @@ use result_forms::names::{
     summary_html, tags, test_id, variant, variant_hash,
 };
 use result_forms::{
-    bytes_value, flag_value, name_of_result, properties_value, put_some, reason_value,
-    spelled_value, status_value, tags_value, text_value, variant_value,
+    bytes_value, flag_value, name_of_result, properties_value, reason_value, spelled_value,
+    status_value, tags_value, text_value, variant_value,
 };
 use serde_json::{Map, Value};
 use std::alloc::{AllocError, Global};

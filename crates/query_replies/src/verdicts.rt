@@ -8,11 +8,12 @@ ghost use Rattle.query_replies.specs.Verdicts.{verdict_data, verdict_status};
 
 use crate::listed::{exonerations_value, outcomes_value};
 use crate::names::{exonerations, is_masked, results};
+use form_fields::put_some;
 use names_realms::Variant;
 use query_pages::ShownVerdict;
 use query_pages::verdict_lists::VerdictStatus;
 use result_forms::names::{status, test_id, variant, variant_hash};
-use result_forms::{bytes_value, flag_value, put_some, text_value, variant_value};
+use result_forms::{bytes_value, flag_value, text_value, variant_value};
 use serde_json::{Map, Value};
 use std::alloc::{AllocError, Global};
 

@@ -1,85 +1,30 @@
--- Batches: what is written of one is read again; a value says one at most, of its form.
-use Rattle.std.proofs.Common.{◌≡◌, ℕ, true, false, List, [], ◌∷◌, Option, Some, None, option_map, refl, sym, subst, ◌∙◌, arith}
-use Rattle.std.specs.Prelude.{All}
-use Rattle.std.specs.Option.{ForSome}
-use Rattle.std.proofs.lemmas.List.Elements.{All-head, All-tail}
-use Rattle.std.proofs.lemmas.Option.{none-some, same_Some}
-use Rattle.serde_json.specs.Data.{Data, null, boolean, number, string, array, object, no_members, no_items, item}
-use Rattle.names_realms.specs.Names.{invocation_name, invocation_name_fault, IsInvocationId, IsInvocationName}
+-- Batches, made of their fields: the elements are judged beside the batch's invocation and number.
+use Rattle.std.proofs.Common.{◌≡◌, ◌≢◌, ◌==◌, ℕ, Bool, true, false, List, [], ◌∷◌, length, Option, Some, None, if◌then◌else◌, option_and_then, refl, sym, ap, subst, ◌∙◌, arith}
+use Rattle.std.specs.Prelude.{⊤}
+use Rattle.serde_json.specs.Data.{Data, null, boolean, number, string, array, object}
+use Rattle.names_realms.specs.Names.{invocation_name, IsInvocationName}
 use Rattle.json_fields.specs.Names.{NameForm}
-use Rattle.json_fields.specs.Fields.{member, set, required, optional, fault_optional, filled_at, set_at, Holds, HoldsMaybe}
-use Rattle.json_fields.specs.Kinds.{an_object, a_list, empty_text, empty_list, never_empty, IsEach}
-use Rattle.json_fields.specs.Texts.{IsText, IsSame}
-use Rattle.json_fields.specs.Writing.{AllWritten, list_data, is_bare}
-use Rattle.json_fields.specs.declared.names.Step.TheVariants.{Member}
-use Rattle.json_fields.specs.Faults.{Says}
+use Rattle.json_fields.specs.Faults.{first, Says}
+use Rattle.json_fields.specs.Fields.{filled, filled_at, member, required, set, set_at, Holds, HoldsMaybe}
+use Rattle.json_fields.specs.Kinds.{a_list, an_object, empty_list, empty_text, never_empty}
+use Rattle.json_fields.specs.Texts.{IsSame, IsText}
+use Rattle.json_fields.specs.Writing.{is_bare}
 use Rattle.json_fields.specs.declared.faults.ReadFault.{ReadFault}
 use Rattle.json_fields.proofs.ListLaws.{stops}
-use Rattle.json_fields.proofs.FormLaws.{GivesForm, text_form, list_form, required_form}
-use Rattle.json_fields.proofs.MeaningLaws.{first_left, first_right, moved_none, holds_one, maybe_one, each_one, same_one}
-use Rattle.field_kinds.proofs.TextKinds.NameLaws.{name_one, invocation_name_spelled}
-use Rattle.json_fields.proofs.WriteLaws.{differ, listed_written, member_put, member_other, optional_lost}
 use Rattle.field_kinds.specs.Beside.{a_same_text}
 use Rattle.field_kinds.specs.Filled.{optional_filled}
+use Rattle.field_kinds.specs.Requests.{RequestForm}
+use Rattle.field_kinds.specs.TextKinds.Texts.{a_request_id}
+use Rattle.form_fields.specs.Fields.{Fields, Kind, beside, both, filled_field, last, list_kind, object_kind, required_field, unused_field}
+use Rattle.form_fields.specs.Kinds.{invocation_kind, request_id_kind}
+use Rattle.form_fields.specs.Laws.{AreLawful, IsLawfulKind, IsMadeOf, all_apart}
+use Rattle.form_fields.proofs.FieldLaws.{after_object, beside_lawful, both_lawful, filled_lawful, last_lawful, list_lawful, required_lawful, unused_lawful}
+use Rattle.form_fields.proofs.KindLaws.{invocation_lawful, request_id_filled, request_id_lawful}
+use Rattle.form_fields.proofs.RequestLaws.{object_lawful}
+use Rattle.result_forms.specs.Batches.{Batch, RowForm, a_batch, an_element, element_data, elements, IsBatchOfForm, IsElement}
+use Rattle.result_forms.specs.Fields.{an_invocation_name, text_in}
+use Rattle.result_forms.specs.Methods.{batch_form}
 use Rattle.result_forms.specs.Names as name
-use Rattle.field_kinds.specs.TextKinds.Texts.{a_request_id, request_id_why, IsRequestId}
-use Rattle.field_kinds.proofs.TextKinds.TextLaws.{only_request_ids_are_read, request_id_form}
-use Rattle.result_forms.specs.Fields.{an_invocation_name, IsNameOf, text_in}
-use Rattle.result_forms.specs.Batches.{Batch, RowForm, an_element, elements, a_batch, IsElement, IsBatch, element_data, batch_members, batch_data, IsBatchOfForm}
-use Rattle.result_forms.proofs.MemberLaws.{member_of, two_names, one_name}
-use Rattle.result_forms.proofs.FieldLaws.{required_read, spelled_read, empty_read, filled_read}
-use Rattle.result_forms.proofs.KindLaws.{unbad, is_filled}
-
--- What the laws of batches ask of their rows: a value means one row at most, of its form; a row of
--- its form is written so that it is read again; and its member is none of the element's others.
-pub record IsLawfulRow {A : Type 0} (f : RowForm A) : Type 0 where
-  pub one : (d : Data) (a b : A) → f.means d a → f.means d b → a ≡ b
-  pub formed : GivesForm f.fault f.means f.OfForm
-  pub is_set : (a : A) → set (f.json a) ≡ Some (f.json a)
-  pub again : (a : A) → f.OfForm a → (f.fault (f.json a) ≡ None) × f.means (f.json a) a
-  pub no_invocation : differ name.invocation.camel f.member.camel ≡ true
-  pub no_request : differ name.request_id.camel f.member.camel ≡ true
-  pub no_request_proto : differ name.request_id.proto f.member.camel ≡ true
-
--- texts that aren't empty, and lists
-some_text : (text : List ℕ) → (text ≡ [] → ⊥) → empty_text (string text) ≡ false
-some_text [] some = absurd (some refl)
-some_text (b ∷ bs) some = grind arith
-
-name_form : GivesForm an_invocation_name IsNameOf IsInvocationId
-name_form = text_form invocation_name_fault (λ text id. IsInvocationName id text) IsInvocationId (λ s a none is. is.1)
-
-request_right : (d : Data) (text : List ℕ) → a_request_id d ≡ None → IsText IsSame d text → request_id_why text ≡ None
-request_right null text none is = absurd is
-request_right (boolean b) text none is = absurd is
-request_right (number n) text none is = absurd is
-request_right (string s) text none is = subst (λ (t : List ℕ). request_id_why t ≡ None) (sym is) (unbad (request_id_why s) none)
-request_right (array ds) text none is = absurd is
-request_right (object ms) text none is = absurd is
-
-request_formed : (o : Option Data) (a : Option (List ℕ))
-    → fault_optional name.request_id a_request_id o ≡ None → HoldsMaybe (IsText IsSame) o a → ForSome a IsRequestId
-request_formed None None none holds b e = absurd (none-some b e)
-request_formed None (Some a) none holds b e = absurd holds
-request_formed (Some d) None none holds b e = absurd holds
-request_formed (Some d) (Some a) none holds b e =
-    subst IsRequestId (same_Some a b e)
-    (request_id_form a (request_right d a (moved_none (Member name.request_id) (a_request_id d) none) holds))
-
-each_some : {A : Type 0} (means : Data → A → Type 0) (d : Data) (rows : List A) → empty_list d ≡ false → IsEach means d rows → rows ≡ [] → ⊥
-each_some means null rows e is same = absurd is
-each_some means (boolean b) rows e is same = absurd is
-each_some means (number n) rows e is same = absurd is
-each_some means (string s) rows e is same = absurd is
-each_some means (array no_items) rows e is same = absurd cc
-each_some means (array (item d ds)) [] e is same = absurd is
-each_some means (array (item d ds)) (r ∷ rows) e is same = absurd cc
-each_some means (object ms) rows e is same = absurd is
-
-rows_some : {A : Type 0} (means : Data → A → Type 0) (o : Option Data) (rows : List A) → ((e : Data) → o ≡ Some e → empty_list e ≡ false)
-    → Holds (IsEach means) o rows → rows ≡ [] → ⊥
-rows_some means None rows some holds = absurd holds
-rows_some means (Some d) rows some holds = each_some means d rows (some d refl) holds
 
 -- a batch's fault is that of its elements where the fields before them have none
 pub batch_stops : {A : Type 0} (f : RowForm A) (d : Data) (e : ReadFault) (i n r : NameForm) (invocation request_id : List ℕ)
@@ -98,94 +43,165 @@ batch_stops f d e i n r invocation request_id is_i is_n is_r one two three inner
     subst (λ (t : List ℕ). Says e (required name.requests empty_list (a_list (an_element f (text_in (set_at name.invocation d)) t)) d)) other beside in
     rw (one, two_is, three_is) (stops e (elements f d) None whole)
 
--- ---- what is written is read again
+-- ---- the text of a field, by what it means
+
+abbrev told_text : {A : Type 0} → (A → List ℕ) → Option A → List ℕ
+told_text spelling None = []
+told_text spelling (Some a) = spelling a
+
+module _ {A : Type 0} (spells : List ℕ → A → Type 0) (spelling : A → List ℕ) (law : (s : List ℕ) (a : A) → spells s a → s ≡ spelling a) where
+  string_seen : (s : List ℕ) (t : Bool) (o : Option A) → (length s == 0) ≡ t → HoldsMaybe (IsText spells) (if t then None else Some (string s)) o
+      → s ≡ told_text spelling o
+  string_seen [] true None e h = refl
+  string_seen (b ∷ bs) true None e h = absurd (let some : (length (b ∷ bs) == 0) ≡ false = grind arith in cc)
+  string_seen s true (Some a) e h = absurd h
+  string_seen s false None e h = absurd h
+  string_seen s false (Some a) e h = law s a h
+
+  seen : (m : Option Data) (o : Option A) → HoldsMaybe (IsText spells) (option_and_then (filled empty_text) m) o
+      → text_in (option_and_then set m) ≡ told_text spelling o
+  seen None None h = refl
+  seen None (Some a) h = absurd h
+  seen (Some null) None h = refl
+  seen (Some null) (Some a) h = absurd h
+  seen (Some (boolean b)) None h = absurd h
+  seen (Some (boolean b)) (Some a) h = absurd h
+  seen (Some (number n)) None h = absurd h
+  seen (Some (number n)) (Some a) h = absurd h
+  seen (Some (string s)) o h = string_seen s (length s == 0) o refl h
+  seen (Some (array ds)) None h = absurd h
+  seen (Some (array ds)) (Some a) h = absurd h
+  seen (Some (object ms)) None h = absurd h
+  seen (Some (object ms)) (Some a) h = absurd h
+
+  text_seen : (n : NameForm) (d : Data) (o : Option A) → HoldsMaybe (IsText spells) (filled_at n empty_text d) o → text_in (set_at n d) ≡ told_text spelling o
+  unfolding filled_at set_at
+  text_seen n d o h = seen (member n d) o h
+
+held_some : {A : Type 0} (means : Data → A → Type 0) (o : Option Data) (a : A) → Holds means o a → HoldsMaybe means o (Some a)
+held_some means None a h = absurd h
+held_some means (Some d) a h = h
+
+-- ---- elements
+
+-- a row as a kind of values
+abbrev pub row_kind : {A : Type 0} → RowForm A → Kind A
+row_kind f = record {
+  fault = f.fault;
+  means = f.means;
+  empty = never_empty;
+  blank = λ row. false;
+  OfForm = f.OfForm;
+  json = f.json;
+  levels = 65;
+}
+
+-- A row is lawful, and its member is none of the element's others.
+pub record IsLawfulRow {A : Type 0} (f : RowForm A) : Type 0 where
+  pub row : IsLawfulKind (row_kind f)
+  pub apart : all_apart (name.invocation ∷ name.request_id ∷ f.member ∷ []) ≡ true
+
+abbrev element_fields : {A : Type 0} → RowForm A → List ℕ → List ℕ → Fields (⊤ × (⊤ × A))
+element_fields f invocation request_id =
+    both (unused_field name.invocation (a_same_text invocation))
+    (both (unused_field name.request_id (a_same_text request_id)) (last (required_field f.member (row_kind f))))
+
+abbrev element_form : {A : Type 0} → RowForm A → List ℕ → List ℕ → RequestForm A
+element_form f invocation request_id = record {
+  fault = an_element f invocation request_id;
+  means = IsElement f;
+  json = element_data f;
+  OfForm = f.OfForm;
+  CanBeAsked = f.OfForm;
+}
+
+abbrev element_kind : {A : Type 0} → RowForm A → List ℕ → List ℕ → Kind A
+element_kind f invocation request_id = object_kind (element_form f invocation request_id) (element_fields f invocation request_id)
+
+-- ---- batches
+
+abbrev whose_fields : Fields (List ℕ × Option (List ℕ))
+whose_fields = both (required_field name.invocation invocation_kind) (filled_field name.request_id request_id_kind)
+
+whose_are : AreLawful whose_fields
+whose_are =
+    both_lawful _ _ (required_lawful name.invocation invocation_kind invocation_lawful)
+    (filled_lawful name.request_id request_id_kind request_id_lawful request_id_filled)
+
+abbrev rows_fields : {A : Type 0} → RowForm A → List ℕ × Option (List ℕ) → Fields (List A)
+rows_fields f whose = last (required_field name.requests (list_kind (element_kind f (invocation_name whose.0) (told_text (λ text. text) whose.1))))
+
+abbrev pub batch_fields : {A : Type 0} → RowForm A → Fields ((List ℕ × Option (List ℕ)) × List A)
+batch_fields f = beside whose_fields (rows_fields f) (λ d. first (elements f d) None) (name.requests ∷ []) 67
 
 module _ {A : Type 0} (f : RowForm A) (law : IsLawfulRow f) where
-  element_right : (invocation request_id : List ℕ) (a : A) → f.OfForm a
-      → (an_element f invocation request_id (element_data f a) ≡ None) × IsElement f (element_data f a) a
+  element_are : (invocation request_id : List ℕ) → AreLawful (element_fields f invocation request_id)
+  element_are invocation request_id =
+      both_lawful _ _ (unused_lawful name.invocation (a_same_text invocation))
+      (both_lawful _ _ (unused_lawful name.request_id (a_same_text request_id)) (last_lawful _ (required_lawful f.member (row_kind f) law.row)))
+
+  element_made : (invocation request_id : List ℕ) → IsMadeOf (element_form f invocation request_id) (element_fields f invocation request_id)
   unfolding an_element
-  element_right invocation request_id a is =
-      let d : Data = element_data f a in
-      let there : member f.member d ≡ Some (f.json a) = member_put f.member (f.json a) no_members in
-      let one : optional name.invocation (a_same_text invocation) d ≡ None =
-      optional_lost name.invocation d (a_same_text invocation) (member_other name.invocation f.member (f.json a) no_members law.no_invocation law.no_invocation) in
-      let two : optional name.request_id (a_same_text request_id) d ≡ None =
-      optional_lost name.request_id d (a_same_text request_id) (member_other name.request_id f.member (f.json a) no_members law.no_request law.no_request_proto) in
-      let row = law.again a is in
-      let three = required_read f.member d f.fault f.means never_empty (f.json a) a there (law.is_set a) refl row.0 row.1 in
-      (rw (one, two, three.0) refl, three.1)
+  element_made invocation request_id = record {
+    made = λ v. v.1.1;
+    parts = λ row. (tt, (tt, row));
+    held = λ v. refl;
+    whole = λ d row is. refl;
+    faults = λ d. refl;
+    told = λ d row is. (tt, (tt, is));
+    said = λ d row of is. is.1.1;
+    in_form = λ row of. (tt, (tt, (of, refl)));
+    of_form = λ v of. of.1.1.0;
+    members = λ row. refl;
+    apart = law.apart;
+  }
 
-  elements_written : (invocation request_id : List ℕ) (rows : List A) → All f.OfForm rows
-      → AllWritten (an_element f invocation request_id) (IsElement f) never_empty (λ _. false) (element_data f) rows
-  elements_written invocation request_id [] all = tt
-  elements_written invocation request_id (a ∷ rows) all =
-      let one = element_right invocation request_id a (All-head f.OfForm a rows all) in
-      (record { is_set = refl; no_fault = one.0; meant = one.1; emptiness = refl }, elements_written invocation request_id rows (All-tail f.OfForm a rows all))
+  element_lawful : (invocation request_id : List ℕ) → IsLawfulKind (element_kind f invocation request_id)
+  element_lawful invocation request_id = object_lawful _ _ (element_made invocation request_id) (element_are invocation request_id)
 
-  some_rows : (rows : List A) → (rows ≡ [] → ⊥) → is_bare rows ≡ false
-  some_rows [] some = absurd (some refl)
-  some_rows (a ∷ rows) some = grind arith
+  rows_are : (whose : List ℕ × Option (List ℕ)) → AreLawful (rows_fields f whose)
+  rows_are whose =
+      let elements = element_lawful (invocation_name whose.0) (told_text (λ text. text) whose.1) in
+      last_lawful _ (required_lawful name.requests _ (list_lawful _ elements))
 
-  request_id_read : (d : Data) (o : Option (List ℕ)) → member name.request_id d ≡ option_map string o → ForSome o IsRequestId
-      → (optional_filled name.request_id empty_text a_request_id d ≡ None) × HoldsMaybe (IsText IsSame) (filled_at name.request_id empty_text d) o
-  request_id_read d None there is = empty_read name.request_id d a_request_id (IsText IsSame) empty_text there
-  request_id_read d (Some text) there is =
-      let right = is text refl in
-      filled_read name.request_id d a_request_id (IsText IsSame) empty_text (string text) text there refl (some_text text right.filled) (rw ((only_request_ids_are_read text).1 right) refl) refl
+  same_elements : (d : Data) (whose : List ℕ × Option (List ℕ)) → whose_fields.means d whose → first (elements f d) None ≡ (rows_fields f whose).fault d
+  same_elements d whose is =
+      let named = held_some (IsText (λ text id. IsInvocationName id text)) (filled_at name.invocation empty_text d) whose.0 is.0 in
+      let inner = text_seen (λ text id. IsInvocationName id text) invocation_name (λ s id h. h.0) name.invocation d (Some whose.0) named in
+      let numbered = text_seen IsSame (λ text. text) (λ s text h. sym h) name.request_id d whose.1 is.1 in
+      ap (λ (of : List ℕ). first (required name.requests empty_list (a_list (an_element f of (text_in (set_at name.request_id d)))) d) None) inner
+      ∙ ap (λ (of : List ℕ). first (required name.requests empty_list (a_list (an_element f (invocation_name whose.0) of)) d) None) numbered
 
-  pub batch_written : (b : Batch A) → IsBatchOfForm f b → (a_batch f (batch_data f b) ≡ None) × IsBatch f (batch_data f b) b
+  pub batch_are : AreLawful (batch_fields f)
+  batch_are =
+      beside_lawful whose_fields (rows_fields f) (λ d. first (elements f d) None) (name.requests ∷ []) 67 whose_are rows_are
+      (λ d whose none is. same_elements d whose is) (λ whose. refl) (λ whose. omega arith)
+
+some_rows : {A : Type 0} (rows : List A) → rows ≢ [] → is_bare rows ≡ false
+some_rows [] some = absurd (some refl)
+some_rows (a ∷ rows) some = grind arith
+
+not_bare : {A : Type 0} (rows : List A) → is_bare rows ≡ false → rows ≢ []
+not_bare [] some e = absurd cc
+not_bare (a ∷ rows) some e = cc
+
+-- a request that says a batch and nothing else
+module _ {Q A : Type 0} (f : RowForm A) (said : Q → Batch A) (make : Batch A → Q) where
+  pub batch_made : ((b : Batch A) → said (make b) ≡ b) → ((q : Q) → q ≡ make (said q)) → IsMadeOf (batch_form f said) (batch_fields f)
   unfolding a_batch
-  batch_written b is =
-      let d : Data = batch_data f b in
-      let invocation = spelled_read name.invocation d invocation_name_fault (λ text id. IsInvocationName id text) (invocation_name b.invocation) b.invocation
-      (member_of name.invocation (batch_members f b) (Some (string (invocation_name b.invocation))) (one_name (Some (string (invocation_name b.invocation)))))
-      (invocation_name_spelled b.invocation is.invocation) in
-      let request = request_id_read d b.request_id (member_of name.request_id (batch_members f b) (option_map string b.request_id) (two_names (option_map string b.request_id))) is.request_id in
-      let inner : List ℕ = text_in (set_at name.invocation d) in
-      let numbered : List ℕ = text_in (set_at name.request_id d) in
-      let rows = listed_written (an_element f inner numbered) (IsElement f) never_empty (λ _. false) (element_data f) b.rows (elements_written inner numbered b.rows is.rows) in
-      let some : empty_list (list_data (element_data f) b.rows) ≡ false = rows.emptiness ∙ some_rows b.rows is.some in
-      let requests = required_read name.requests d (a_list (an_element f inner numbered)) (IsEach (IsElement f)) empty_list (list_data (element_data f) b.rows) b.rows
-      (member_of name.requests (batch_members f b) (Some (list_data (element_data f) b.rows)) (one_name (Some (list_data (element_data f) b.rows)))) refl some rows.no_fault rows.meant in (
-        rw (invocation.0, request.0, requests.0) refl,
-        record { invocation_is = invocation.1; request_id_is = request.1; rows_are = requests.1 },
-      )
-
-  -- ---- one at most
-
-  element_one : (d : Data) (a b : A) → IsElement f d a → IsElement f d b → a ≡ b
-  element_one d a b h k = holds_one f.means law.one (filled_at f.member never_empty d) a b h k
-
-  pub batch_one : (d : Data) (a b : Batch A) → IsBatch f d a → IsBatch f d b → a ≡ b
-  batch_one d a b h k =
-      let invocation : a.invocation ≡ b.invocation = holds_one IsNameOf name_one (filled_at name.invocation empty_text d) a.invocation b.invocation h.invocation_is k.invocation_is in
-      let request_id : a.request_id ≡ b.request_id = maybe_one (IsText IsSame) same_one (filled_at name.request_id empty_text d) a.request_id b.request_id h.request_id_is k.request_id_is in
-      let rows : a.rows ≡ b.rows = holds_one (IsEach (IsElement f)) (each_one (IsElement f) element_one) (filled_at name.requests empty_list d) a.rows b.rows h.rows_are k.rows_are in
-      λ i. record { invocation = invocation i; request_id = request_id i; rows = rows i }
-
-  -- ---- of its form
-
-  element_formed : (invocation request_id : List ℕ) → GivesForm (an_element f invocation request_id) (IsElement f) f.OfForm
-  unfolding an_element
-  element_formed invocation request_id d a none is =
-      let one = first_right (an_object d) _ none in
-      let two = first_right (optional name.invocation (a_same_text invocation) d) _ one in
-      let three = first_right (optional name.request_id (a_same_text request_id) d) _ two in
-      required_form f.member never_empty f.fault f.means f.OfForm law.formed d a (first_left _ _ three) is
-
-  pub batch_formed : GivesForm (a_batch f) (IsBatch f) (IsBatchOfForm f)
-  unfolding a_batch
-  batch_formed d b none is =
-      let one = first_right (an_object d) _ none in
-      let two = first_right (required name.invocation empty_text an_invocation_name d) _ one in
-      let three = first_right (optional_filled name.request_id empty_text a_request_id d) _ two in
-      let rows_none : elements f d ≡ None = first_left (elements f d) None three in
-      let inner : List ℕ = text_in (set_at name.invocation d) in
-      let numbered : List ℕ = text_in (set_at name.request_id d) in
-      record {
-        invocation = required_form name.invocation empty_text an_invocation_name IsNameOf IsInvocationId name_form d b.invocation (first_left _ _ one) is.invocation_is;
-        request_id = request_formed (filled_at name.request_id empty_text d) b.request_id (first_left _ _ two) is.request_id_is;
-        some = rows_some (IsElement f) (filled_at name.requests empty_list d) b.rows (is_filled name.requests empty_list d) is.rows_are;
-        rows = required_form name.requests empty_list (a_list (an_element f inner numbered)) (IsEach (IsElement f)) (All f.OfForm)
-            (list_form (an_element f inner numbered) (IsElement f) f.OfForm (element_formed inner numbered)) d b.rows rows_none is.rows_are;
-      }
+  batch_made held whole = record {
+    made = λ v. make (record { invocation = v.0.0; request_id = v.0.1; rows = v.1 });
+    parts = λ q. (((said q).invocation, (said q).request_id), (said q).rows);
+    held = λ v i. let b = held (record { invocation = v.0.0; request_id = v.0.1; rows = v.1 }) i in ((b.invocation, b.request_id), b.rows);
+    whole = λ d q is. whole q;
+    faults = λ d.
+        ap (first (an_object d)) (sym (after_object (required name.invocation empty_text an_invocation_name d) (optional_filled name.request_id empty_text a_request_id d) (first (elements f d) None)));
+    told = λ d q is. ((is.invocation_is, is.request_id_is), is.rows_are);
+    said = λ d q of is. record { invocation_is = is.0.0; request_id_is = is.0.1; rows_are = is.1 };
+    in_form = λ q of. (((of.invocation, refl), of.request_id), (of.rows, some_rows (said q).rows of.some));
+    of_form = λ v of.
+        let b : Batch A = record { invocation = v.0.0; request_id = v.0.1; rows = v.1 } in
+        subst (IsBatchOfForm f) (sym (held b)) (record { invocation = of.0.0.0; request_id = of.0.1; some = not_bare v.1 of.1.1; rows = of.1.0 });
+    members = λ q. refl;
+    apart = refl;
+  }

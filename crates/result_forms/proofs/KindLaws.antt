@@ -1,6 +1,6 @@
 -- Kinds of fields of a row: a value means one thing at most, and what it means is of its form.
 use Rattle.std.proofs.Common.{◌≡◌, inl, inr, ◌≤◌, ℕ, Bool, true, false, List, [], ◌∷◌, length, Option, Some, None, refl, sym, ap, subst, ◌∙◌, arith}
-use Rattle.std.specs.Prelude.{codes, option_and_then, option_map, All, nat_lt, if◌then◌else◌}
+use Rattle.std.specs.Prelude.{codes, option_map, All, nat_lt, if◌then◌else◌}
 use Rattle.std.specs.Option.{option_or}
 use Rattle.std.proofs.lemmas.Str.{IsUtf8-nil}
 use Rattle.std.specs.Str.{IsUtf8}
@@ -24,11 +24,9 @@ use Rattle.names_realms.specs.Variants.{IsAscending}
 use Rattle.json_fields.specs.Names.{NameForm}
 use Rattle.json_fields.specs.Faults.{here}
 use Rattle.json_fields.specs.declared.faults.FaultKind.TheVariants.{WrongKind}
-use Rattle.json_fields.specs.Fields as field
-use Rattle.json_fields.specs.Fields.{optional, set_at, fault_optional, filled, filled_at}
+use Rattle.json_fields.specs.Fields.{optional, set_at, fault_optional, filled_at}
 use Rattle.json_fields.specs.Kinds.{an_object}
 use Rattle.json_fields.specs.Texts.{a_text, refused, span_fault, bad_value, IsText}
-use Rattle.json_fields.specs.declared.faults.FieldFault.{FieldFault}
 use Rattle.json_fields.specs.declared.names.Step.TheVariants.{Member}
 use Rattle.json_fields.specs.declared.whys.Why.{Why}
 use Rattle.json_fields.proofs.FormLaws.{GivesForm, text_form}
@@ -43,8 +41,8 @@ use Rattle.field_kinds.specs.Filled.{optional_filled}
 use Rattle.field_kinds.specs.Flags.{IsFlag}
 use Rattle.field_kinds.specs.Properties.{a_properties, empty_object}
 use Rattle.field_kinds.specs.Variants.{def_name, all_texts, pairs_of, told, pairs_fault, a_def, pairs_in, pairs_at, a_variant, IsVariant, IsPairOfGrammar, AreOfGrammar}
-use Rattle.result_forms.specs.Names as name
-use Rattle.result_forms.specs.Fields.{message_why, message, a_reason, IsUtf8Text, IsReason, IsMessage, IsPropertiesOf, IsPropertiesText}
+use Rattle.form_fields.proofs.FieldLaws.{is_filled}
+use Rattle.result_forms.specs.Fields.{IsUtf8Text, IsMessage, IsPropertiesOf, IsPropertiesText}
 
 some_same : {A : Type 0} (a b : A) → Some a ≡ Some b → a ≡ b
 some_same a b e = cc
@@ -73,23 +71,10 @@ utf8_one d a b h k = same_one d a b h.0 k.0
 pub span_one : (d : Data) (a b : ℕ) → IsText IsSpanText d a → IsText IsSpanText d b → a ≡ b
 span_one d a b h k = text_one IsSpanText one_span_said d a b h k
 
-pub reason_one : (d : Data) (a b : List ℕ) → IsReason d a → IsReason d b → a ≡ b
-reason_one d a b h k = or_one IsUtf8Text [] utf8_one (set_at name.primary_error_message d) a b h k
-
 pub properties_one : (d : Data) (a b : List ℕ) → IsPropertiesOf d a → IsPropertiesOf d b → a ≡ b
 properties_one d a b h k = h.compact ∙ sym (k.compact)
 
 -- ---- of its form
-
-or_of : {A : Type 0} (n : NameForm) (fault : Data → Option FieldFault) (means : Data → A → Type 0) (default : A) (P : A → Type 0) → GivesForm fault means P
-    → P default → (o : Option Data) (a : A) → fault_optional n fault o ≡ None → HoldsOr means default o a → P a
-or_of n fault means default P law is None a none holds = subst P (sym holds) is
-or_of n fault means default P law is (Some d) a none holds = law d a (moved_none (Member n) (fault d) none) holds
-
-pub or_form : {A : Type 0} (n : NameForm) (fault : Data → Option FieldFault) (means : Data → A → Type 0) (default : A) (P : A → Type 0) → GivesForm fault means P
-    → P default → (d : Data) (a : A) → optional n fault d ≡ None → HoldsOr means default (set_at n d) a → P a
-unfolding optional
-or_form n fault means default P law is d a none holds = or_of n fault means default P law is (set_at n d) a none holds
 
 pub unbad : (o : Option Why) → bad_value o ≡ None → o ≡ None
 unbad None e = refl
@@ -105,11 +90,6 @@ limited_form why (object ms) text none is = absurd (is.0)
 
 pub message_empty : IsMessage []
 message_empty = (IsUtf8-nil, refl)
-
-pub reason_form : GivesForm a_reason IsReason IsMessage
-unfolding a_reason
-reason_form d text none is =
-    or_form name.primary_error_message message IsUtf8Text [] IsMessage (limited_form message_why) message_empty d text (first_left _ _ (first_right (an_object d) _ none)) is
 
 -- a span's text is never refused for want of memory
 no_memory : (s : List ℕ) → IsSpanFault s fault.Memory → ⊥
@@ -197,26 +177,6 @@ braced (string s) none e h = absurd cc
 braced (array ds) none e h = absurd cc
 braced (object no_members) none e h = absurd cc
 braced (object (member k d ms)) none e h = quote_or_brace _ h
-
-chosen : (empty : Data → Bool) (d e : Data) (t : Bool) → empty d ≡ t → (if t then None else Some d) ≡ Some e → empty e ≡ false
-chosen empty d e true is h = absurd cc
-chosen empty d e false is h = subst (λ (x : Data). empty x ≡ false) (some_same d e h) is
-
-not_empty : (empty : Data → Bool) (d e : Data) → filled empty d ≡ Some e → empty e ≡ false
-not_empty empty null e h = absurd cc
-not_empty empty (boolean b) e h = chosen empty (boolean b) e (empty (boolean b)) refl h
-not_empty empty (number n) e h = chosen empty (number n) e (empty (number n)) refl h
-not_empty empty (string s) e h = chosen empty (string s) e (empty (string s)) refl h
-not_empty empty (array ds) e h = chosen empty (array ds) e (empty (array ds)) refl h
-not_empty empty (object ms) e h = chosen empty (object ms) e (empty (object ms)) refl h
-
-at_member : (empty : Data → Bool) (m : Option Data) (e : Data) → option_and_then (filled empty) m ≡ Some e → empty e ≡ false
-at_member empty None e h = absurd cc
-at_member empty (Some d) e h = not_empty empty d e h
-
-pub is_filled : (n : NameForm) (empty : Data → Bool) (d e : Data) → filled_at n empty d ≡ Some e → empty e ≡ false
-unfolding filled_at
-is_filled n empty d e h = at_member empty (field.member n d) e h
 
 properties_of : (n : NameForm) (o : Option Data) (text : List ℕ) → ((e : Data) → o ≡ Some e → empty_object e ≡ false)
     → fault_optional n a_properties o ≡ None → HoldsOr IsPropertiesOf [] o text → IsPropertiesText text

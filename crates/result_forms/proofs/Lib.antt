@@ -4,11 +4,10 @@ pub mod FieldLaws
 pub mod ShownLaws
 pub mod OrderLaws
 pub mod KindLaws
-pub mod ResultLaws
-pub mod ExonerationLaws
+pub mod PlainLaws
+pub mod RowKinds
+pub mod RowLaws
 pub mod BatchLaws
 pub mod MethodLaws
 pub mod NameTextLaws
-pub mod PlainLaws
-pub mod ThereLaws
 pub mod Opened

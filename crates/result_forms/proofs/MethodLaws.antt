@@ -1,72 +1,48 @@
 -- The two methods: their forms, and what a body asks for by them.
-use Rattle.std.proofs.Common.{◌≡◌, ℕ, List, Some, refl, sym, subst, ◌∙◌}
-use Rattle.serde_json.specs.Data.{Data}
+use Rattle.std.proofs.Common.{◌≡◌, ℕ, List, ◌∷◌, Some, refl, sym, subst, ◌∙◌, arith}
+use Rattle.serde_json.specs.Data.{Data, string}
+use Rattle.names_realms.specs.Variants.{label_of}
 use Rattle.json_fields.specs.Fields.{IsJson}
+use Rattle.json_fields.proofs.PlainLaws.{plain_text}
+use Rattle.form_fields.specs.Laws.{IsMadeOf}
+use Rattle.form_fields.proofs.MemberLaws.{object_plain}
+use Rattle.form_fields.proofs.RequestLaws.{read_again, request_formed, request_lawful}
 use Rattle.result_forms.specs.declared.batches.BatchCreateTestResults.{BatchCreateTestResults}
 use Rattle.result_forms.specs.declared.batches.BatchCreateTestExonerations.{BatchCreateTestExonerations}
 use Rattle.field_kinds.specs.Requests.{RequestForm}
 use Rattle.field_kinds.proofs.RequestLaws.{IsLawful}
+use Rattle.result_forms.specs.Exonerations.{exoneration_members}
+use Rattle.result_forms.specs.Laws.{AsksForOne, AsksOfForm, IsReadAgain, ShowsPlainExonerations, ShowsPlainResults, WritesPlain}
 use Rattle.result_forms.specs.Methods.{result_row, exoneration_row, results_of, exonerations_of, results_form, exonerations_form}
-use Rattle.result_forms.specs.Laws.{AsksForOne, AsksOfForm, IsReadAgain}
-use Rattle.result_forms.proofs.ResultLaws.{result_one, result_formed, result_written}
-use Rattle.result_forms.proofs.ExonerationLaws.{exoneration_one, exoneration_formed, exoneration_written}
-use Rattle.result_forms.proofs.BatchLaws.{IsLawfulRow, batch_one, batch_formed, batch_written}
-use Rattle.result_forms.proofs.PlainLaws.{batch_plain, result_row_plain, exoneration_row_plain}
-use Rattle.result_forms.proofs.ThereLaws.{result_there, exoneration_there, batch_there}
+use Rattle.result_forms.specs.Names as name
+use Rattle.result_forms.specs.Replies.{exoneration_id, name_of_exoneration, name_of_result}
+use Rattle.result_forms.specs.Results.{result_members}
+use Rattle.result_forms.proofs.BatchLaws.{IsLawfulRow, batch_are, batch_fields, batch_made}
+use Rattle.result_forms.proofs.RowLaws.{exoneration_lawful, exoneration_plain, result_lawful, result_plain}
 
-result_lawful : IsLawfulRow result_row
-result_lawful = record {
-  one = result_one;
-  formed = result_formed;
-  is_set = λ r. refl;
-  again = result_written;
-  no_invocation = refl;
-  no_request = refl;
-  no_request_proto = refl;
-}
+result_row_lawful : IsLawfulRow result_row
+result_row_lawful = record { row = result_lawful; apart = refl }
 
-exoneration_lawful : IsLawfulRow exoneration_row
-exoneration_lawful = record {
-  one = exoneration_one;
-  formed = exoneration_formed;
-  is_set = λ x. refl;
-  again = exoneration_written;
-  no_invocation = refl;
-  no_request = refl;
-  no_request_proto = refl;
-}
+exoneration_row_lawful : IsLawfulRow exoneration_row
+exoneration_row_lawful = record { row = exoneration_lawful; apart = refl }
 
-results_one : (d : Data) (q r : BatchCreateTestResults) → results_form.means d q → results_form.means d r → q ≡ r
-results_one d q r h k =
-    let same : results_of q ≡ results_of r = batch_one result_row result_lawful d (results_of q) (results_of r) h k in
-    λ i. record { invocation = (same i).invocation; request_id = (same i).request_id; requests = (same i).rows }
+results_made : IsMadeOf results_form (batch_fields result_row)
+results_made =
+    batch_made result_row results_of (λ b. record { invocation = b.invocation; request_id = b.request_id; requests = b.rows }) (λ b. refl) (λ q. refl)
 
-exonerations_one : (d : Data) (q r : BatchCreateTestExonerations) → exonerations_form.means d q → exonerations_form.means d r → q ≡ r
-exonerations_one d q r h k =
-    let same : exonerations_of q ≡ exonerations_of r = batch_one exoneration_row exoneration_lawful d (exonerations_of q) (exonerations_of r) h k in
-    λ i. record { invocation = (same i).invocation; request_id = (same i).request_id; requests = (same i).rows }
+exonerations_made : IsMadeOf exonerations_form (batch_fields exoneration_row)
+exonerations_made =
+    batch_made exoneration_row exonerations_of (λ b. record { invocation = b.invocation; request_id = b.request_id; requests = b.rows }) (λ b. refl) (λ q. refl)
 
 pub results_lawful : IsLawful results_form
-results_lawful = record {
-  one = results_one;
-  there = λ d is none.
-      let there = batch_there result_row result_there d is none in
-      (record { invocation = there.0.invocation; request_id = there.0.request_id; requests = there.0.rows }, there.1);
-  formed = λ d q none is. batch_formed result_row result_lawful d (results_of q) none is;
-  asked = λ d q none is. batch_formed result_row result_lawful d (results_of q) none is;
-  plain = λ q. batch_plain result_row result_row_plain (results_of q);
-}
+results_lawful =
+    let are = batch_are result_row result_row_lawful in
+    request_lawful results_form _ results_made are (request_formed results_form _ results_made are) (omega arith)
 
 pub exonerations_lawful : IsLawful exonerations_form
-exonerations_lawful = record {
-  one = exonerations_one;
-  there = λ d is none.
-      let there = batch_there exoneration_row exoneration_there d is none in
-      (record { invocation = there.0.invocation; request_id = there.0.request_id; requests = there.0.rows }, there.1);
-  formed = λ d q none is. batch_formed exoneration_row exoneration_lawful d (exonerations_of q) none is;
-  asked = λ d q none is. batch_formed exoneration_row exoneration_lawful d (exonerations_of q) none is;
-  plain = λ q. batch_plain exoneration_row exoneration_row_plain (exonerations_of q);
-}
+exonerations_lawful =
+    let are = batch_are exoneration_row exoneration_row_lawful in
+    request_lawful exonerations_form _ exonerations_made are (request_formed exonerations_form _ exonerations_made are) (omega arith)
 
 -- a body is one value
 one_json : (body : List ℕ) (d e : Data) → IsJson body d → IsJson body e → d ≡ e
@@ -81,7 +57,28 @@ pub asks_of_form : {Q : Type 0} (f : RequestForm Q) → IsLawful f → AsksOfFor
 asks_of_form f law body q is = law.formed is.value q is.no_fault is.meant
 
 pub results_again : (q : BatchCreateTestResults) → results_form.CanBeAsked q → IsReadAgain results_form q
-results_again q is = batch_written result_row result_lawful (results_of q) is
+results_again q is = read_again results_form _ results_made (batch_are result_row result_row_lawful) q is
 
 pub exonerations_again : (q : BatchCreateTestExonerations) → exonerations_form.CanBeAsked q → IsReadAgain exonerations_form q
-exonerations_again q is = batch_written exoneration_row exoneration_lawful (exonerations_of q) is
+exonerations_again q is = read_again exonerations_form _ exonerations_made (batch_are exoneration_row exoneration_row_lawful) q is
+
+-- ---- no float, and few levels
+
+pub results_plain : WritesPlain results_form
+results_plain q = let p = results_lawful.plain q in (p.no_float, p.deep)
+
+pub exonerations_plain : WritesPlain exonerations_form
+exonerations_plain q = let p = exonerations_lawful.plain q in (p.no_float, p.deep)
+
+pub shown_results_plain : ShowsPlainResults
+shown_results_plain id r =
+    let p = object_plain 64 ((name.name, Some (string (name_of_result id r))) ∷ (name.variant_hash, Some (string (label_of r.variant))) ∷ result_members r)
+    (plain_text 64 (name_of_result id r), (plain_text 64 (label_of r.variant), result_plain r)) in
+    (p.no_float, p.deep)
+
+pub shown_exonerations_plain : ShowsPlainExonerations
+shown_exonerations_plain id x =
+    let p = object_plain 64 ((name.exoneration_id, Some (string (exoneration_id x))) ∷ (name.name, Some (string (name_of_exoneration id x)))
+    ∷ (name.variant_hash, Some (string (label_of x.variant))) ∷ exoneration_members x)
+    (plain_text 64 (exoneration_id x), (plain_text 64 (name_of_exoneration id x), (plain_text 64 (label_of x.variant), exoneration_plain x))) in
+    (p.no_float, p.deep)

@@ -1,11 +1,10 @@
 -- The values that are written of a row are read again.
-use Rattle.std.proofs.Common.{◌≡◌, ◌≤◌, ◌<◌, ◌+◌, ◌==◌, ℕ, zero, suc, Bool, true, false, List, [], ◌∷◌, length, take, get_or, Option, Some, None, option_map, option_and_then, refl, sym, ap, subst, ◌∙◌, arith, ⊎_elim}
-use Rattle.std.specs.Prelude.{fold, codes, All}
+use Rattle.std.proofs.Common.{◌≡◌, ◌≤◌, ◌<◌, ◌+◌, ◌==◌, ℕ, zero, suc, Bool, true, false, List, [], ◌∷◌, length, take, get_or, Some, None, option_and_then, refl, sym, ap, subst, ◌∙◌, arith, ⊎_elim}
+use Rattle.std.specs.Prelude.{fold, codes}
 use Rattle.std.specs.Str.{IsUtf8, is_utf8}
 use Rattle.std.proofs.lemmas.Str.{IsUtf8-nil, IsUtf8-from_is_utf8, is_utf8-from_IsUtf8}
 use Rattle.std.proofs.lemmas.List.{nil_from_length, take_all}
 use Rattle.std.proofs.lemmas.Bool.{eqb-true}
-use Rattle.std.proofs.lemmas.List.Elements.{All-head, All-tail}
 use Rattle.std.proofs.lemmas.List.Sums.{fold_more}
 use Rattle.serde_json.specs.Data.{Data, null, boolean, number, string, array, object, Members, no_members, member, put}
 use Rattle.serde_json.specs.Read.{read}
@@ -14,31 +13,22 @@ use Rattle.name_parts.specs.declared.parts.PartForm.TheVariants.{PairKey}
 use Rattle.name_parts.proofs.PartLemmas.{IsPart-utf8, IsPart-part_fault}
 use Rattle.names_realms.specs.declared.pairs.Pair.{Pair}
 use Rattle.names_realms.specs.Variants.{IsAscending}
-use Rattle.names_realms.specs.declared.states.Status.{Status}
-use Rattle.names_realms.specs.declared.states.Status.TheVariants.{Pass, Fail, Crash, Abort, Skip}
 use Rattle.json_fields.specs.Names.{NameForm}
 use Rattle.json_fields.specs.Fields.{required, optional, filled_at, set_at, Holds, HoldsMaybe}
 use Rattle.json_fields.specs.Fields as field
-use Rattle.json_fields.specs.Kinds.{a_list, never_empty, HoldsList}
+use Rattle.json_fields.specs.Kinds.{never_empty}
 use Rattle.field_kinds.specs.PairKinds.Tags.{a_tag, IsTag, IsPairOfGrammar, tag_data}
-use Rattle.json_fields.specs.Writing.{IsWritten, AllWritten, list_data}
-use Rattle.json_fields.specs.declared.whys.Why.{Why}
+use Rattle.json_fields.specs.Writing.{IsWritten}
 use Rattle.field_kinds.proofs.TextKinds.TagTextLaws.{value_right}
-use Rattle.json_fields.proofs.WriteLaws.{list_no_fault, list_meant, set_found, set_lost, optional_found, optional_lost}
 use Rattle.field_kinds.proofs.PairKinds.TagLaws.{tag_written}
-use Rattle.field_kinds.specs.TextKinds.Texts.{a_string}
-use Rattle.field_kinds.specs.TextKinds.Statuses.{a_status, no_status, IsStatus, status_name}
 use Rattle.field_kinds.specs.Defaults.{HoldsOr}
 use Rattle.field_kinds.specs.Filled.{optional_filled}
-use Rattle.field_kinds.specs.Flags.{a_flag, IsFlag}
 use Rattle.field_kinds.specs.Properties.{a_properties, empty_object, IsCompact, IsKept}
-use Rattle.field_kinds.specs.Variants.{a_variant, IsVariant, AreOfGrammar, IsPairOfGrammar as OfGrammar, def_members, variant_data}
-use Rattle.field_kinds.proofs.VariantLaws.{variant_written, put_after, grammar_at}
-use Rattle.result_forms.specs.Names as name
-use Rattle.result_forms.specs.Fields.{message, a_reason, IsMessage, IsUtf8Text, IsReason, IsPropertiesOf, IsPropertiesText}
-use Rattle.result_forms.specs.Shown.{as_text, text_shown, flag_shown, pair_shown, pair_data, tags_shown, put_pair, variant_shown, reason_of, reason_shown, right_object, properties_shown}
-use Rattle.result_forms.proofs.FieldLaws.{required_read, default_read, other_read, empty_default, filled_other}
-use Rattle.result_forms.proofs.MemberLaws.{member_of}
+use Rattle.field_kinds.specs.Variants.{AreOfGrammar, IsPairOfGrammar as OfGrammar, def_members, variant_data}
+use Rattle.field_kinds.proofs.VariantLaws.{put_after, grammar_at}
+use Rattle.result_forms.specs.Fields.{IsPropertiesOf, IsPropertiesText}
+use Rattle.result_forms.specs.Shown.{as_text, text_shown, pair_shown, pair_data, put_pair, variant_shown, right_object, properties_shown}
+use Rattle.result_forms.proofs.FieldLaws.{empty_default, filled_other}
 
 -- ---- texts
 
@@ -52,31 +42,11 @@ other_text bytes false e ill = rw e refl
 pub as_text-other : (bytes : List ℕ) → (IsUtf8 bytes → ⊥) → as_text bytes ≡ []
 as_text-other bytes ill = other_text bytes (is_utf8 bytes) refl ill
 
-text_of_some : (b : ℕ) (bs : List ℕ) → IsUtf8 (b ∷ bs) → text_shown (b ∷ bs) ≡ Some (string (b ∷ bs))
+pub text_of_some : (b : ℕ) (bs : List ℕ) → IsUtf8 (b ∷ bs) → text_shown (b ∷ bs) ≡ Some (string (b ∷ bs))
 text_of_some b bs is = rw (as_text-utf8 (b ∷ bs) is) refl
 
-text_of_none : text_shown [] ≡ None
+pub text_of_none : text_shown [] ≡ None
 text_of_none = rw (as_text-utf8 [] IsUtf8-nil) refl
-
-module _ (why : List ℕ → Option Why) (n : NameForm) (d : Data) where
-  pub text_read : (text : List ℕ) → field.member n d ≡ text_shown text → IsUtf8 text → why text ≡ None
-      → (optional n (a_string why) d ≡ None) × HoldsOr IsUtf8Text [] (set_at n d) text
-  text_read [] there utf8 right = default_read n d (a_string why) IsUtf8Text [] [] (there ∙ text_of_none) refl
-  text_read (b ∷ bs) there utf8 right =
-      other_read n d (a_string why) IsUtf8Text [] (b ∷ bs) (string (b ∷ bs)) (there ∙ text_of_some b bs utf8) refl (rw right refl) (refl, utf8)
-
-pub flag_read : (n : NameForm) (d : Data) (on : Bool) → field.member n d ≡ flag_shown on
-    → (optional n a_flag d ≡ None) × HoldsOr IsFlag false (set_at n d) on
-flag_read n d false there = default_read n d a_flag IsFlag false false there refl
-flag_read n d true there = other_read n d a_flag IsFlag false true (boolean true) there refl refl refl
-
-pub status_read : (n : NameForm) (d : Data) (s : Status) → field.member n d ≡ Some (string (status_name s))
-    → (required n no_status a_status d ≡ None) × Holds IsStatus (filled_at n no_status d) s
-status_read n d Pass there = required_read n d a_status IsStatus no_status (string (status_name Pass)) Pass there refl refl refl refl
-status_read n d Fail there = required_read n d a_status IsStatus no_status (string (status_name Fail)) Fail there refl refl refl refl
-status_read n d Crash there = required_read n d a_status IsStatus no_status (string (status_name Crash)) Crash there refl refl refl refl
-status_read n d Abort there = required_read n d a_status IsStatus no_status (string (status_name Abort)) Abort there refl refl refl refl
-status_read n d Skip there = required_read n d a_status IsStatus no_status (string (status_name Skip)) Skip there refl refl refl refl
 
 -- ---- tags
 
@@ -86,23 +56,10 @@ pair_same p is =
     let value : as_text p.value ≡ p.value = as_text-utf8 p.value is.1.0 in
     λ i. record { key = key i; value = value i }
 
-pair_written : (p : Pair) → IsPairOfGrammar p → IsWritten a_tag IsTag never_empty (λ _. false) p (pair_data p)
+pub pair_written : (p : Pair) → IsPairOfGrammar p → IsWritten a_tag IsTag never_empty (λ _. false) p (pair_data p)
 pair_written p is =
     subst (λ (q : Pair). IsWritten a_tag IsTag never_empty (λ _. false) p (tag_data q)) (sym (pair_same p is))
     (tag_written p.key p.value (IsPart-part_fault PairKey p.key is.0) (value_right p.value is.1))
-
-tags_written : (ps : List Pair) → All IsPairOfGrammar ps → AllWritten a_tag IsTag never_empty (λ _. false) pair_data ps
-tags_written [] all = tt
-tags_written (p ∷ ps) all = (pair_written p (All-head IsPairOfGrammar p ps all), tags_written ps (All-tail IsPairOfGrammar p ps all))
-
-pub tags_read : (n : NameForm) (d : Data) (tags : List Pair) → field.member n d ≡ tags_shown tags → All IsPairOfGrammar tags
-    → (optional n (a_list a_tag) d ≡ None) × HoldsList IsTag (set_at n d) tags
-tags_read n d [] there all = (optional_lost n d (a_list a_tag) there, rw (set_lost n d there) refl)
-tags_read n d (t ∷ ts) there all =
-    let w = tags_written (t ∷ ts) all in (
-      optional_found n d (a_list a_tag) (list_data pair_data (t ∷ ts)) there refl (list_no_fault a_tag IsTag never_empty (λ _. false) pair_data (t ∷ ts) w),
-      rw (set_found n d (list_data pair_data (t ∷ ts)) there refl) (list_meant a_tag IsTag never_empty (λ _. false) pair_data (t ∷ ts) w),
-    )
 
 -- ---- variants
 
@@ -129,37 +86,8 @@ folded_all p ps rises all =
     let done : fold put_pair no_members (take (length (p ∷ ps)) (p ∷ ps)) ≡ def_members (take (length (p ∷ ps)) (p ∷ ps)) = folded (p ∷ ps) p rises all (length (p ∷ ps)) (omega arith) in
     subst (λ (qs : List Pair). fold put_pair no_members qs ≡ def_members qs) whole done
 
-variant_of_some : (p : Pair) (ps : List Pair) → IsAscending (p ∷ ps) → AreOfGrammar (p ∷ ps) → variant_shown (p ∷ ps) ≡ Some (variant_data (p ∷ ps))
+pub variant_of_some : (p : Pair) (ps : List Pair) → IsAscending (p ∷ ps) → AreOfGrammar (p ∷ ps) → variant_shown (p ∷ ps) ≡ Some (variant_data (p ∷ ps))
 variant_of_some p ps rises all = rw (folded_all p ps rises all) refl
-
-pub variant_read : (n : NameForm) (d : Data) (v : List Pair) → field.member n d ≡ variant_shown v → IsAscending v → AreOfGrammar v
-    → (optional n a_variant d ≡ None) × HoldsOr IsVariant [] (set_at n d) v
-variant_read n d [] there rises all = default_read n d a_variant IsVariant [] [] there refl
-variant_read n d (p ∷ ps) there rises all =
-    let w = variant_written (p ∷ ps) rises all in
-    other_read n d a_variant IsVariant [] (p ∷ ps) (variant_data (p ∷ ps)) (there ∙ variant_of_some p ps rises all) refl w.no_fault w.meant
-
--- ---- reasons
-
-reason_right : (b : ℕ) (bs : List ℕ) → IsMessage (b ∷ bs)
-    → (a_reason (reason_of (string (b ∷ bs))) ≡ None) × IsReason (reason_of (string (b ∷ bs))) (b ∷ bs)
-unfolding a_reason
-reason_right b bs is =
-    let d : Data = reason_of (string (b ∷ bs)) in
-    let there : field.member name.primary_error_message d ≡ Some (string (b ∷ bs)) =
-    member_of name.primary_error_message ((name.primary_error_message, Some (string (b ∷ bs))) ∷ []) (Some (string (b ∷ bs))) refl in
-    let one = other_read name.primary_error_message d message IsUtf8Text [] (b ∷ bs) (string (b ∷ bs)) there refl (rw (is.1) refl) (refl, is.0) in
-    (rw (one.0) refl, one.1)
-
-reason_of_some : (b : ℕ) (bs : List ℕ) → IsUtf8 (b ∷ bs) → reason_shown (b ∷ bs) ≡ Some (reason_of (string (b ∷ bs)))
-reason_of_some b bs is = ap (option_map reason_of) (text_of_some b bs is)
-
-pub message_read : (n : NameForm) (d : Data) (text : List ℕ) → field.member n d ≡ reason_shown text → IsMessage text
-    → (optional n a_reason d ≡ None) × HoldsOr IsReason [] (set_at n d) text
-message_read n d [] there is = default_read n d a_reason IsReason [] [] (there ∙ ap (option_map reason_of) text_of_none) refl
-message_read n d (b ∷ bs) there is =
-    let one = reason_right b bs is in
-    other_read n d a_reason IsReason [] (b ∷ bs) (reason_of (string (b ∷ bs))) (there ∙ reason_of_some b bs is.0) refl one.0 one.1
 
 -- ---- properties
 

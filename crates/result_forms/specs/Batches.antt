@@ -14,7 +14,7 @@ use Rattle.field_kinds.specs.Filled.{optional_filled}
 use Rattle.result_forms.specs.Names as name
 use Rattle.field_kinds.specs.TextKinds.Texts.{a_request_id, IsRequestId}
 use Rattle.result_forms.specs.Fields.{an_invocation_name, IsNameOf, text_in}
-use Rattle.result_forms.specs.Members.{object_of}
+use Rattle.form_fields.specs.Members.{object_of}
 
 -- Rows that are to be added to an invocation, with the number of the request where it has one.
 pub record Batch (A : Type 0) : Type 0 where

@@ -13,7 +13,7 @@ use Rattle.field_kinds.specs.Variants.{a_variant, IsVariant, AreOfGrammar}
 use Rattle.test_results.specs.declared.exoneration.TestExoneration.{TestExoneration}
 use Rattle.result_forms.specs.Names as name
 use Rattle.result_forms.specs.Fields.{html, IsUtf8Text, IsHtml}
-use Rattle.result_forms.specs.Members.{object_of}
+use Rattle.form_fields.specs.Members.{object_of}
 use Rattle.result_forms.specs.Shown.{text_shown, variant_shown}
 
 abbrev pub exoneration_fields : List (Data → Option FieldFault)

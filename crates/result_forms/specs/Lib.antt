@@ -1,6 +1,5 @@
 pub mod TextKinds
 pub mod Names
-pub mod Members
 pub mod Shown
 pub mod Fields
 pub mod Results

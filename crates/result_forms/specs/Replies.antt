@@ -7,7 +7,7 @@ use Rattle.names_realms.specs.ResultNames.{result_name}
 use Rattle.test_results.specs.declared.result.TestResult.{TestResult}
 use Rattle.test_results.specs.declared.exoneration.TestExoneration.{TestExoneration}
 use Rattle.result_forms.specs.Names as name
-use Rattle.result_forms.specs.Members.{object_of}
+use Rattle.form_fields.specs.Members.{object_of}
 use Rattle.result_forms.specs.Results.{result_members}
 use Rattle.result_forms.specs.Exonerations.{exoneration_members}
 

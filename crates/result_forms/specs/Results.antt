@@ -24,7 +24,7 @@ use Rattle.field_kinds.specs.Variants.{a_variant, IsVariant, AreOfGrammar}
 use Rattle.test_results.specs.declared.result.TestResult.{TestResult}
 use Rattle.result_forms.specs.Names as name
 use Rattle.result_forms.specs.Fields.{html, a_reason, IsUtf8Text, IsReason, IsPropertiesOf, IsHtml, IsMessage, IsPropertiesText}
-use Rattle.result_forms.specs.Members.{object_of}
+use Rattle.form_fields.specs.Members.{object_of}
 use Rattle.result_forms.specs.Shown.{flag_shown, text_shown, variant_shown, tags_shown, reason_shown, properties_shown, moment_data, span_data}
 use Rattle.result_forms.specs.declared.results.What.{What}
 use Rattle.result_forms.specs.declared.results.More.{More}

@@ -8,12 +8,11 @@ use Rattle.moments_spans.specs.Moments.{moment_text}
 use Rattle.moments_spans.specs.Spans.{span_text}
 use Rattle.names_realms.specs.declared.pairs.Pair.{Pair}
 use Rattle.field_kinds.specs.PairKinds.Tags.{tag_data}
-use Rattle.json_fields.specs.Writing.{list_data}
 use Rattle.json_fields.specs.declared.faults.FieldFault.{FieldFault}
 use Rattle.field_kinds.specs.Variants.{def_name}
 use Rattle.field_kinds.specs.Properties.{a_properties, empty_object}
 use Rattle.result_forms.specs.Names as name
-use Rattle.result_forms.specs.Members.{object_of}
+use Rattle.form_fields.specs.Members.{list_or_none, object_of}
 
 -- A text: its bytes, and none where they aren't UTF-8.
 abbrev pub as_text : List ℕ → List ℕ
@@ -43,8 +42,7 @@ abbrev pub pair_data : Pair → Data
 pair_data pair = tag_data (pair_shown pair)
 
 abbrev pub tags_shown : List Pair → Option Data
-tags_shown [] = None
-tags_shown (tag ∷ tags) = Some (list_data pair_data (tag ∷ tags))
+tags_shown tags = list_or_none pair_data tags
 
 -- the pairs of a variant, each a text under its key
 abbrev pub put_pair : Members → Pair → Members

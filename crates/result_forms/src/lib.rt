@@ -16,7 +16,6 @@ mod values;
 mod written;
 
 pub use batches::{BatchCreateTestExonerations, BatchCreateTestResults};
-pub use members::put_some;
 pub use replies::name_of_result;
 pub use shown::{
     bytes_value, flag_value, properties_value, reason_value, spelled_value, status_value,

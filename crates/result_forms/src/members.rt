@@ -1,12 +1,10 @@
-//! Members of an object, of which some are left out; and lists.
-ghost use Rattle.std.specs.Prelude.{◌≡◌, ◌++◌, ◌∷◌, [], IfOk, OnOk, map, option_map};
+//! What is written as JSON values, and lists of it.
+ghost use Rattle.std.specs.Prelude.{◌≡◌, ◌++◌, ◌∷◌, [], IfOk, OnOk, map};
 ghost use Rattle.serde_json.specs.Data.{Data};
-ghost use Rattle.serde_json.specs.View.{view, members_view};
+ghost use Rattle.serde_json.specs.View.{view};
 ghost use Rattle.json_fields.specs.Writing.{list_data};
-ghost use Rattle.result_forms.specs.Members.{put_some};
 
-use json_fields::{Name, put};
-use serde_json::{Map, Value};
+use serde_json::Value;
 use std::alloc::{AllocError, Global};
 
 /// What is written as a JSON value.
@@ -16,22 +14,6 @@ pub(crate) trait Shown {
     /// The JSON value. `Err` where there is no memory for it.
     fn value(&self, alloc: Global) -> Result<Value, AllocError>
         ensures { IfOk result (λ v. view v ≡ shows self.now) };
-}
-
-/// Puts a value under a name, where there is one.
-pub fn put_some(
-    alloc: Global,
-    map: &mut Map<String, Value>,
-    name: Name,
-    value: Option<Value>,
-) -> Result<(), AllocError>
-    ensures { OnOk result (members_view map.new.entries
-        ≡ put_some name (option_map view value) (members_view map.old.entries)) }
-{
-    match value {
-        Some(value) => put(alloc, map, &name, value),
-        None => Ok(()),
-    }
 }
 
 /// Appends what is written of a value.

@@ -6,11 +6,12 @@ ghost use Rattle.field_kinds.specs.TextKinds.Statuses.{status_name};
 ghost use Rattle.result_forms.specs.Shown.{as_text, text_shown, flag_shown, tags_shown, put_pair, variant_shown};
 ghost use Rattle.result_forms.specs.Shown.{reason_shown, properties_shown, right_object};
 
-use crate::members::{Shown, list_value, put_some};
+use crate::members::{Shown, list_value};
 use crate::names::primary_error_message;
 use field_kinds::Properties;
 use field_kinds::pair_kinds::tag_value;
 use field_kinds::text_kinds::StatusName;
+use form_fields::put_some;
 use json_fields::{Form, ReadFault, SpelledOut, Written, write_text};
 use names_realms::{Pair, Status};
 use serde_json::{Map, Value};

@@ -4,12 +4,12 @@ ghost use Rattle.serde_json.specs.Data.{string};
 ghost use Rattle.serde_json.specs.View.{view, members_view};
 ghost use Rattle.names_realms.specs.Names.{invocation_name};
 ghost use Rattle.json_fields.specs.Writing.{list_data};
-ghost use Rattle.result_forms.specs.Members.{put_all, object_of};
+ghost use Rattle.form_fields.specs.Members.{put_all, object_of};
 ghost use Rattle.result_forms.specs.Names.{invocation, request_id, requests};
 ghost use Rattle.result_forms.specs.Results.{what_members, more_members, new_result_data};
 ghost use Rattle.result_forms.specs.Exonerations.{exoneration_members, new_exoneration_data};
 
-use crate::members::{Shown, list_value, put_some};
+use crate::members::{Shown, list_value};
 use crate::names::{
     duration, expected, explanation_html, failure_reason, invocation, properties, request_id,
     requests, result_id, start_time, status, summary_html, tags, test_exoneration, test_id,
@@ -20,6 +20,7 @@ use crate::shown::{
     tags_value, text_value, variant_value,
 };
 use field_kinds::text_kinds::{LimitedText, RequestId};
+use form_fields::put_some;
 use json_fields::Written;
 use names_realms::InvocationId;
 use serde_json::{Map, Value};

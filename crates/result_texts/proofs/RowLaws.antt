@@ -8,7 +8,7 @@ use Rattle.json_fields.specs.NamesRealms.Variants.{label_of}
 use Rattle.test_results.specs.declared.result.TestResult.{TestResult}
 use Rattle.test_results.specs.declared.exoneration.TestExoneration.{TestExoneration}
 use Rattle.result_forms.specs.TextKinds.Statuses.{status_name}
-use Rattle.result_forms.specs.Members.{put_some, put_all, object_of}
+use Rattle.form_fields.specs.Members.{put_some, put_all, object_of}
 use Rattle.result_forms.specs.Names as name
 use Rattle.result_forms.specs.Results.{result_members}
 use Rattle.result_forms.specs.Exonerations.{exoneration_members}

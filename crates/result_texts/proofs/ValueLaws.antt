@@ -9,7 +9,8 @@ use Rattle.test_results.specs.declared.result.TestResult.{TestResult}
 use Rattle.test_results.specs.declared.exoneration.TestExoneration.{TestExoneration}
 use Rattle.result_forms.specs.Shown.{as_text, unless_empty, text_shown, reason_of, reason_shown, properties_shown, variant_shown}
 use Rattle.json_fields.specs.NamesRealms.declared.states.Status.TheVariants.{Pass}
-use Rattle.result_forms.proofs.PlainLaws.{MayBePlain, result_plain, exoneration_plain}
+use Rattle.form_fields.specs.Laws.{MayBePlain}
+use Rattle.result_forms.proofs.RowLaws.{exoneration_plain, result_plain}
 use Rattle.token_texts.specs.Shown.{filled}
 use Rattle.token_texts.specs.Tokens.{member_tokens}
 use Rattle.token_texts.proofs.MemberLaws.{filled_some}

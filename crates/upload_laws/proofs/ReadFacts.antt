@@ -30,7 +30,7 @@ use Rattle.text_kinds.specs.Statuses.{status_name}
 use Rattle.field_kinds.specs.Properties.{a_properties, empty_object}
 use Rattle.field_kinds.proofs.ReadLaws.{value_of_text}
 use Rattle.field_kinds.proofs.ReadValues.{AreReadMembers, IsBelow, IsReadValue}
-use Rattle.result_forms.specs.Members.{object_of, put_all, put_some}
+use Rattle.form_fields.specs.Members.{object_of, put_all, put_some}
 use Rattle.result_forms.specs.Names as name
 use Rattle.result_forms.specs.Shown.{as_text, flag_shown, properties_shown, reason_of, reason_shown, right_object, span_data, text_shown, unless_empty, unless_faulty}
 

@@ -1,6 +1,7 @@
 -- What is written of a report's results is read as they are.
 use Rattle.std.proofs.Common.{ℕ, ◌+◌, ◌^◌, ◌<◌, ◌≤◌, List, [], ◌∷◌, length, Some, refl, inl, arith, IsUtf8}
 use Rattle.std.specs.Prelude.{All}
+use Rattle.std.proofs.lemmas.Str.{IsUtf8-nil}
 use Rattle.std.proofs.lemmas.List.Elements.{All-cons, All-head, All-nil, All-tail}
 use Rattle.std.proofs.lemmas.Option.{none-some}
 use Rattle.json.proofs.Printed.Utf8.{IsUtf8-are_ascii}
@@ -17,7 +18,6 @@ use Rattle.result_forms.specs.Methods.{result_row}
 use Rattle.result_forms.specs.Names as name
 use Rattle.result_forms.specs.Results.{IsResultOfForm, more_members, new_result_data, result_members}
 use Rattle.result_forms.proofs.KindLaws.{variant_empty}
-use Rattle.result_forms.proofs.ResultLaws.{html_empty}
 use Rattle.report_ids.specs.Digests.{IsDigest}
 use Rattle.report_ids.proofs.DigitLemmas.{numbered_is_id}
 use Rattle.report_ids.proofs.NameLemmas.{test_id_text-IsTestId}
@@ -50,7 +50,7 @@ result_right digest prefix n case digits valid fits said = record {
     result = numbered_is_id digest n digits.0 digits.1 fits;
     order = variant_empty.0;
     variant = variant_empty.1;
-    summary = html_empty;
+    summary = (IsUtf8-nil, refl);
   };
   more = record {
     start = λ moment never. absurd (none-some moment never);

@@ -15,8 +15,8 @@ pub returns-clause-value : goal.returns-clause-value
 returns-clause-value c =
     let query : c.in_ok-names.query ≡ results_query c.args.self.now = c.in_ok-names.ensures.query ∙ ap (λ (ids : List (List ℕ)). query_hash results_method (map invocation_name ids)) c.as_slice.ensures in
     let list = c.in_ok-names.ensures.list ∙ ap (list_data name_data) c.as_slice.ensures in
-    view-Object c.put_page_token.new.map
-    ∙ rw (c.in_ok-put_page_token.ensures.members, c.in_ok-put_size.ensures, c.page_size.ensures, c.in_ok-put.ensures, c.invocations.ensures, c.new-map.ensures.empty, list, query) refl
+    view-Object c.put.new.map
+    ∙ rw (c.in_ok-put.ensures, c.invocations.ensures, c.in_ok-put_size.ensures, c.page_size.ensures, c.in_ok-put_page_token.ensures.members, c.new-map.ensures.empty, list, query) refl
 
 pub returns-clause-again : goal.returns-clause-again
 returns-clause-again c = λ is.

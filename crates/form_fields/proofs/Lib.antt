@@ -1,0 +1,4 @@
+pub mod MemberLaws
+pub mod FieldLaws
+pub mod KindLaws
+pub mod RequestLaws
