@@ -29,24 +29,7 @@ LIMITS = {
 }
 
 # begin of the list
-LISTED = {
-    "wide lines": {
-        "field_kinds": 1,
-        "permissions": 1,
-    },
-    "whole code": {
-        "artifact_forms": 9,
-        "artifact_replies": 20,
-        "field_kinds": 27,
-        "invocation_forms": 18,
-        "message_forms": 21,
-        "pair_kinds": 17,
-        "query_forms": 20,
-        "request_demands": 43,
-        "request_effects": 168,
-        "request_rules": 94,
-    },
-}
+LISTED = {}
 # end of the list
 
 FUNCTION = re.compile(r"\s*(?:pub(?:\([a-z]+\))? )?fn \w+")

@@ -29,68 +29,18 @@ use Rattle.field_kinds.proofs.NumberLaws.{bytes_written, page_written}
 use Rattle.field_kinds.proofs.ReadValues.{IsReadValue}
 use Rattle.field_kinds.proofs.ThereLaws.{IsThere}
 use Rattle.form_fields.specs.Fields.{Fields, Kind, default_field}
+use Rattle.form_fields.specs.Kinds.{string_kind, unless_zero, whole_field}
 use Rattle.form_fields.specs.Laws.{AreAt, AreLawful, IsLawfulKind, MayBePlain}
 use Rattle.form_fields.proofs.FieldLaws.{default_lawful}
+use Rattle.form_fields.proofs.TextLaws.{by_string, by_text, string_lawful, unbad}
+use Rattle.form_fields.proofs.WholeLaws.{whole_field_lawful}
 use Rattle.result_forms.specs.Shown.{unless_empty}
-use Rattle.result_forms.proofs.KindLaws.{unbad}
 use Rattle.artifact_forms.specs.Hashes.{IsDigest, hash_text, SpellsHash}
 use Rattle.artifact_forms.specs.Fields.{some_contents, IsContentsOf, AreContents, a_size, unless_0, SaysSize, IsSize}
 use Rattle.artifact_forms.specs.Files.{contents_shown}
 use Rattle.artifact_forms.specs.Listed.{size_shown}
 use Rattle.artifact_forms.proofs.DecodedBytes.{decoded_are}
 use Rattle.artifact_forms.proofs.HashLaws.{hash_one, hash_right, hash_there}
-
--- ---- what is so of texts is so of what means something as a text, or has no fault as one
-
-by_text : {A : Type 0} (spells : List ℕ → A → Type 0) (P : Data → A → Type 0) → ((s : List ℕ) (a : A) → spells s a → P (string s) a)
-    → (d : Data) (a : A) → IsText spells d a → P d a
-by_text spells P law null a is = absurd is
-by_text spells P law (boolean b) a is = absurd is
-by_text spells P law (number n) a is = absurd is
-by_text spells P law (string s) a is = law s a is
-by_text spells P law (array ds) a is = absurd is
-by_text spells P law (object ms) a is = absurd is
-
-by_string : (why : List ℕ → Option Why) (P : Data → Type 0) → ((s : List ℕ) → why s ≡ None → P (string s)) → (d : Data) → a_string why d ≡ None → P d
-by_string why P law null h = absurd cc
-by_string why P law (boolean b) h = absurd cc
-by_string why P law (number n) h = absurd cc
-by_string why P law (string s) h = law s (unbad (why s) h)
-by_string why P law (array ds) h = absurd cc
-by_string why P law (object ms) h = absurd cc
-
--- ---- texts that are refused for a reason, and else spell a value
-
-abbrev pub string_kind : {A : Type 0} → (List ℕ → Option Why) → (List ℕ → A → Type 0) → (A → Type 0) → (A → List ℕ) → Kind A
-string_kind why spells OfForm spelling = record {
-  fault = a_string why;
-  means = IsText spells;
-  empty = empty_text;
-  blank = λ a. false;
-  OfForm = OfForm;
-  json = λ a. string (spelling a);
-  levels = 0;
-}
-
-filled : {A : Type 0} (spells : List ℕ → A → Type 0) → ((a : A) → spells [] a → ⊥) → (s : List ℕ) (a : A) → spells s a → empty_text (string s) ≡ false
-filled spells none [] a is = absurd (none a is)
-filled spells none (b ∷ bs) a is = grind arith
-
--- no value has the empty text, and a text spells one value, which has that text
-pub string_lawful : {A : Type 0} (why : List ℕ → Option Why) (spells : List ℕ → A → Type 0) (OfForm : A → Type 0) (spelling : A → List ℕ)
-    → ((a : A) → spells [] a → ⊥) → ((s : List ℕ) (a b : A) → spells s a → spells s b → a ≡ b)
-    → ((s : List ℕ) → IsUtf8 s → why s ≡ None → (a : A) × spells s a) → ((s : List ℕ) (a : A) → spells s a → OfForm a)
-    → ((a : A) → OfForm a → (why (spelling a) ≡ None) × spells (spelling a) a) → IsLawfulKind (string_kind why spells OfForm spelling)
-string_lawful {A} why spells OfForm spelling none one there formed right = record {
-  one = text_one spells one;
-  there = λ d is no. by_string why (λ e. IsReadValue e → (a : A) × IsText spells e a) (λ s fine utf8. there s utf8 fine) d no is;
-  formed = λ d a no is. by_text spells (λ e x. OfForm x) formed d a is;
-  told = λ d a no is. by_text spells (λ e x. empty_text e ≡ false) (filled spells none) d a is;
-  again = λ a is.
-      let read = right a is in
-      record { is_set = refl; no_fault = rw (read.0) refl; meant = read.1; emptiness = filled spells none (spelling a) a read.1 };
-  plain = λ a. plain_text 0 (spelling a);
-}
 
 -- ---- hashes
 
@@ -188,65 +138,9 @@ contents_field_lawful n =
 
 -- ---- whole numbers, of which 0 is left out
 
-said_one : (d : Data) (a b : ℕ) → IsSaid d a → IsSaid d b → a ≡ b
-said_one d a b h k = let both : says a ≡ says b = sym h ∙ k in cc
-
-said_some : (most : ℕ) (s : Said) → beyond most s ≡ None → (n : ℕ) × (s ≡ says n)
-said_some most no_number h = absurd cc
-said_some most no_whole h = absurd cc
-said_some most below_zero h = absurd cc
-said_some most (says n) h = (n, refl)
-
-within : (most n : ℕ) (t : Bool) → nat_lt most n ≡ t → (if t then Some (here (BadValue OutOfRange)) else None) ≡ None → n ≤ most
-within most n true e h = absurd cc
-within most n false e h = ltb-false most n e
-
-abbrev whole_kind : ℕ → (ℕ → Data) → Kind ℕ
-whole_kind most json = record {
-  fault = a_whole most;
-  means = IsSaid;
-  empty = never_empty;
-  blank = λ n. false;
-  OfForm = λ n. n ≤ most;
-  json = json;
-  levels = 0;
-}
-
-abbrev pub whole_field : NameForm → ℕ → (ℕ → Data) → Fields ℕ
-whole_field n most json = default_field n (whole_kind most json) 0 (λ m. option_map json (unless_0 m))
-
-module _ (json : ℕ → Data) (plain : (m : ℕ) → IsPlain 0 (json m)) where
-  said_plain : (o : Option ℕ) → MayBePlain 0 (option_map json o)
-  said_plain None = tt
-  said_plain (Some m) = plain m
-
-  whole_or_none : (m : ℕ) → ((option_map json (unless_0 m) ≡ None) × (m ≡ 0)) ⊎ (option_map json (unless_0 m) ≡ Some (json m))
-  whole_or_none zero = inl (refl, refl)
-  whole_or_none (suc m) = let some : unless_0 (suc m) ≡ Some (suc m) = grind arith in inr (ap (option_map json) some)
-
-  whole_lawful : (most : ℕ) → ((m : ℕ) → m ≤ most → IsWritten (a_whole most) IsSaid never_empty (λ _. false) m (json m)) → IsLawfulKind (whole_kind most json)
-  whole_lawful most written = record {
-    one = said_one;
-    there = λ d is none. said_some most (said d) none;
-    formed = λ d m none is. within most m (nat_lt most m) refl (subst (λ (s : Said). beyond most s ≡ None) is none);
-    told = λ d m none is. refl;
-    again = written;
-    plain = plain;
-  }
-
-  whole_field_lawful : (n : NameForm) (most : ℕ) → ((m : ℕ) → m ≤ most → IsWritten (a_whole most) IsSaid never_empty (λ _. false) m (json m))
-      → AreLawful (whole_field n most json)
-  whole_field_lawful n most written =
-      default_lawful n (whole_kind most json) (whole_lawful most written) 0 (λ m. option_map json (unless_0 m)) (omega arith) (λ m few. whole_or_none m)
-      (λ m. said_plain (unless_0 m))
-
 -- the size of a page
 abbrev pub page_json : ℕ → Data
 page_json n = number (unsigned n)
-
-pub page_shown : (n : ℕ) → size_shown n ≡ option_map page_json (unless_0 n)
-page_shown zero = refl
-page_shown (suc n) = let no : (suc n == 0) ≡ false = grind arith in rw no refl
 
 pub page_size_lawful : (n : NameForm) → AreLawful (whole_field n most_of_page page_json)
 page_size_lawful n = whole_field_lawful page_json (λ m. record { no_float = refl; deep = omega arith }) n most_of_page (page_written most_of_page)
@@ -269,6 +163,13 @@ size_some (suc n) few m e =
 of_some : (n : ℕ) → 0 < n → Some n ≡ unless_0 n
 of_some n some = let no : (n == 0) ≡ false = grind arith in rw no refl
 
+number_shown : (n : ℕ) → 0 < n → Some (bytes_json n) ≡ unless_zero bytes_json n
+number_shown n some = let no : (n == 0) ≡ false = grind arith in rw no refl
+
+said_plain : (o : Option ℕ) → MayBePlain 0 (option_map bytes_json o)
+said_plain None = tt
+said_plain (Some n) = bytes_plain n
+
 abbrev pub size_field : NameForm → Fields (Option ℕ)
 size_field n = record {
   names = n ∷ [];
@@ -288,7 +189,7 @@ module _ (n : NameForm) where
   size_again (Some m) d is at =
       let right = is m refl in
       let some : Some m ≡ unless_0 m = of_some m right.0 in
-      let read = bytes_lawful.again m d right.1 (at.0 ∙ ap (option_map bytes_json) some, tt) in
+      let read = bytes_lawful.again m d right.1 (at.0 ∙ number_shown m right.0, tt) in
       (read.0, record { number = m; said = read.1; is = some })
 
   pub size_field_lawful : AreLawful (size_field n)
@@ -298,5 +199,5 @@ module _ (n : NameForm) where
     formed = λ d o none is. subst IsSize (sym is.is) (size_some is.number (bytes_lawful.formed d is.number none is.said));
     named = λ o. refl;
     again = size_again;
-    plain = λ o. (said_plain bytes_json bytes_plain o, tt);
+    plain = λ o. (said_plain o, tt);
   }

@@ -13,6 +13,7 @@ use Rattle.field_kinds.specs.Numbers.{a_whole, most_of_page}
 use Rattle.field_kinds.specs.Requests.{RequestForm}
 use Rattle.page_tokens.specs.declared.kinds.ArtifactCursor.{ArtifactCursor}
 use Rattle.form_fields.specs.Fields.{Fields, beside, both, filled_field, last, required_field}
+use Rattle.form_fields.specs.Kinds.{whole_field}
 use Rattle.form_fields.specs.Laws.{AreLawful, IsMadeOf}
 use Rattle.form_fields.specs.Members.{object_of}
 use Rattle.form_fields.proofs.FieldLaws.{beside_lawful, both_lawful, filled_lawful, last_lawful, required_lawful}
@@ -21,7 +22,7 @@ use Rattle.artifact_forms.specs.Parents.{IsParentOf}
 use Rattle.artifact_forms.specs.Tokens.{a_token, list_query, IsTokenOf, Tells, token_text}
 use Rattle.artifact_forms.specs.Listed.{query_in, a_page_token, a_list_request, IsList, query_of, list_request_data, IsListOfForm}
 use Rattle.artifact_forms.specs.declared.listed.ListArtifacts.{ListArtifacts}
-use Rattle.artifact_forms.proofs.FieldLaws.{page_json, page_size_lawful, page_shown, whole_field}
+use Rattle.artifact_forms.proofs.FieldLaws.{page_json, page_size_lawful}
 use Rattle.artifact_forms.proofs.ParentLaws.{parent_kind, parent_lawful, text_of_parent}
 use Rattle.artifact_forms.proofs.TokenLaws.{list_query_size, token_kind, token_lawful}
 
@@ -87,8 +88,6 @@ list_made = record {
   };
   in_form = λ q of. ((of.0.parent, refl), (of.0.size, of.1));
   of_form = λ v of. (record { parent = of.0.0; size = of.1.0; token = λ c e. (of.1.1 c e).are.0 }, of.1.1);
-  members = λ q.
-      ap (λ (o : Option Data). object_of ((name.parent, Some (string (parent_name q.parent))) ∷ (name.page_size, o)
-      ∷ (name.page_token, option_map (λ c. string (token_text (query_of q) c)) q.page_token) ∷ [])) (page_shown q.page_size);
+  members = λ q. refl;
   apart = refl;
 }

@@ -27,6 +27,7 @@ use Rattle.form_fields.specs.Kinds.{text_kind}
 use Rattle.form_fields.specs.Laws.{IsLawfulKind}
 use Rattle.form_fields.proofs.KindLaws.{text_lawful}
 use Rattle.result_forms.specs.Fields.{text_in}
+use Rattle.result_forms.proofs.BatchLaws.{held_some, text_seen}
 use Rattle.artifacts.specs.Orders.{invocation_of}
 use Rattle.artifact_forms.specs.Parents.{a_parent, IsParentOf, invocation_part, a_same_invocation, a_parent_beside}
 use Rattle.artifact_forms.proofs.NameThere.{parent_named}
@@ -55,22 +56,9 @@ parent_lawful =
     (text_form parent_fault (λ text p. IsParentName p text) _ (λ s p none is. named_again p s is)) parent_spelled
 
 -- the text of a parent's field is the parent's name
-filled_text : (s : List ℕ) (p : Parent) (t : Bool) → Holds IsParentOf (if t then None else Some (string s)) p → s ≡ parent_name p
-filled_text s p true is = absurd is
-filled_text s p false is = name_is p s is
-
-member_text : (m : Option Data) (p : Parent) → Holds IsParentOf (option_and_then (filled empty_text) m) p → text_in (option_and_then set m) ≡ parent_name p
-member_text None p is = absurd is
-member_text (Some null) p is = absurd is
-member_text (Some (boolean b)) p is = absurd is
-member_text (Some (number n)) p is = absurd is
-member_text (Some (string s)) p is = filled_text s p (empty_text (string s)) is
-member_text (Some (array ds)) p is = absurd is
-member_text (Some (object ms)) p is = absurd is
-
 pub text_of_parent : (n : NameForm) (d : Data) (p : Parent) → Holds IsParentOf (filled_at n empty_text d) p → text_in (set_at n d) ≡ parent_name p
-unfolding filled_at set_at
-text_of_parent n d p is = member_text (member n d) p is
+text_of_parent n d p is =
+    text_seen (λ text q. IsParentName q text) parent_name (λ s q named. name_is q s named) n d (Some p) (held_some IsParentOf (filled_at n empty_text d) p is)
 
 -- ---- the invocation of a parent
 

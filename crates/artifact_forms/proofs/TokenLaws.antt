@@ -15,10 +15,12 @@ use Rattle.page_tokens.specs.Keys.{AreContents, key_bytes}
 use Rattle.page_tokens.specs.Tokens.{IsToken, bytes_fault, decoded_fault, front_place, line, query_hash, rest_place}
 use Rattle.page_tokens.proofs.TokenLemmas.{encoded_fault, no_fault, one_told, only_tokens}
 use Rattle.form_fields.specs.Fields.{Kind}
+use Rattle.form_fields.specs.Kinds.{string_kind}
 use Rattle.form_fields.specs.Laws.{IsLawfulKind}
+use Rattle.form_fields.proofs.TextLaws.{string_lawful}
 use Rattle.artifact_forms.specs.Tokens.{list_query, told, token_why, Tells, token_text}
 use Rattle.artifact_forms.proofs.DecodedBytes.{decoded_are}
-use Rattle.artifact_forms.proofs.FieldLaws.{decodes, string_kind, string_lawful}
+use Rattle.artifact_forms.proofs.FieldLaws.{decodes}
 
 query_size : (method : List ℕ) (names : List (List ℕ)) → length (query_hash method names) ≡ 32
 unfolding query_hash

@@ -8,7 +8,7 @@ ghost use Rattle.field_kinds.specs.TextKinds.Hashes.{hash_why};
 ghost use Rattle.artifact_forms.specs.Fields.{a_hash, IsHashOf};
 ghost use Rattle.artifact_forms.specs.Hashes.{hash_text, IsDigest, SpellsHash};
 
-use field_kinds::text_kinds::HashText;
+use field_kinds::HashText;
 use json_fields::{Form, Name, ReadFault, optional};
 use serde_json::Value;
 use std::alloc::{AllocError, Global};

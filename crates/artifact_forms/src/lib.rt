@@ -16,7 +16,7 @@ mod values;
 mod written;
 
 pub use batches::BatchCreateArtifacts;
-pub use field_kinds::text_kinds;
+pub use field_kinds::{LimitedText, RequestId};
 pub use hashes::hash_text;
 pub use listed::ListArtifacts;
 pub use named::GetArtifact;

@@ -10,7 +10,7 @@ ghost use Rattle.artifact_forms.specs.Tokens.{a_token, IsTokenOf, list_query, to
 ghost use Rattle.json_fields.specs.Texts.{bad_value};
 
 use crate::names::page_token;
-use field_kinds::text_kinds::Contents;
+use field_kinds::Contents;
 use json_fields::{FaultKind, ReadFault, Step, Why, filled_at};
 use lists::Bytes;
 use page_tokens::{ArtifactCursor, Query, TokenFault, read_token};

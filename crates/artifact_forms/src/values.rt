@@ -8,8 +8,7 @@ ghost use Rattle.field_kinds.specs.Defaults.{HoldsOr};
 ghost use Rattle.result_forms.specs.Fields.{IsUtf8Text};
 ghost use Rattle.artifact_forms.specs.Fields.{a_type, some_contents, IsContentsOf, a_size, unless_0, SaysSize};
 
-use field_kinds::text_kinds::{ContentType, Contents, LimitedText};
-use field_kinds::{ByteSize, Whole, or_default};
+use field_kinds::{ByteSize, ContentType, Contents, LimitedText, Whole, or_default};
 use json_fields::{Name, ReadFault, optional};
 use lists::Bytes;
 use serde_json::Value;

@@ -19,7 +19,7 @@ use crate::names::{
 };
 use artifacts::NewArtifact;
 use base64::engine::general_purpose::STANDARD;
-use field_kinds::text_kinds::{LimitedText, RequestId};
+use field_kinds::{LimitedText, RequestId};
 use json_fields::{Name, SpelledOut, put};
 use serde_json::{Map, Value};
 use std::alloc::{AllocError, Global};

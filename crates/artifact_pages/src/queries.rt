@@ -3,7 +3,7 @@ ghost use Rattle.std.specs.Prelude.{◌≡◌, IfOk, option_map};
 ghost use Rattle.artifact_pages.specs.Pages.{query_from};
 
 use crate::copies::{copied_id, copied_parent};
-use artifact_replies::artifact_forms::ListArtifacts;
+use artifact_replies::ListArtifacts;
 use names_realms::{ArtifactId, Parent};
 use page_tokens::{ArtifactCursor, Query};
 use std::alloc::{AllocError, Global};

@@ -8,7 +8,9 @@ mod listed;
 mod texts;
 mod wholes;
 
-pub use artifact_forms::{self, text_kinds};
-pub use artifacts;
+pub use artifact_forms::{
+    BatchCreateArtifacts, GetArtifact, LimitedText, ListArtifacts, RequestId,
+};
+pub use artifacts::Artifact;
 pub use listed::{ShownArtifacts, append_artifacts};
 pub use wholes::append_artifact;

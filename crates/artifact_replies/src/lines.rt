@@ -9,8 +9,7 @@ ghost use Rattle.artifact_replies.specs.Texts.{member_text};
 
 use crate::texts::{append, append_text};
 use artifacts::Artifact;
-use json_fields::SpelledOut;
-use json_fields::names_realms::{ArtifactId, ArtifactName};
+use json_fields::{ArtifactId, ArtifactName, SpelledOut};
 use std::alloc::{AllocError, Global};
 use std::str::from_utf8;
 

@@ -2,8 +2,7 @@
 ghost use Rattle.std.specs.Prelude.{◌≡◌};
 
 use crate::new_artifact::Digested;
-use names_realms::ArtifactName;
-use names_realms::lists::Bytes;
+use names_realms::{ArtifactName, Bytes};
 use std::marker::Model;
 
 /// A file of an invocation or of a result, recorded whole.

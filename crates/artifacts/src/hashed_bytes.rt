@@ -2,7 +2,7 @@
 ghost use Rattle.std.specs.Prelude.{◌≡◌};
 ghost use Rattle.sha2.specs.Sha256.{sha256};
 
-use names_realms::lists::Bytes;
+use names_realms::Bytes;
 use sha2::{Digest, Sha256};
 use std::marker::Model;
 

@@ -8,8 +8,7 @@ ghost use Rattle.artifacts.specs.Requests.{IsSizeWrong, artifact_of, digested, p
 
 use crate::artifact::Artifact;
 use crate::hashed_bytes::HashedBytes;
-use names_realms::ArtifactName;
-use names_realms::lists::Bytes;
+use names_realms::{ArtifactName, Bytes};
 use std::alloc::{AllocError, Global};
 use std::marker::Model;
 

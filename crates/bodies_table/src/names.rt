@@ -1,7 +1,7 @@
 //! Words for ids and names, realms, moments, spans and tags.
 use crate::faults::Fault;
 use crate::telling::{again, read};
-use field_kinds::pair_kinds::Tag;
+use field_kinds::Tag;
 use json_fields::UnbuiltList;
 use lists::Listed;
 use names_realms::{

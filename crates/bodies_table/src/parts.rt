@@ -1,8 +1,7 @@
 //! Words for what is made of a value that is read, for numbers, and for why a value is refused.
 use crate::faults::Fault;
 use crate::telling::{told_word, written};
-use field_kinds::pair_kinds::{Tag, pairs_from};
-use field_kinds::{ByteSize, NumberRule, PageSize, Properties, VariantMap, Whole};
+use field_kinds::{ByteSize, NumberRule, PageSize, Properties, Tag, VariantMap, Whole, pairs_from};
 use json_fields::{Why, read_body};
 use lists::Listed;
 use names_realms::Pair;

@@ -1,7 +1,7 @@
 //! Words for replies, and for a request that no body asks for.
 use crate::faults::Fault;
 use crate::telling::told_word;
-use field_kinds::pair_kinds::{Tag, pairs_from};
+use field_kinds::{Tag, pairs_from};
 use json_fields::{
     FaultKind, Name, ReadFault, Why, optional, optional_list, read_body, read_json, required,
 };

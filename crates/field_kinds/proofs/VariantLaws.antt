@@ -100,9 +100,9 @@ all_more [] p all is (suc i) d h = absurd (omega (arith, h))
 all_more (q ∷ ps) p all is zero d h = all 0 q (omega arith)
 all_more (q ∷ ps) p all is (suc i) d h = all_more ps p (λ j e k. all (suc j) e (omega (arith, k))) is i d (omega (arith, h))
 
-pub grammar_nil : AreOfGrammar []
+pub of_nil : AreOfGrammar []
 unfolding AreOfGrammar
-grammar_nil = λ i d h. absurd (omega (arith, h))
+of_nil = λ i d h. absurd (omega (arith, h))
 
 pub grammar_more : (ps : List Pair) (p : Pair) → AreOfGrammar ps → IsPairOfGrammar p → AreOfGrammar (ps ++ p ∷ [])
 unfolding AreOfGrammar

@@ -9,8 +9,7 @@ ghost use Rattle.json_fields.specs.Kinds.{a_list, empty_list, IsEach};
 ghost use Rattle.field_kinds.specs.Beside.{a_same_text};
 ghost use Rattle.json_fields.specs.declared.faults.FieldFault.{FieldFault};
 
-use json_fields::lists::Listed;
-use json_fields::{FaultKind, Name, ReadFault, Step, UnbuiltList, Why, filled_at, set_at};
+use json_fields::{FaultKind, Listed, Name, ReadFault, Step, UnbuiltList, Why, filled_at, set_at};
 use serde_json::Value;
 use std::alloc::{AllocError, Global};
 

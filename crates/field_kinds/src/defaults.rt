@@ -7,7 +7,7 @@ ghost use Rattle.json_fields.specs.Fields.{member, optional, set_at};
 ghost use Rattle.field_kinds.specs.Defaults.{HoldsOr, IsReadAs, PutsUnless};
 
 use json_fields::{Name, ReadFault, Written, optional, write_required};
-use pair_kinds::text_kinds::{LimitedText, MayBeEmpty};
+use pair_kinds::{LimitedText, MayBeEmpty};
 use serde_json::{Map, Value};
 use std::alloc::{AllocError, Global};
 

@@ -24,6 +24,9 @@ pub use flags::Flag;
 pub use limited_lists::{LimitedList, ListRule, QueryNames};
 pub use numbers::{ByteSize, NumberRule, PageSize, Whole};
 pub use outside_profile::{NoMessage, NoText};
-pub use pair_kinds::{self, text_kinds};
+pub use pair_kinds::{
+    ContentType, Contents, HashText, Html, InvocationName, LimitedText, Message, RequestId,
+    StatusName, Tag, ids_from, pairs_from, tag_value,
+};
 pub use properties::Properties;
 pub use variants::VariantMap;

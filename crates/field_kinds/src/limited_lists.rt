@@ -7,8 +7,7 @@ ghost use Rattle.json_fields.specs.declared.faults.FaultKind.TheVariants.{BadVal
 ghost use Rattle.json_fields.specs.declared.whys.Why.TheVariants.{TooMany};
 ghost use Rattle.field_kinds.specs.Lists.{over, too_many, most_names};
 
-use json_fields::lists::Listed;
-use json_fields::{FaultKind, Form, ReadFault, Why, Written};
+use json_fields::{FaultKind, Form, Listed, ReadFault, Why, Written};
 use serde_json::Value;
 use std::alloc::{AllocError, Global};
 use std::marker::{Model, PhantomData};

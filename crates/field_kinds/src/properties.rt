@@ -8,8 +8,7 @@ ghost use Rattle.json_fields.specs.Kinds.{an_object};
 ghost use Rattle.field_kinds.specs.Properties.{properties_fault, IsKept};
 
 use crate::trees::{has_float, is_within};
-use json_fields::lists::Bytes;
-use json_fields::{FaultKind, Form, ReadFault, Why, Written};
+use json_fields::{Bytes, FaultKind, Form, ReadFault, Why, Written};
 use serde_json::Value;
 use std::alloc::{AllocError, Global};
 use std::marker::Model;

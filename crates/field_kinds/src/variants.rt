@@ -14,8 +14,10 @@ ghost use Rattle.field_kinds.specs.Variants.{def_name, all_texts, pairs_of, pair
 ghost use Rattle.field_kinds.specs.Variants.{a_def, IsPairOfGrammar, AreOfGrammar, def_members, variant_data};
 
 use crate::defaults::Defaulted;
-use json_fields::names_realms::{NameFault, Pair, PairFault, Variant};
-use json_fields::{FaultKind, Form, Name, ReadFault, Why, Written, object, optional};
+use json_fields::{
+    FaultKind, Form, Name, NameFault, Pair, PairFault, ReadFault, Variant, Why, Written, object,
+    optional,
+};
 use serde_json::{Map, Value};
 use std::alloc::{AllocError, Global};
 use std::marker::Model;
@@ -93,7 +95,7 @@ fn add_pair(alloc: Global, pairs: &mut Vec<Pair>, key: &str, value: &Value) -> R
 }
 
 /// The pairs of an object, or the fault of the first that has one.
-#[tactic(auto, using(crate::proofs::VariantLaws::grammar_nil))]
+#[tactic(auto, using(crate::proofs::VariantLaws::of_nil))]
 fn read_pairs(alloc: Global, map: &Map<String, Value>) -> Result<Vec<Pair>, ReadFault>
     ensures ok { IfOk result (λ ps. (ps.items ≡ pairs_of (members_view map.now.entries))
         × (pairs_fault (pairs_of (members_view map.now.entries)) ≡ None)) }
@@ -206,7 +208,7 @@ impl VariantMap {
 }
 
 /// The pairs at `def`, none where it is unset.
-#[tactic(auto, using(crate::proofs::VariantLaws::grammar_nil))]
+#[tactic(auto, using(crate::proofs::VariantLaws::of_nil))]
 fn pairs_at(alloc: Global, value: &Value) -> Result<Vec<Pair>, ReadFault>
     ensures ok { IfOk result (λ ps. (optional def_name a_def (view value.now) ≡ None)
         × (ps.items ≡ pairs_at (set_at def_name (view value.now))) × IsAscending ps.items) }
@@ -340,7 +342,7 @@ impl Defaulted for VariantMap {
 
     ghost unset = { [] };
 
-    #[tactic(auto, using(crate::proofs::VariantLaws::grammar_nil, crate::proofs::DefaultLaws::of_none))]
+    #[tactic(auto, using(crate::proofs::VariantLaws::of_nil, crate::proofs::DefaultLaws::of_none))]
     fn default_value(alloc: Global) -> Result<VariantMap, AllocError> {
         match variant_of(alloc, Vec::new(alloc)) {
             Ok(variant) => Ok(VariantMap { variant }),

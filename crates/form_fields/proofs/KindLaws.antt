@@ -33,6 +33,7 @@ use Rattle.field_kinds.proofs.TextKinds.TextLaws.{not_blank, only_request_ids_ar
 use Rattle.form_fields.specs.Fields.{Kind}
 use Rattle.form_fields.specs.Kinds.{invocation_kind, moment_kind, part_kind, realm_kind, request_id_kind, tag_kind, text_kind}
 use Rattle.form_fields.specs.Laws.{IsLawfulKind}
+use Rattle.form_fields.proofs.TextLaws.{by_text}
 
 -- ---- texts that spell a value
 
@@ -45,14 +46,9 @@ none_of_empty (Some f) e none =
     let k : refused (Some name.Empty) ≡ None = subst (λ (p : Option NameFault). refused p ≡ None) e none in absurd cc
 
 module _ {A : Type 0} (fault : List ℕ → Option NameFault) (spells : List ℕ → A → Type 0) (OfForm : A → Type 0) (spelling : A → List ℕ) where
-  text_told : fault [] ≡ Some name.Empty → (d : Data) (a : A) → a_text fault d ≡ None → IsText spells d a → empty_text d ≡ false
-  text_told e null a none is = absurd is
-  text_told e (boolean b) a none is = absurd is
-  text_told e (number n) a none is = absurd is
-  text_told e (string []) a none is = absurd (none_of_empty (fault []) e none)
-  text_told e (string (b ∷ bs)) a none is = not_bare b bs
-  text_told e (array ds) a none is = absurd is
-  text_told e (object ms) a none is = absurd is
+  not_empty : fault [] ≡ Some name.Empty → (s : List ℕ) (a : A) → spells s a → a_text fault (string s) ≡ None → empty_text (string s) ≡ false
+  not_empty e [] a is none = absurd (none_of_empty (fault []) e none)
+  not_empty e (b ∷ bs) a is none = not_bare b bs
 
   -- a grammar that refuses the empty text as empty, in which a text means one value
   pub text_lawful : fault [] ≡ Some name.Empty → ((d : Data) (a b : A) → IsText spells d a → IsText spells d b → a ≡ b)
@@ -62,7 +58,7 @@ module _ {A : Type 0} (fault : List ℕ → Option NameFault) (spells : List ℕ
     one = one;
     there = λ d is none. there d none;
     formed = formed;
-    told = λ d a none is. text_told empty d a none is;
+    told = λ d a none is. by_text spells (λ e x. a_text fault e ≡ None → empty_text e ≡ false) (not_empty empty) d a is none;
     again = λ a is. text_written fault spells (spelling a) a (spelled a is);
     plain = λ a. plain_text 0 (spelling a);
   }
@@ -84,20 +80,12 @@ invocation_lawful =
 
 -- ---- request ids
 
-blank_told : (d : Data) (a : List ℕ) → IsText IsSame d a → empty_text d ≡ is_blank a
-blank_told null a is = absurd is
-blank_told (boolean b) a is = absurd is
-blank_told (number n) a is = absurd is
-blank_told (string s) a is = rw is refl
-blank_told (array ds) a is = absurd is
-blank_told (object ms) a is = absurd is
-
 pub request_id_lawful : IsLawfulKind request_id_kind
 request_id_lawful = record {
   one = same_one;
   there = λ d is none. string_there request_id_why d none;
   formed = read_form;
-  told = λ d a none is. blank_told d a is;
+  told = λ d a none is. by_text IsSame (λ e text. empty_text e ≡ is_blank text) (λ text a same. rw same refl) d a is;
   again = λ text is. record { is_set = refl; no_fault = rw ((only_request_ids_are_read text).1 is) refl; meant = refl; emptiness = refl };
   plain = λ text. plain_text 0 text;
 }

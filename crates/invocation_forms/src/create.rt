@@ -11,9 +11,7 @@ ghost use Rattle.invocation_forms.specs.Create.{a_new_invocation, IsNewInvocatio
 ghost use Rattle.invocation_forms.specs.Create.{a_create_request, IsCreate, create_members, create_data};
 
 use crate::names::{deadline, invocation, invocation_id, realm, request_id, tags};
-use field_kinds::optional_filled;
-use field_kinds::pair_kinds::Tag;
-use field_kinds::text_kinds::{LimitedText, RequestId};
+use field_kinds::{LimitedText, RequestId, Tag, optional_filled};
 use json_fields::{
     Form, ReadFault, object, optional, optional_list, put, required, write_list, write_optional,
     write_required,

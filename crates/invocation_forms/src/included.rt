@@ -11,7 +11,7 @@ ghost use Rattle.invocation_forms.specs.Included.{an_include_request, IsInclude,
 use crate::name_values::put_names;
 use crate::named::put_name;
 use crate::names::{add_invocations, including_invocation, remove_invocations};
-use field_kinds::text_kinds::{InvocationName, ids_from};
+use field_kinds::{InvocationName, ids_from};
 use json_fields::{Form, ReadFault, UnbuiltList, object, optional, optional_list, required};
 use lists::Listed;
 use names_realms::InvocationId;

@@ -14,7 +14,7 @@ mod replies;
 mod updates;
 
 pub use create::{CreateInvocation, NewInvocation};
-pub use field_kinds::pair_kinds;
+pub use field_kinds::{Tag, pairs_from};
 pub use included::IncludingInvocation;
 pub use named::NamedInvocation;
 pub use replies::{ShownInvocation, state_name};

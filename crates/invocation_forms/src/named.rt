@@ -8,7 +8,7 @@ ghost use Rattle.invocation_forms.specs.Named.{an_invocation_name, IsNameOf, a_n
 
 use crate::name_values::name_value;
 use crate::names::name;
-use field_kinds::text_kinds::InvocationName;
+use field_kinds::InvocationName;
 use json_fields::{Form, Name, ReadFault, object, put, required};
 use names_realms::InvocationId;
 use serde_json::{Map, Value};

@@ -16,7 +16,7 @@ ghost use Rattle.invocation_forms.specs.Updates.{ChangesSomething, IsReadAsChang
 use crate::masks::UpdateMask;
 use crate::named::{Named, put_name};
 use crate::names::{deadline, invocation, name, tags, update_mask};
-use field_kinds::pair_kinds::Tag;
+use field_kinds::Tag;
 use json_fields::{
     FaultKind, Form, ReadFault, Step, filled_at, object, optional_list, put, required, write_list,
     write_optional,

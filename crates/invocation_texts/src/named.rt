@@ -9,7 +9,7 @@ ghost use Rattle.invocation_forms.specs.Replies.{user_text};
 ghost use Rattle.token_texts.specs.Tokens.{tokens_of, member_tokens, list_shown, IsAdded};
 
 use json::Writer;
-use json_fields::names_realms::InvocationId;
+use json_fields::InvocationId;
 use std::alloc::AllocError;
 use token_texts::{begin_array, end_array, put_key, put_string, put_text, text_of};
 

@@ -1,7 +1,6 @@
 //! An invocation, as the service keeps it.
 
-use names_realms::lists::{Bytes, Listed};
-use names_realms::{InvocationId, Moment, Pair, Realm, State};
+use names_realms::{Bytes, InvocationId, Listed, Moment, Pair, Realm, State};
 
 /// An invocation.
 #[derive(Drop)]

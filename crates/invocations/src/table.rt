@@ -12,8 +12,7 @@ use crate::faults::AddFault;
 use crate::ids::{find_id, hash_of};
 use crate::invocation::Invocation;
 use hash_chains::HashChains;
-use names_realms::lists::Listed;
-use names_realms::{InvocationId, Moment, Pair, State};
+use names_realms::{InvocationId, Listed, Moment, Pair, State};
 use std::alloc::{AllocError, Global};
 use std::marker::Model;
 

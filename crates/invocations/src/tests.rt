@@ -1,7 +1,6 @@
 //! Calls in turn, and a full table.
 use crate::{AddFault, Invocation, Table, laws};
-use names_realms::lists::{Bytes, Listed};
-use names_realms::{InvocationId, Moment, Pair, Realm, State};
+use names_realms::{Bytes, InvocationId, Listed, Moment, Pair, Realm, State};
 use std::alloc::Global;
 use std::test::Fail;
 

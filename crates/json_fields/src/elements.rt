@@ -8,7 +8,7 @@ ghost use Rattle.json_fields.specs.Kinds.{empty_list};
 use crate::faults::{FaultKind, ReadFault};
 use crate::fields::Form;
 use crate::names::Step;
-use names_realms::lists::Listed;
+use names_realms::Listed;
 use serde_json::Value;
 use std::alloc::{AllocError, Global};
 

@@ -7,7 +7,7 @@ ghost use Rattle.json_fields.specs.declared.names.Step.{Step};
 
 use crate::names::{Name, Step};
 use crate::whys::Why;
-use names_realms::lists::Listed;
+use names_realms::Listed;
 use std::alloc::{AllocError, Global};
 
 /// What is wrong with a field.

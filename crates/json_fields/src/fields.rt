@@ -9,7 +9,7 @@ ghost use Rattle.json_fields.specs.declared.faults.FieldFault.{FieldFault};
 
 use crate::faults::{FaultKind, ReadFault};
 use crate::names::{Name, Step};
-use names_realms::lists::Listed;
+use names_realms::Listed;
 use serde_json::Value;
 use std::alloc::Global;
 

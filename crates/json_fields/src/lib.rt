@@ -19,7 +19,11 @@ pub use faults::{FaultKind, FieldFault, ReadFault, path_text};
 pub use fields::{Form, filled_at, optional, optional_list, or_empty_text, required, set_at};
 pub use kinds::{UnbuiltList, object};
 pub use names::{Name, Step};
-pub use names_realms::{self, lists, name_parts};
+pub use names_realms::{
+    ArtifactId, ArtifactName, Bytes, InvocationId, Listed, NameFault, Pair, PairFault, PartForm,
+    Status, TestId, Variant, append_escaped, bad_in_literal, limited, owned_text, read_part,
+    utf8_len,
+};
 pub use texts::{Spelled, SpelledOut, is_empty_text, read_text, write_text};
 pub use whys::Why;
 pub use writing::{Written, put, write_list, write_optional, write_required};

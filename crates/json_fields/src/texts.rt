@@ -14,9 +14,8 @@ use crate::faults::{FaultKind, ReadFault};
 use crate::fields::Form;
 use crate::whys::Why;
 use crate::writing::Written;
-use names_realms::name_parts::owned_text;
 use names_realms::{
-    ArtifactName, Id, IdGrammar, Moment, NameFault, Parent, Realm, ResultName, Span,
+    ArtifactName, Id, IdGrammar, Moment, NameFault, Parent, Realm, ResultName, Span, owned_text,
 };
 use serde_json::Value;
 use std::alloc::{AllocError, Global};

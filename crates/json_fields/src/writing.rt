@@ -6,7 +6,7 @@ ghost use Rattle.json_fields.specs.Writing.{IsWritten, AllWritten, list_data, pu
 
 use crate::fields::Form;
 use crate::names::Name;
-use names_realms::lists::Listed;
+use names_realms::Listed;
 use serde_json::{Map, Value};
 use std::alloc::{AllocError, Global};
 

@@ -1,6 +1,5 @@
 //! What is kept of a numbered request.
-use names_realms::lists::{Bytes, Listed};
-use names_realms::{Moment, Pair};
+use names_realms::{Bytes, Listed, Moment, Pair};
 
 /// What the answer to a repeat is made of again: the places of rows, of which what is shown never
 /// changes, and what the request gave. Places are counted from 0 in order of arrival.

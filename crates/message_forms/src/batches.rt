@@ -1,6 +1,6 @@
 //! What replies show of batches: their rows, whole and in the order in which they came.
 
-use json_fields::names_realms::InvocationId;
+use json_fields::InvocationId;
 use std::marker::Model;
 use test_results::{TestExoneration, TestResult};
 

@@ -10,19 +10,17 @@ mod refusals;
 mod replies;
 mod requests;
 
-pub use artifact_replies::ShownArtifacts;
-pub use artifact_replies::artifact_forms::{BatchCreateArtifacts, GetArtifact, ListArtifacts};
-pub use artifact_replies::text_kinds::{LimitedText, RequestId};
+pub use artifact_replies::{
+    BatchCreateArtifacts, GetArtifact, LimitedText, ListArtifacts, RequestId, ShownArtifacts,
+};
 pub use batches::{ShownExonerations, ShownResults};
 pub use call_forms::{Answer, Asked, Refusal, Standin, Told, write_refusal};
 pub use json_fields::{FaultKind, FieldFault, Step, Why};
-pub use query_forms;
-pub use query_forms::invocation_forms::pair_kinds::{Tag, pairs_from};
-pub use query_forms::invocation_forms::{
-    CreateInvocation, IncludingInvocation, NamedInvocation, NewInvocation, ShownInvocation,
-    UpdateInvocation, state_name,
+pub use query_forms::{
+    BatchCreateTestExonerations, BatchCreateTestResults, CreateInvocation, IncludingInvocation,
+    NamedInvocation, NewInvocation, QueryTestResults, QueryTestVariants, ShownInvocation, Tag,
+    UpdateInvocation, pairs_from, state_name,
 };
-pub use query_forms::result_forms::{BatchCreateTestExonerations, BatchCreateTestResults};
 pub use reading::{FormFault, read_request};
 pub use refusals::refusal_of;
 pub use replies::{Reply, ShownArtifact, write_reply};

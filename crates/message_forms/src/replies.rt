@@ -4,11 +4,10 @@ ghost use Rattle.message_forms.specs.Replies.{reply_text};
 
 use crate::batches::{ShownExonerations, ShownResults};
 use crate::names::{test_exonerations, test_results};
-use artifact_replies::artifacts::Artifact;
-use artifact_replies::{ShownArtifacts, append_artifact, append_artifacts};
+use artifact_replies::{Artifact, ShownArtifacts, append_artifact, append_artifacts};
 use invocation_texts::append_invocation;
 use lists::Bytes;
-use query_forms::invocation_forms::ShownInvocation;
+use query_forms::ShownInvocation;
 use result_texts::{append_exonerations, append_results};
 use std::alloc::{AllocError, Global};
 use std::marker::Model;

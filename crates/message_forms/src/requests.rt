@@ -9,14 +9,13 @@ ghost use Rattle.message_forms.specs.Reading.{Asks};
 ghost use Rattle.message_forms.specs.Methods.{is_called, method_of, service_of, name_of, request_fault, method_asked};
 ghost use Rattle.message_forms.specs.Methods.{request_data, Means, CanBeAsked, IsReadAgain};
 
-use artifact_replies::artifact_forms::{BatchCreateArtifacts, GetArtifact, ListArtifacts};
+use artifact_replies::{BatchCreateArtifacts, GetArtifact, ListArtifacts};
 use json_fields::{Form, ReadFault};
 use lists::Bytes;
-use query_forms::invocation_forms::{
-    CreateInvocation, IncludingInvocation, NamedInvocation, UpdateInvocation,
+use query_forms::{
+    BatchCreateTestExonerations, BatchCreateTestResults, CreateInvocation, GetTestResult,
+    IncludingInvocation, NamedInvocation, QueryTestResults, QueryTestVariants, UpdateInvocation,
 };
-use query_forms::result_forms::{BatchCreateTestExonerations, BatchCreateTestResults};
-use query_forms::{GetTestResult, QueryTestResults, QueryTestVariants};
 use serde_json::Value;
 use std::alloc::{AllocError, Global};
 

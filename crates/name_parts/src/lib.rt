@@ -16,7 +16,7 @@ mod texts;
 pub use alphabets::Alphabet;
 pub use escapes::{append_escaped, escaped_len, read_escaped};
 pub use faults::NameFault;
-pub use lists::{self, Bytes, Numbers};
+pub use lists::{Bytes, Listed, Numbers};
 pub use names::{NameParts, Piece, append_piece, piece_len, read_name_parts};
 pub use parts::{
     PartForm, fault_of_part, fault_unless_empty, first_bad, limited, moved, read_part,

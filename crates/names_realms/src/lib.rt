@@ -20,7 +20,10 @@ pub use ids::{
     TestId,
 };
 pub use moments_spans::{Moment, Span};
-pub use name_parts::{self, Bytes, NameFault, Numbers, lists};
+pub use name_parts::{
+    Bytes, Listed, NameFault, Numbers, PartForm, append, append_escaped, bad_in_literal, limited,
+    owned_text, read_part, utf8_len,
+};
 pub use pairs::{Pair, PairFault};
 pub use parents::Parent;
 pub use realms::Realm;

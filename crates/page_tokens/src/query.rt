@@ -3,7 +3,7 @@ ghost use Rattle.std.specs.Prelude.{◌≡◌, ◌++◌, ℕ, List, length};
 ghost use Rattle.sha2.specs.Hashers.{Holds256};
 ghost use Rattle.page_tokens.specs.Tokens.{line, query_hash};
 
-use name_parts::lists::Bytes;
+use name_parts::Bytes;
 use sha2::{Digest, Sha256};
 use std::marker::Model;
 

@@ -2,7 +2,7 @@
 use crate::{
     ArtifactCursor, Cursor, Query, ResultCursor, TokenFault, VerdictCursor, read_token, write_token,
 };
-use name_parts::lists::Bytes;
+use name_parts::Bytes;
 use names_realms::{ArtifactId, InvocationId, ResultId, TestId};
 use std::alloc::Global;
 use std::test::Fail;

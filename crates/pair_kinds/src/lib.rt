@@ -7,4 +7,7 @@
 mod tags;
 
 pub use tags::{Tag, pairs_from, tag_value};
-pub use text_kinds::{self, json_fields};
+pub use text_kinds::{
+    ContentType, Contents, HashText, Html, InvocationName, LimitedText, MayBeEmpty, Message, Pair,
+    RequestId, SpelledOut, StatusName, ids_from,
+};

@@ -7,12 +7,10 @@ ghost use Rattle.pair_kinds.specs.Tags.{key_name, value_name, put_filled, tag_da
 use serde_json::{Map, Value};
 use std::alloc::{AllocError, Global};
 use std::marker::Model;
-use text_kinds::json_fields::lists::Listed;
-use text_kinds::json_fields::names_realms::{NameFault, Pair, PairFault};
-use text_kinds::json_fields::{
-    Form, Name, ReadFault, Spelled, Written, object, or_empty_text, put,
+use text_kinds::{
+    Form, Listed, Name, NameFault, Pair, PairFault, ReadFault, Spelled, TagKey, TagValue, Written,
+    object, or_empty_text, put,
 };
-use text_kinds::{TagKey, TagValue};
 
 /// A tag: a pair whose key and value are text of the grammar of pairs. Contracts see it as the
 /// pair.

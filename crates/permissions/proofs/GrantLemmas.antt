@@ -112,8 +112,8 @@ realm_place name (r ∷ rs) p e = elim (place_step (bytes_eq name r.name) (place
 ]
 
 -- the lowest bit after a shift
-pub shifted_bit : (n i k : ℕ) → k ≡ i → (bit_and (n / 2 ^ k) 1 == 1) ≡ (bit_at n i == 1)
-shifted_bit n i k e = ap (λ b. b == 1) (shr_and_one n k ∙ ap (bit_at n) e)
+pub low_bit : (n i k : ℕ) → k ≡ i → (bit_and (n / 2 ^ k) 1 == 1) ≡ (bit_at n i == 1)
+low_bit n i k e = ap (λ b. b == 1) (shr_and_one n k ∙ ap (bit_at n) e)
 
 -- grants to a user more, and to a group more
 

@@ -2,7 +2,7 @@
 ghost use Rattle.std.specs.Prelude.{◌≡◌};
 ghost use Rattle.permissions.specs.Faults.{fault_number, fault_name};
 
-use policy_tables::name_parts::Bytes;
+use policy_tables::Bytes;
 use std::alloc::{AllocError, AllocFailed};
 
 /// Why a configuration is refused. A path is keys joined by points, with places in lists in decimal

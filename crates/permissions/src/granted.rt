@@ -8,8 +8,7 @@ use crate::policy::Policy;
 use crate::ranked::{Ask, Pass, Ranked};
 use crate::ranks::rank_of;
 use crate::root::write_root;
-use policy_checks::Permission;
-use policy_checks::names_realms::Realm;
+use policy_checks::{Permission, Realm};
 use std::marker::Model;
 
 /// In which realms a caller has a permission: what `Policy::granted` found in one pass over the

@@ -11,8 +11,7 @@ ghost use Rattle.permissions.specs.Grants.{granted, AreMasks, AreGrants, binding
 
 use crate::roles::mask_of_role;
 use policy_checks::{Book, rest_behind};
-use policy_tables::name_parts::Bytes;
-use policy_tables::{Binding, RealmTable};
+use policy_tables::{Binding, Bytes, RealmTable};
 use std::alloc::{AllocError, Global};
 use std::collections::BTreeMap;
 

@@ -22,5 +22,5 @@ pub use faults::PolicyFault;
 pub use granted::Granted;
 pub use graph::edges_of;
 pub use policy::Policy;
-pub use policy_checks::{self, Permission};
+pub use policy_checks::Permission;
 pub use realms::read_graph;

@@ -14,7 +14,7 @@ fn number_of(permission: Permission) -> u32
 }
 
 /// Whether the permission's bit is set.
-#[tactic(auto, unfolding(crate::specs::Masks::has_bit), using(crate::proofs::GrantLemmas::shifted_bit))]
+#[tactic(auto, unfolding(crate::specs::Masks::has_bit), using(crate::proofs::GrantLemmas::low_bit))]
 pub(crate) fn is_in(mask: u16, permission: Permission) -> bool
     ensures { result ≡ has_bit mask permission }
 {

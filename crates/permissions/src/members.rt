@@ -8,8 +8,7 @@ ghost use Rattle.permissions.specs.Allows.{is_user};
 ghost use Rattle.permissions.specs.Grants.{AreMembers, is_member};
 
 use policy_checks::Book;
-use policy_tables::Group;
-use policy_tables::name_parts::Bytes;
+use policy_tables::{Bytes, Group};
 use std::alloc::{AllocError, Global};
 use std::collections::BTreeSet;
 

@@ -6,8 +6,7 @@ ghost use Rattle.policy_tables.specs.Entries.{with_entry};
 ghost use Rattle.permissions.specs.Graph.{places_in, graph_from, graph_of};
 
 use policy_checks::Book;
-use policy_tables::name_parts::Bytes;
-use policy_tables::{Listed, RealmTable};
+use policy_tables::{Bytes, Listed, RealmTable};
 use std::alloc::{AllocError, Global};
 
 /// Appends the place of a realm, where it is there.

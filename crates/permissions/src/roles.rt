@@ -9,8 +9,7 @@ ghost use Rattle.permissions.specs.Grants.{AreMasks, AreMasksBefore};
 
 use crate::masks::bit_of;
 use policy_checks::{Book, Permission};
-use policy_tables::Role;
-use policy_tables::name_parts::Bytes;
+use policy_tables::{Bytes, Role};
 use std::alloc::{AllocError, Global};
 
 /// The bits with that of the permission of a text.

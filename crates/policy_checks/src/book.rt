@@ -5,7 +5,7 @@ ghost use Rattle.policy_checks.specs.Places.{group_at, role_texts_at, members_at
 ghost use Rattle.policy_checks.specs.Checks.{user_names, group_names, role_names, realm_names};
 
 use crate::index::{NameIndex, Named, index_names};
-use names_realms::name_parts::Bytes;
+use names_realms::Bytes;
 use policy_tables::{Group, PolicyTables, RealmTable, Role, User};
 use std::alloc::{AllocError, Global};
 use std::marker::Model;

@@ -9,8 +9,7 @@ use crate::book::Book;
 use crate::permission::Permission;
 use crate::texts::{Check, TextKind};
 use hex::FromHexError;
-use names_realms::Realm;
-use names_realms::name_parts::NameFault;
+use names_realms::{NameFault, Realm};
 use std::alloc::{AllocError, Global};
 
 /// Whether a byte may stand in a name, behind its first one.

@@ -12,7 +12,7 @@ mod walk;
 pub use book::{Book, members_of, role_texts};
 pub use check::rest_behind;
 pub use index::NameIndex;
-pub use names_realms::{self, lists};
+pub use names_realms::{Bytes, Moment, Realm};
 pub use owners::index_tokens;
 pub use permission::Permission;
 pub use texts::Check;

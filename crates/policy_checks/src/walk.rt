@@ -9,7 +9,7 @@ ghost use Rattle.policy_checks.specs.Spots.{spot, text_spots, spots_of, all_spot
 use crate::book::Book;
 use crate::check::fails;
 use crate::texts::{Check, TextKind};
-use names_realms::name_parts::Bytes;
+use names_realms::Bytes;
 use policy_tables::{Binding, Finding, Group, Notes, RealmTable, Role, User};
 use std::alloc::{AllocError, Global};
 

@@ -8,5 +8,5 @@ mod order;
 mod reading;
 mod stages;
 
-pub use permissions::{self, PolicyFault};
+pub use permissions::{Policy, PolicyFault};
 pub use reading::from_toml;

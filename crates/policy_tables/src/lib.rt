@@ -6,7 +6,6 @@ mod notes;
 mod tables;
 
 pub use findings::{Finding, copied};
-pub use name_parts;
-pub use name_parts::lists::Listed;
+pub use name_parts::{Bytes, Listed};
 pub use notes::Notes;
 pub use tables::{Binding, Group, PolicyTables, RealmTable, Role, User, count_entries};

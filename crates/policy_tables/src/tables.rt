@@ -2,8 +2,7 @@
 ghost use Rattle.std.specs.Prelude.{◌≡◌, length, sum_by};
 ghost use Rattle.policy_tables.specs.Entries.{capped, entries};
 
-use name_parts::Bytes;
-use name_parts::lists::Listed;
+use name_parts::{Bytes, Listed};
 
 /// A user: a name, and the token that the user shows.
 #[derive(Drop)]

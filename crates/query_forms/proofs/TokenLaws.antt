@@ -23,6 +23,7 @@ use Rattle.field_kinds.proofs.ThereLaws.{IsThere}
 use Rattle.form_fields.specs.Fields.{Fields, Kind, filled_field}
 use Rattle.form_fields.specs.Laws.{AreLawful, IsLawfulKind}
 use Rattle.form_fields.proofs.FieldLaws.{filled_lawful}
+use Rattle.form_fields.proofs.TextLaws.{by_text}
 use Rattle.page_tokens.specs.declared.faults.TokenFault.{TokenFault}
 use Rattle.page_tokens.specs.declared.faults.TokenFault.TheVariants.{NotBase64, BadForm, OtherQuery, Memory}
 use Rattle.page_tokens.specs.declared.keys.KeyPart.{KeyPart}
@@ -153,12 +154,8 @@ cursor_kind f query = record {
 }
 
 cursor_formed : {C : Type 0} (f : CursorForm C) (query : List ℕ) → GivesForm (a_token f query) (IsCursor f query) (HasToken f query)
-cursor_formed f query null c none is = absurd is
-cursor_formed f query (boolean b) c none is = absurd is
-cursor_formed f query (number n) c none is = absurd is
-cursor_formed f query (string s) c none is = subst (λ (text : List ℕ). IsTokenOf f query text c) is.is_token.spelling is
-cursor_formed f query (array ds) c none is = absurd is
-cursor_formed f query (object ms) c none is = absurd is
+cursor_formed f query d c none is =
+    by_text (IsTokenOf f query) (λ e x. HasToken f query x) (λ s x told. subst (λ (text : List ℕ). IsTokenOf f query text x) told.is_token.spelling told) d c is
 
 -- ---- what is written
 
@@ -184,12 +181,9 @@ token_written f query c size is =
     }
 
 cursor_told : {C : Type 0} (f : CursorForm C) (query : List ℕ) → length query ≡ 32 → (d : Data) (c : C) → IsCursor f query d c → empty_text d ≡ false
-cursor_told f query size null c is = absurd is
-cursor_told f query size (boolean b) c is = absurd is
-cursor_told f query size (number n) c is = absurd is
-cursor_told f query size (string s) c is = some_text query f.number f.parts s (no_fault query f.number f.parts (f.held c) s size is.is_token)
-cursor_told f query size (array ds) c is = absurd is
-cursor_told f query size (object ms) c is = absurd is
+cursor_told f query size d c is =
+    by_text (IsTokenOf f query) (λ e x. empty_text e ≡ false)
+    (λ s x told. some_text query f.number f.parts s (no_fault query f.number f.parts (f.held x) s size told.is_token)) d c is
 
 pub cursor_lawful : {C : Type 0} (f : CursorForm C) → IsLawfulCursor f → (query : List ℕ) → length query ≡ 32 → IsLawfulKind (cursor_kind f query)
 cursor_lawful f law query size = record {

@@ -13,8 +13,11 @@ mod sizes;
 mod tokens;
 mod variants;
 
-pub use invocation_forms;
-pub use result_forms;
+pub use invocation_forms::{
+    CreateInvocation, IncludingInvocation, NamedInvocation, NewInvocation, ShownInvocation, Tag,
+    UpdateInvocation, pairs_from, state_name,
+};
+pub use result_forms::{BatchCreateTestExonerations, BatchCreateTestResults};
 pub use results::QueryTestResults;
 pub use single::GetTestResult;
 pub use variants::QueryTestVariants;

@@ -10,8 +10,7 @@ ghost use Rattle.query_forms.specs.Lists.{names_of_query, AreNamed, text_of, nam
 ghost use Rattle.query_forms.specs.Tokens.{query_in};
 
 use crate::names::invocations;
-use field_kinds::text_kinds::InvocationName;
-use field_kinds::{LimitedList, QueryNames};
+use field_kinds::{InvocationName, LimitedList, QueryNames};
 use json_fields::{ReadFault, UnbuiltList, filled_at, required};
 use lists::{Bytes, Listed};
 use names_realms::{InvocationId, NameFault};

@@ -13,5 +13,5 @@ pub use pages::{HeldResult, ShownRows, ShownVerdict, ShownVerdicts};
 pub use paging::{show_results, show_verdicts};
 pub use queries::{Asker, ResultQuery, VerdictQuery};
 pub use showing::show_result;
-pub use verdict_lists;
-pub use verdict_masks;
+pub use verdict_lists::{VerdictStatus, View};
+pub use verdict_masks::ShownResult;

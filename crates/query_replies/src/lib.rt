@@ -10,5 +10,7 @@ mod results;
 mod verdicts;
 mod writing;
 
-pub use query_pages::{self, verdict_lists};
+pub use query_pages::{
+    Asker, ResultQuery, VerdictQuery, View, show_result, show_results, show_verdicts,
+};
 pub use replies::{write_result, write_results_page, write_verdicts_page};

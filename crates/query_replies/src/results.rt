@@ -9,8 +9,7 @@ ghost use Rattle.query_replies.specs.Results.{more_seen, name_of_seen, seen_data
 
 use crate::names::is_masked;
 use form_fields::put_some;
-use query_pages::HeldResult;
-use query_pages::verdict_masks::ShownResult;
+use query_pages::{HeldResult, ShownResult};
 use result_forms::names::{
     duration, expected, failure_reason, name, properties, result_id, start_time, status,
     summary_html, tags, test_id, variant, variant_hash,

@@ -34,8 +34,7 @@ use std::mem::forget;
 use std::sync::Wait;
 use std::thread::Threads;
 use whole_reads::{ReadEnd, read_front};
-use workload_runs::policy_reading::from_toml;
-use workload_runs::{Asking, Load, LoadEnding, Stop, load_line, load_policy, run_load};
+use workload_runs::{Asking, Load, LoadEnding, Stop, from_toml, load_line, load_policy, run_load};
 
 /// The most that is read of a configuration: one byte more than it may have.
 const MOST_READ: usize = 4_194_305;

@@ -2,7 +2,7 @@
 ghost use Rattle.std.specs.Prelude.{◌≡◌, ℕ, MatchOption};
 ghost use Rattle.recorded_calls.specs.Commands.{kind_byte};
 
-use policy_checks::names_realms::Moment;
+use policy_checks::Moment;
 
 /// Which method a recorded call was for. A method that changes nothing has none.
 #[derive(Clone, Copy, Debug, PartialEq, Eq)]

@@ -9,7 +9,7 @@ ghost use Rattle.recorded_calls.specs.Commands.{ticked};
 
 use crate::command::{CallKind, Command, RecordedCall};
 use crate::writing::has_name_form;
-use policy_checks::names_realms::Moment;
+use policy_checks::Moment;
 
 /// 9999-01-01T00:00:00Z, in microseconds since 1970.
 const LATEST: u64 = 253_370_764_800_000_000;

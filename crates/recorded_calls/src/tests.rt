@@ -1,7 +1,7 @@
 //! Bytes that were laid out by hand, and bytes that are no command.
 
 use crate::{CallKind, Command, RecordedCall, read_command, write_command};
-use policy_checks::names_realms::Moment;
+use policy_checks::Moment;
 use std::alloc::Global;
 use std::test::Fail;
 

@@ -7,8 +7,7 @@ ghost use Rattle.recorded_calls.specs.Commands.{call_said, called, command_bytes
 ghost use Rattle.recorded_calls.specs.Commands.{record_length, ticked};
 
 use crate::command::{Command, RecordedCall};
-use policy_checks::lists::Bytes;
-use policy_checks::names_realms::Moment;
+use policy_checks::{Bytes, Moment};
 use std::alloc::{AllocError, Global};
 
 /// Whether a byte may stand in a name, behind its first one.

@@ -10,6 +10,11 @@ mod refusals;
 
 pub use demand::{Demand, demand_of, invocation_of};
 pub use grants::Grant;
-pub use message_forms::{self, query_forms};
+pub use message_forms::{
+    CreateInvocation, FormFault, LimitedText, ListArtifacts, Method, QueryTestResults,
+    QueryTestVariants, Reply, Request, RequestId, ShownArtifact, ShownArtifacts, ShownExonerations,
+    ShownInvocation, ShownResults, Tag, UpdateInvocation, pairs_from, read_request, state_name,
+    write_reply,
+};
 pub use numbers::{NumberCheck, check_digest, check_number, digest_again};
 pub use reading::{Call, TokenCheck, Understood, caller_of, understand};

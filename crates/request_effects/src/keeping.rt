@@ -10,7 +10,7 @@ ghost use Rattle.request_effects.specs.Keeps.{answer_kept, kept_of, numbered_of}
 use kept_replies::{KeptAnswer, KeptReply};
 use lists::{Bytes, Listed};
 use names_realms::Pair;
-use request_rules::request_demands::{Call, Demand, demand_of};
+use request_rules::{Call, Demand, demand_of};
 use service_effects::{Effect, Tables};
 use std::alloc::{AllocError, Global};
 

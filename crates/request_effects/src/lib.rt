@@ -14,9 +14,11 @@ mod shows;
 pub use keeping::{Numbered, keep_of, numbered_in, numbered_of};
 pub use laws::kept_is_first;
 pub use planning::{Context, plan_change};
-pub use query_replies::query_pages::Asker;
-pub use request_rules;
-pub use request_rules::permissions::Policy;
-pub use request_rules::{message_forms, permissions, request_demands};
+pub use query_replies::Asker;
+pub use request_rules::{
+    Call, Demand, FormFault, Located, Method, NumberCheck, Policy, Request, Rule, Situation,
+    Understood, caller_of, check_digest, check_number, demand_of, digest_again, holdings_for,
+    is_right, read_request, understand,
+};
 pub use showing::{show, show_kept};
 pub use shows::{Showing, Shows, shows_of};

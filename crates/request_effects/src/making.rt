@@ -5,7 +5,7 @@ ghost use Rattle.invocation_world.specs.World.{IsCallMoment, default_lifetime, n
 use invocations::Invocation;
 use lists::{Bytes, Listed};
 use names_realms::{Moment, Pair, State};
-use request_rules::message_forms::{CreateInvocation, Tag, pairs_from};
+use request_rules::{CreateInvocation, Tag, pairs_from};
 use std::alloc::{AllocError, Global};
 
 /// Two days, in microseconds.

@@ -17,8 +17,7 @@ use invocation_world::InvocationWorld;
 use invocations::AddFault;
 use lists::Listed;
 use names_realms::{Moment, Pair, State};
-use request_rules::Located;
-use request_rules::message_forms::{CreateInvocation, Request, UpdateInvocation};
+use request_rules::{CreateInvocation, Located, Request, UpdateInvocation};
 use service_effects::{
     Effect, EffectFault, FullTable, Planned, Tables, plan_artifacts, plan_exonerations,
     plan_results,

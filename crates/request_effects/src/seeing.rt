@@ -9,12 +9,11 @@ use crate::showing::done;
 use artifact_pages::{ArtifactQuery, show_artifacts};
 use call_forms::Answer;
 use lists::Bytes;
-use query_replies::query_pages::{
-    Asker, ResultQuery, VerdictQuery, show_result, show_results, show_verdicts,
+use query_replies::{
+    Asker, ResultQuery, VerdictQuery, View, show_result, show_results, show_verdicts, write_result,
+    write_results_page, write_verdicts_page,
 };
-use query_replies::verdict_lists::View;
-use query_replies::{write_result, write_results_page, write_verdicts_page};
-use request_rules::message_forms::{Reply, ShownArtifact};
+use request_rules::{Reply, ShownArtifact};
 use service_effects::Tables;
 use std::alloc::{AllocError, Global};
 

@@ -23,11 +23,10 @@ use invocation_world::InvocationWorld;
 use invocations::Invocation;
 use kept_replies::KeptAnswer;
 use names_realms::{InvocationId, Moment, Pair};
-use query_replies::query_pages::Asker;
-use request_rules::message_forms::{
-    Reply, ShownArtifacts, ShownExonerations, ShownInvocation, ShownResults, write_reply,
+use query_replies::Asker;
+use request_rules::{
+    Policy, Reply, ShownArtifacts, ShownExonerations, ShownInvocation, ShownResults, write_reply,
 };
-use request_rules::permissions::Policy;
 use service_effects::{Change, Effect, Tables};
 use std::alloc::{AllocError, Global};
 use test_results::{TestExoneration, TestResult};

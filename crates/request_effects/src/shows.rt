@@ -11,10 +11,8 @@ ghost use Rattle.request_rules.specs.Named.{first_place, places_in};
 use crate::cursors::{copied_result, copied_verdict};
 use artifact_pages::ArtifactQuery;
 use lists::Numbers;
-use query_replies::query_pages::{ResultQuery, VerdictQuery};
-use request_rules::Located;
-use request_rules::message_forms::{ListArtifacts, Request};
-use request_rules::query_forms::{QueryTestResults, QueryTestVariants};
+use query_replies::{ResultQuery, VerdictQuery};
+use request_rules::{ListArtifacts, Located, QueryTestResults, QueryTestVariants, Request};
 use service_effects::Tables;
 use std::alloc::{AllocError, Global};
 

@@ -9,8 +9,7 @@ use crate::judging::{deadline_range, itself, not_active, not_found, taken, too_m
 use crate::locating::Located;
 use invocations::Table;
 use names_realms::Moment;
-use request_demands::message_forms::Request;
-use request_demands::{Demand, demand_of};
+use request_demands::{Demand, Request, demand_of};
 
 /// Whether a demand breaks none of the rules that are asked again.
 fn breaks_none(table: &Table, moment: Moment, places: &Located, demand: &Demand) -> bool

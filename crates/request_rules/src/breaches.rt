@@ -14,7 +14,7 @@ use call_forms::{Answer, Refusal, write_refusal};
 use lists::Bytes;
 use names_realms::{ArtifactName, InvocationId, Moment, Realm, ResultName, State};
 use permissions::Permission;
-use request_demands::message_forms::{LimitedText, RequestId, state_name};
+use request_demands::{LimitedText, RequestId, state_name};
 use std::alloc::{AllocError, Global};
 
 /// A rule that a request breaks, with what breaks it. It is found without memory.

@@ -15,8 +15,7 @@ ghost use Rattle.request_rules.specs.Broken.{IsAbsent, IsMissing, artifact_named
 use artifacts::ArtifactRows;
 use invocations::{Invocation, Table};
 use names_realms::{ArtifactName, InvocationId, ResultName};
-use request_demands::message_forms::Request;
-use request_demands::{Demand, demand_of, invocation_of};
+use request_demands::{Demand, Request, demand_of, invocation_of};
 use std::alloc::{AllocError, Global};
 use std::marker::Model;
 use test_results::ResultRows;

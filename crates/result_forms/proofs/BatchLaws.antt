@@ -45,7 +45,7 @@ batch_stops f d e i n r invocation request_id is_i is_n is_r one two three inner
 
 -- ---- the text of a field, by what it means
 
-abbrev told_text : {A : Type 0} → (A → List ℕ) → Option A → List ℕ
+abbrev pub told_text : {A : Type 0} → (A → List ℕ) → Option A → List ℕ
 told_text spelling None = []
 told_text spelling (Some a) = spelling a
 
@@ -74,11 +74,11 @@ module _ {A : Type 0} (spells : List ℕ → A → Type 0) (spelling : A → Lis
   seen (Some (object ms)) None h = absurd h
   seen (Some (object ms)) (Some a) h = absurd h
 
-  text_seen : (n : NameForm) (d : Data) (o : Option A) → HoldsMaybe (IsText spells) (filled_at n empty_text d) o → text_in (set_at n d) ≡ told_text spelling o
+  pub text_seen : (n : NameForm) (d : Data) (o : Option A) → HoldsMaybe (IsText spells) (filled_at n empty_text d) o → text_in (set_at n d) ≡ told_text spelling o
   unfolding filled_at set_at
   text_seen n d o h = seen (member n d) o h
 
-held_some : {A : Type 0} (means : Data → A → Type 0) (o : Option Data) (a : A) → Holds means o a → HoldsMaybe means o (Some a)
+pub held_some : {A : Type 0} (means : Data → A → Type 0) (o : Option Data) (a : A) → Holds means o a → HoldsMaybe means o (Some a)
 held_some means None a h = absurd h
 held_some means (Some d) a h = h
 

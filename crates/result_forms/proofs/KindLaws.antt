@@ -26,7 +26,7 @@ use Rattle.json_fields.specs.Faults.{here}
 use Rattle.json_fields.specs.declared.faults.FaultKind.TheVariants.{WrongKind}
 use Rattle.json_fields.specs.Fields.{optional, set_at, fault_optional, filled_at}
 use Rattle.json_fields.specs.Kinds.{an_object}
-use Rattle.json_fields.specs.Texts.{a_text, refused, span_fault, bad_value, IsText}
+use Rattle.json_fields.specs.Texts.{a_text, refused, span_fault, IsSame, IsText}
 use Rattle.json_fields.specs.declared.names.Step.TheVariants.{Member}
 use Rattle.json_fields.specs.declared.whys.Why.{Why}
 use Rattle.json_fields.proofs.FormLaws.{GivesForm, text_form}
@@ -42,6 +42,7 @@ use Rattle.field_kinds.specs.Flags.{IsFlag}
 use Rattle.field_kinds.specs.Properties.{a_properties, empty_object}
 use Rattle.field_kinds.specs.Variants.{def_name, all_texts, pairs_of, told, pairs_fault, a_def, pairs_in, pairs_at, a_variant, IsVariant, IsPairOfGrammar, AreOfGrammar}
 use Rattle.form_fields.proofs.FieldLaws.{is_filled}
+use Rattle.form_fields.proofs.TextLaws.{by_text, unbad}
 use Rattle.result_forms.specs.Fields.{IsUtf8Text, IsMessage, IsPropertiesOf, IsPropertiesText}
 
 some_same : {A : Type 0} (a b : A) → Some a ≡ Some b → a ≡ b
@@ -76,17 +77,10 @@ properties_one d a b h k = h.compact ∙ sym (k.compact)
 
 -- ---- of its form
 
-pub unbad : (o : Option Why) → bad_value o ≡ None → o ≡ None
-unbad None e = refl
-unbad (Some why) e = absurd cc
-
 pub limited_form : (why : List ℕ → Option Why) → GivesForm (a_string why) IsUtf8Text (λ text. IsUtf8 text × (why text ≡ None))
-limited_form why null text none is = absurd (is.0)
-limited_form why (boolean b) text none is = absurd (is.0)
-limited_form why (number n) text none is = absurd (is.0)
-limited_form why (string s) text none is = (is.1, subst (λ (t : List ℕ). why t ≡ None) (sym (is.0)) (unbad (why s) none))
-limited_form why (array ds) text none is = absurd (is.0)
-limited_form why (object ms) text none is = absurd (is.0)
+limited_form why d text none is =
+    by_text IsSame (λ e t. a_string why e ≡ None → IsUtf8 t → IsUtf8 t × (why t ≡ None))
+    (λ s t same fine utf8. (utf8, subst (λ (x : List ℕ). why x ≡ None) (sym same) (unbad (why s) fine))) d text is.0 none is.1
 
 pub message_empty : IsMessage []
 message_empty = (IsUtf8-nil, refl)

@@ -32,6 +32,7 @@ use Rattle.field_kinds.specs.TextKinds.Texts.{a_string}
 use Rattle.field_kinds.specs.Variants.{a_variant, def_members, variant_data, AreOfGrammar, IsVariant}
 use Rattle.field_kinds.proofs.CompactLaws.{compact_read, compact_utf8}
 use Rattle.field_kinds.proofs.PairKinds.TagLaws.{plain_tag}
+use Rattle.field_kinds.proofs.ReadValues.{IsReadValue}
 use Rattle.field_kinds.proofs.ThereLaws.{IsThere, there_or_filled, variant_there}
 use Rattle.field_kinds.proofs.VariantLaws.{variant_written}
 use Rattle.form_fields.specs.Fields.{Fields, Kind, default_field, last, object_kind}
@@ -40,6 +41,7 @@ use Rattle.form_fields.specs.Laws.{AreLawful, IsLawfulKind, IsMadeOf}
 use Rattle.form_fields.proofs.FieldLaws.{default_lawful, last_lawful}
 use Rattle.form_fields.proofs.KindLaws.{tag_lawful, text_lawful}
 use Rattle.form_fields.proofs.RequestLaws.{object_lawful}
+use Rattle.form_fields.proofs.TextLaws.{by_string}
 use Rattle.result_forms.specs.Fields.{a_reason, message_why, IsMessage, IsPropertiesOf, IsPropertiesText, IsReason, IsUtf8Text}
 use Rattle.result_forms.specs.Names as name
 use Rattle.result_forms.specs.Shown.{flag_shown, pair_data, pair_shown, properties_shown, reason_of, reason_shown, text_shown, variant_shown}
@@ -74,12 +76,8 @@ utf8_kind why = record {
 }
 
 utf8_there : (why : List ℕ → Option Why) → IsThere (a_string why) IsUtf8Text
-utf8_there why null is h = absurd cc
-utf8_there why (boolean b) is h = absurd cc
-utf8_there why (number n) is h = absurd cc
-utf8_there why (string s) is h = (s, (refl, is))
-utf8_there why (array ds) is h = absurd cc
-utf8_there why (object ms) is h = absurd cc
+utf8_there why d is none =
+    by_string why (λ e. IsReadValue e → (text : List ℕ) × IsUtf8Text e text) (λ s fine utf8. (s, (refl, utf8))) d none is
 
 pub utf8_lawful : (why : List ℕ → Option Why) → IsLawfulKind (utf8_kind why)
 utf8_lawful why = record {

@@ -5,8 +5,7 @@ ghost use Rattle.json_fields.specs.Faults.{Says};
 ghost use Rattle.json_fields.specs.Fields.{optional, set_at};
 
 use crate::names::primary_error_message;
-use field_kinds::or_default;
-use field_kinds::text_kinds::{LimitedText, Message};
+use field_kinds::{LimitedText, Message, or_default};
 use json_fields::{Form, ReadFault, object};
 use lists::Bytes;
 use serde_json::Value;

@@ -9,7 +9,7 @@ use crate::names::{
     tags, test_id, variant,
 };
 use crate::values::{read_flag, read_html, read_message, read_properties, read_tags, read_variant};
-use field_kinds::text_kinds::StatusName;
+use field_kinds::StatusName;
 use json_fields::{Form, ReadFault, object, optional, required};
 use lists::{Bytes, Listed};
 use names_realms::{Moment, Pair, ResultId, Span, Status, TestId, Variant};

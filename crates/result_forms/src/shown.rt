@@ -8,9 +8,7 @@ ghost use Rattle.result_forms.specs.Shown.{reason_shown, properties_shown, right
 
 use crate::members::{Shown, list_value};
 use crate::names::primary_error_message;
-use field_kinds::Properties;
-use field_kinds::pair_kinds::tag_value;
-use field_kinds::text_kinds::StatusName;
+use field_kinds::{Properties, StatusName, tag_value};
 use form_fields::put_some;
 use json_fields::{Form, ReadFault, SpelledOut, Written, write_text};
 use names_realms::{Pair, Status};

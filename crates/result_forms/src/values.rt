@@ -13,9 +13,9 @@ ghost use Rattle.field_kinds.specs.Variants.{a_variant, IsVariant};
 ghost use Rattle.result_forms.specs.Fields.{html, a_reason, IsUtf8Text, IsReason, IsPropertiesOf};
 
 use crate::reasons::Reason;
-use field_kinds::pair_kinds::{Tag, pairs_from};
-use field_kinds::text_kinds::{Html, LimitedText};
-use field_kinds::{Flag, Properties, VariantMap, optional_filled, or_default};
+use field_kinds::{
+    Flag, Html, LimitedText, Properties, Tag, VariantMap, optional_filled, or_default, pairs_from,
+};
 use json_fields::{Name, ReadFault, optional, optional_list};
 use lists::{Bytes, Listed};
 use names_realms::{Pair, Variant};

@@ -19,7 +19,7 @@ use crate::shown::{
     bytes_value, flag_value, properties_value, reason_value, spelled_value, status_value,
     tags_value, text_value, variant_value,
 };
-use field_kinds::text_kinds::{LimitedText, RequestId};
+use field_kinds::{LimitedText, RequestId};
 use form_fields::put_some;
 use json_fields::Written;
 use names_realms::InvocationId;

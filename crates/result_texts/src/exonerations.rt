@@ -8,7 +8,7 @@ use crate::names::{NameRoom, id_of_exoneration, put_exoneration_name};
 use crate::pairs::put_variant;
 use crate::values::{put_bytes, put_label};
 use json::Writer;
-use json_fields::names_realms::InvocationId;
+use json_fields::InvocationId;
 use std::alloc::{AllocError, Global};
 use test_results::TestExoneration;
 use token_texts::{begin_object, end_object, put_text};

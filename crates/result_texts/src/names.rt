@@ -6,8 +6,7 @@ ghost use Rattle.result_forms.specs.Replies.{name_of_result, exoneration_id, nam
 ghost use Rattle.token_texts.specs.Tokens.{member_tokens, IsAdded};
 
 use json::Writer;
-use json_fields::name_parts::append_escaped;
-use json_fields::names_realms::{InvocationId, TestId};
+use json_fields::{InvocationId, TestId, append_escaped};
 use std::alloc::{AllocError, Global};
 use std::str::from_utf8;
 use test_results::{TestExoneration, TestResult};

@@ -9,7 +9,7 @@ ghost use Rattle.token_texts.specs.Tokens.{member_tokens, IsAdded};
 
 use crate::values::put_value;
 use json::Writer;
-use json_fields::names_realms::{Pair, Variant};
+use json_fields::{Pair, Variant};
 use result_forms::variant_value;
 use std::alloc::{AllocError, Global};
 use std::str::from_utf8;

@@ -8,7 +8,7 @@ use crate::names::{NameRoom, put_result_name};
 use crate::pairs::put_variant;
 use crate::values::{put_bytes, put_flag, put_label, put_properties, put_reason, put_status};
 use json::Writer;
-use json_fields::names_realms::InvocationId;
+use json_fields::InvocationId;
 use std::alloc::{AllocError, Global};
 use test_results::TestResult;
 use token_texts::{begin_object, end_object, put_optional, put_tags, put_text};

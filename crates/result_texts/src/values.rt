@@ -11,7 +11,7 @@ ghost use Rattle.result_forms.specs.Shown.{text_shown, flag_shown, reason_shown,
 ghost use Rattle.token_texts.specs.Tokens.{tokens_of, member_tokens, IsAdded};
 
 use json::{Reader, Scratch, Token, Writer};
-use json_fields::names_realms::{Status, Variant};
+use json_fields::{Status, Variant};
 use result_forms::properties_value;
 use serde_json::Value;
 use std::alloc::{AllocError, Global};

@@ -20,11 +20,9 @@ use crate::serving::Core;
 use call_forms::Answer;
 use kept_replies::Ready;
 use names_realms::Moment;
-use request_effects::message_forms::Request;
-use request_effects::request_demands::Call;
-use request_effects::request_rules::Located;
 use request_effects::{
-    Asker, Context, Numbered, Policy, Showing, keep_of, numbered_of, plan_change, show, shows_of,
+    Asker, Call, Context, Located, Numbered, Policy, Request, Showing, keep_of, numbered_of,
+    plan_change, show, shows_of,
 };
 use service_effects::{Change, Effect, Planned, StoreFull};
 use std::alloc::{AllocError, Global};

@@ -27,9 +27,10 @@ use call_forms::{Answer, Standin, Told};
 use invocations::Invocation;
 use kept_replies::{KeptReplies, Ready};
 use names_realms::Moment;
-use request_effects::request_demands::{Call, NumberCheck, Understood, check_number};
-use request_effects::request_rules::{Located, Rule, Situation, holdings_for};
-use request_effects::{Policy, show_kept};
+use request_effects::{
+    Call, Located, NumberCheck, Policy, Rule, Situation, Understood, check_number, holdings_for,
+    show_kept,
+};
 use service_effects::{Tables, carry_out};
 use std::alloc::{AllocError, Global};
 use std::marker::Model;

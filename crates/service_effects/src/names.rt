@@ -2,8 +2,7 @@
 ghost use Rattle.std.specs.Prelude.{◌≡◌, IfOk};
 ghost use Rattle.names_realms.specs.ResultNames.{result_name};
 
-use names_realms::InvocationId;
-use names_realms::name_parts::{append, append_escaped};
+use names_realms::{InvocationId, append, append_escaped};
 use std::alloc::{AllocError, Global};
 use test_results::TestResult;
 

@@ -1,8 +1,7 @@
 //! A test exoneration, and a batch of them.
 ghost use Rattle.std.specs.Prelude.{◌≡◌};
 
-use names_realms::lists::Bytes;
-use names_realms::{TestId, Variant};
+use names_realms::{Bytes, TestId, Variant};
 use std::marker::Model;
 
 /// Why the unexpected results of a test with a variant don't count.

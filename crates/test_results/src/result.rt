@@ -1,8 +1,7 @@
 //! A test result, and a batch of them.
 ghost use Rattle.std.specs.Prelude.{◌≡◌};
 
-use names_realms::lists::{Bytes, Listed};
-use names_realms::{Moment, Pair, ResultId, Span, Status, TestId, Variant};
+use names_realms::{Bytes, Listed, Moment, Pair, ResultId, Span, Status, TestId, Variant};
 use std::marker::Model;
 
 /// A result of a test.

@@ -13,8 +13,7 @@ ghost use Rattle.text_kinds.specs.Contents.{contents_why, contents_why_of, Encod
 
 use base64::DecodeAllocError;
 use base64::engine::general_purpose::STANDARD;
-use json_fields::lists::Bytes;
-use json_fields::{FaultKind, Form, ReadFault, Why, Written, is_empty_text};
+use json_fields::{Bytes, FaultKind, Form, ReadFault, Why, Written, is_empty_text};
 use serde_json::Value;
 use std::alloc::{AllocError, Global};
 use std::marker::Model;

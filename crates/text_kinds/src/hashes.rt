@@ -5,8 +5,7 @@ ghost use Rattle.json_fields.specs.Faults.{Says};
 ghost use Rattle.json_fields.specs.Texts.{bad_value};
 ghost use Rattle.text_kinds.specs.Hashes.{is_lower_hex, digit_place, end_place, wrong_place, hash_why};
 
-use json_fields::name_parts::bad_in_literal;
-use json_fields::{FaultKind, Form, ReadFault, Why, Written, is_empty_text};
+use json_fields::{FaultKind, Form, ReadFault, Why, Written, bad_in_literal, is_empty_text};
 use serde_json::Value;
 use std::alloc::{AllocError, Global};
 use std::marker::Model;

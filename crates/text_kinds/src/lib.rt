@@ -15,7 +15,10 @@ mod texts;
 
 pub use contents::Contents;
 pub use hashes::HashText;
-pub use json_fields;
+pub use json_fields::{
+    Form, Listed, Name, NameFault, Pair, PairFault, ReadFault, Spelled, SpelledOut, Written,
+    object, or_empty_text, put,
+};
 pub use names::{InvocationName, ids_from};
 pub use statuses::StatusName;
 pub use tag_texts::{TagKey, TagValue};

@@ -3,9 +3,7 @@
 
 ghost use Rattle.std.specs.Prelude.{◌≡◌, ℕ, List, IfOk};
 
-use json_fields::lists::Listed;
-use json_fields::names_realms::{InvocationId, NameFault};
-use json_fields::{Spelled, SpelledOut};
+use json_fields::{InvocationId, Listed, NameFault, Spelled, SpelledOut};
 use std::alloc::{AllocError, Global};
 use std::marker::Model;
 

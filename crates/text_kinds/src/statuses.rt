@@ -3,8 +3,7 @@ ghost use Rattle.std.specs.Prelude.{◌≡◌};
 ghost use Rattle.text_kinds.specs.Statuses.{no_status, status_of, status_name};
 ghost use Rattle.serde_json.specs.View.{view};
 
-use json_fields::names_realms::Status;
-use json_fields::{FaultKind, Form, ReadFault, Why, Written};
+use json_fields::{FaultKind, Form, ReadFault, Status, Why, Written};
 use serde_json::Value;
 use std::alloc::{AllocError, Global};
 

@@ -2,10 +2,7 @@
 ghost use Rattle.std.specs.Prelude.{◌≡◌};
 ghost use Rattle.json_fields.specs.NamesRealms.Pairs.{IsPairKey, IsPairValue, pair_value_fault};
 
-use json_fields::Spelled;
-use json_fields::lists::Bytes;
-use json_fields::name_parts::{PartForm, limited, owned_text, read_part, utf8_len};
-use json_fields::names_realms::NameFault;
+use json_fields::{Bytes, NameFault, PartForm, Spelled, limited, owned_text, read_part, utf8_len};
 use std::alloc::Global;
 use std::marker::Model;
 

@@ -7,8 +7,7 @@ ghost use Rattle.json_fields.specs.Texts.{bad_value};
 ghost use Rattle.text_kinds.specs.Texts.{limited_why, any_byte, printed, inked, most_of_html, most_of_message};
 ghost use Rattle.text_kinds.specs.Texts.{most_of_content_type, least_of_request_id, most_of_request_id};
 
-use json_fields::lists::Bytes;
-use json_fields::{FaultKind, Form, ReadFault, Why, Written, is_empty_text};
+use json_fields::{Bytes, FaultKind, Form, ReadFault, Why, Written, is_empty_text};
 use serde_json::Value;
 use std::alloc::{AllocError, Global};
 use std::marker::{Model, PhantomData};

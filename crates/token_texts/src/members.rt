@@ -6,7 +6,7 @@ ghost use Rattle.token_texts.specs.Tokens.{member_tokens, IsAdded};
 
 use crate::tokens::put_text;
 use json::Writer;
-use pair_kinds::json_fields::SpelledOut;
+use pair_kinds::SpelledOut;
 use std::alloc::{AllocError, Global};
 use std::str::from_utf8;
 

@@ -7,7 +7,7 @@ ghost use Rattle.token_texts.specs.Tokens.{tokens_of, member_tokens, list_shown,
 use crate::members::{put_filled, text_of};
 use crate::tokens::{begin_array, begin_object, end_array, end_object, put_key, put_text};
 use json::Writer;
-use pair_kinds::json_fields::names_realms::Pair;
+use pair_kinds::Pair;
 use std::alloc::AllocError;
 
 fn put_tag(out: &mut Writer, tag: &Pair) -> Result<(), AllocError>

@@ -5,8 +5,7 @@ ghost use Rattle.verdict_masks.specs.Masks.{IsMasked, IsWhole, MaySeeResult, Sho
 
 use crate::cuts::cut;
 use crate::shown::ShownResult;
-use permissions::Granted;
-use permissions::policy_checks::Permission;
+use permissions::{Granted, Permission};
 use test_results::TestResult;
 use verdict_lists::{Verdict, View};
 

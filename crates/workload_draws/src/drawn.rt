@@ -4,8 +4,7 @@ ghost use Rattle.workload_draws.specs.Draws.{state_behind};
 ghost use Rattle.workload_draws.specs.Drawn.{first_draw, included, invocation_at, result_at, results_at, status_of};
 
 use crate::draws::Draws;
-use names_realms::Status;
-use names_realms::lists::Listed;
+use names_realms::{Listed, Status};
 use std::alloc::{AllocError, Global};
 
 /// How many results an invocation has.

@@ -6,4 +6,4 @@ mod draws;
 
 pub use drawn::{DrawnInvocation, DrawnResult};
 pub use draws::Draws;
-pub use names_realms;
+pub use names_realms::{Bytes, InvocationId, Listed, NameFault, Realm, ResultId, TestId, Variant};

@@ -5,7 +5,7 @@ ghost use Rattle.workload_plans.specs.Plans.{asked_of};
 use call_forms::Asked;
 use message_forms::{Request, write_request};
 use std::alloc::{AllocError, Global};
-use workload_draws::names_realms::lists::Bytes;
+use workload_draws::Bytes;
 
 /// The token of the caller.
 const TOKEN: &[u8] = b"load";

@@ -6,7 +6,6 @@ mod names;
 mod plan;
 mod requests;
 
-pub use call_forms::{self, Asked};
-pub use page_tokens;
+pub use call_forms::{Answer, Asked, Standin, Told};
 pub use plan::{Asking, query_of};
-pub use workload_draws::{DrawnInvocation, DrawnResult, Draws, names_realms};
+pub use workload_draws::{DrawnInvocation, DrawnResult, Draws};

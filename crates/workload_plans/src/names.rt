@@ -5,7 +5,7 @@ ghost use Rattle.workload_plans.specs.Requests.{load_id};
 
 use message_forms::{LimitedText, RequestId};
 use std::alloc::{AllocError, Global};
-use workload_draws::names_realms::{InvocationId, NameFault, Realm, ResultId, TestId, Variant};
+use workload_draws::{InvocationId, NameFault, Realm, ResultId, TestId, Variant};
 
 /// A text and a number behind it.
 fn numbered(alloc: Global, text: &str, number: u64) -> Result<String, AllocError>

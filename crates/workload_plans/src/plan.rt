@@ -12,8 +12,7 @@ use message_forms::Request;
 use page_tokens::{Query, VerdictCursor};
 use std::alloc::{AllocError, Global};
 use update_tokens::{Secret, update_token};
-use workload_draws::DrawnInvocation;
-use workload_draws::names_realms::lists::Bytes;
+use workload_draws::{Bytes, DrawnInvocation};
 
 /// Who asks: the one caller, to whom the update tokens under a secret are known.
 #[derive(Clone, Copy)]

@@ -5,16 +5,14 @@ ghost use Rattle.workload_plans.specs.Requests.{page_request, result_of, results
 
 use crate::names::{invocation_id, no_variant, realm, request_id, result_id, test_id};
 use field_kinds::Whole;
-use message_forms::query_forms::QueryTestVariants;
 use message_forms::{
     BatchCreateTestResults, CreateInvocation, IncludingInvocation, NamedInvocation, NewInvocation,
-    Request,
+    QueryTestVariants, Request,
 };
 use page_tokens::VerdictCursor;
 use std::alloc::{AllocError, Global};
 use test_results::TestResult;
-use workload_draws::DrawnResult;
-use workload_draws::names_realms::lists::{Bytes, Listed};
+use workload_draws::{Bytes, DrawnResult, Listed};
 
 /// Nothing.
 fn none<T>(alloc: Global) -> Listed<T>

@@ -8,5 +8,5 @@ mod policy;
 pub use ending::LoadEnding;
 pub use line::{Load, load_line};
 pub use policy::load_policy;
-pub use policy_reading;
+pub use policy_reading::from_toml;
 pub use workload_turns::{Asking, Stop, Tally, run_load};

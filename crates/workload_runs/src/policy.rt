@@ -3,8 +3,7 @@ ghost use Rattle.std.specs.Prelude.{◌≡◌, IfOk};
 ghost use Rattle.policy_reading.specs.Reading.{IsPolicyOf};
 ghost use Rattle.workload_runs.specs.Policies.{policy_text};
 
-use policy_reading::from_toml;
-use policy_reading::permissions::Policy;
+use policy_reading::{Policy, from_toml};
 use std::alloc::{AllocError, Global};
 
 /// The configuration.

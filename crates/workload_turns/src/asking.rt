@@ -10,8 +10,7 @@ ghost use Rattle.workload_turns.specs.Tallies.{Counts};
 use crate::stops::Stop;
 use crate::tally::Tally;
 use tellers::Teller;
-use workload_plans::Asked;
-use workload_plans::call_forms::{Answer, Told};
+use workload_plans::{Answer, Asked, Told};
 
 /// Asks one request, and counts it.
 pub(crate) fn ask<T: Teller>(

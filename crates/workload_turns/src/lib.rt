@@ -12,4 +12,4 @@ mod tally;
 pub use run::run_load;
 pub use stops::Stop;
 pub use tally::Tally;
-pub use workload_plans::{self, Asking};
+pub use workload_plans::Asking;

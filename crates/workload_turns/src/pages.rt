@@ -16,8 +16,7 @@ use page_tokens::{Query, TokenFault, VerdictCursor, read_token};
 use serde_json::Value;
 use std::alloc::{AllocError, Global};
 use tellers::Teller;
-use workload_plans::call_forms::Answer;
-use workload_plans::{Asking, query_of};
+use workload_plans::{Answer, Asking, query_of};
 
 /// What every reply in JSON begins with.
 const PREFIX: &[u8] = b")]}'\n";

@@ -3,7 +3,7 @@ ghost use Rattle.std.specs.Prelude.{◌≡◌};
 ghost use Rattle.workload_turns.specs.Stops.{stop_of};
 
 use std::alloc::AllocError;
-use workload_plans::call_forms::Standin;
+use workload_plans::Standin;
 
 /// Why a run stops before its end.
 #[derive(Clone, Copy, Debug, PartialEq, Eq)]
