@@ -10,37 +10,25 @@
 //! - `reach NODES`: what is reached from them.
 //! - `walk NODE NODE`: whether there is one.
 //! - `walks`: from how many nodes to how many there is one, each of which is looked at.
-use crate::numbers::{
-    Stop, are_below, count_text, list_text, number, numbers, put_answer, two, word,
-};
+use crate::numbers::{Answers, Stop, are_below, count_text, list_text, number, numbers, two, word};
 use inclusion_graph::{Edge, EdgeFault, Graph};
-use std::alloc::{AllocError, Global};
+use std::alloc::Global;
 
-/// Tells calls to a new graph.
-pub(crate) fn tell(alloc: Global, calls: &str) -> Result<Vec<u8>, AllocError> {
-    let mut out = Vec::new(alloc);
-    let mut graph = Graph::new(alloc)?;
-    for call in calls.split("; ") {
-        let answer = answer(alloc, &mut graph, call);
-        put_answer(call, answer, &mut out)?;
-    }
-    Ok(out)
-}
-
-fn answer(alloc: Global, graph: &mut Graph, call: &str) -> Result<Vec<u8>, Stop> {
-    let (kind, rest) = call.split_once(' ').unwrap_or((call, ""));
-    match kind {
-        "nodes" => nodes(alloc, graph, rest),
-        "room" => room(alloc, graph, rest),
-        "add" => add(alloc, graph, rest),
-        "all" => all(alloc, graph),
-        "targets" => targets(alloc, graph, rest),
-        "sources" => sources(alloc, graph, rest),
-        "edge" => edge(alloc, graph, rest),
-        "reach" => reach(alloc, graph, rest),
-        "walk" => walk(alloc, graph, rest),
-        "walks" => walks(alloc, graph),
-        _ => Err(Stop::Odd),
+impl Answers for Graph {
+    fn answer(&mut self, alloc: Global, kind: &str, rest: &str) -> Result<Vec<u8>, Stop> {
+        match kind {
+            "nodes" => nodes(alloc, self, rest),
+            "room" => room(alloc, self, rest),
+            "add" => add(alloc, self, rest),
+            "all" => all(alloc, self),
+            "targets" => targets(alloc, self, rest),
+            "sources" => sources(alloc, self, rest),
+            "edge" => edge(alloc, self, rest),
+            "reach" => reach(alloc, self, rest),
+            "walk" => walk(alloc, self, rest),
+            "walks" => walks(alloc, self),
+            _ => Err(Stop::Odd),
+        }
     }
 }
 

@@ -1,6 +1,8 @@
-//! Numbers of nodes, read and written, and what a call may come to beside them.
+//! Calls to a value and their answers: numbers of nodes and rows, read and written, and what a call
+//! may come to beside them.
 ghost use Rattle.std.specs.Prelude.{◌<◌, IsTrue, All};
 
+use names_realms::{NameFault, PairFault};
 use std::alloc::{AllocError, AllocFailed, Global};
 
 /// Why a call has no answer.
@@ -22,6 +24,45 @@ impl<T: Drop> From<AllocFailed<T>> for Stop {
     fn from(_: AllocFailed<T>) -> Stop {
         Stop::Memory
     }
+}
+
+impl From<NameFault> for Stop {
+    fn from(fault: NameFault) -> Stop {
+        match fault {
+            NameFault::Memory => Stop::Memory,
+            _ => Stop::Odd,
+        }
+    }
+}
+
+impl From<PairFault> for Stop {
+    fn from(fault: PairFault) -> Stop {
+        match fault {
+            PairFault::Memory => Stop::Memory,
+            _ => Stop::Odd,
+        }
+    }
+}
+
+/// What calls are made to.
+pub(crate) trait Answers {
+    /// What a call of this kind answers, of which these are the other words.
+    fn answer(&mut self, alloc: Global, kind: &str, rest: &str) -> Result<Vec<u8>, Stop>;
+}
+
+/// Tells calls, each with its answer.
+pub(crate) fn tell_calls<A: Answers>(
+    alloc: Global,
+    mut value: A,
+    calls: &str,
+) -> Result<Vec<u8>, AllocError> {
+    let mut out = Vec::new(alloc);
+    for call in calls.split("; ") {
+        let (kind, rest) = call.split_once(' ').unwrap_or((call, ""));
+        let answer = value.answer(alloc, kind, rest);
+        put_answer(call, answer, &mut out)?;
+    }
+    Ok(out)
 }
 
 /// The number that a word is.
@@ -86,7 +127,7 @@ pub(crate) fn list_text(alloc: Global, numbers: &[u32]) -> Result<Vec<u8>, Stop>
 }
 
 /// Puts a call and its answer behind what is there.
-pub(crate) fn put_answer(
+fn put_answer(
     call: &str,
     answer: Result<Vec<u8>, Stop>,
     out: &mut Vec<u8>,

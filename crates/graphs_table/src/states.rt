@@ -6,34 +6,22 @@
 //! - `would NODE`: whether it would be final, if it were retired.
 //! - `retire NODE`: what is newly final then.
 //! - `states`: the state of each node, as `a`, `z` (finalizing) or `f`.
-use crate::numbers::{
-    Stop, are_below, count_text, list_text, number, numbers, put_answer, two, word,
-};
+use crate::numbers::{Answers, Stop, are_below, count_text, list_text, number, numbers, two, word};
 use finaliser::Finaliser;
 use inclusion_graph::EdgeFault;
-use std::alloc::{AllocError, Global};
+use std::alloc::Global;
 
-/// Tells calls to states without nodes.
-pub(crate) fn tell(alloc: Global, calls: &str) -> Result<Vec<u8>, AllocError> {
-    let mut out = Vec::new(alloc);
-    let mut finaliser = Finaliser::new(alloc)?;
-    for call in calls.split("; ") {
-        let answer = answer(alloc, &mut finaliser, call);
-        put_answer(call, answer, &mut out)?;
-    }
-    Ok(out)
-}
-
-fn answer(alloc: Global, finaliser: &mut Finaliser, call: &str) -> Result<Vec<u8>, Stop> {
-    let (kind, rest) = call.split_once(' ').unwrap_or((call, ""));
-    match kind {
-        "nodes" => nodes(alloc, finaliser, rest),
-        "include" => include(alloc, finaliser, rest),
-        "note" => note(alloc, finaliser),
-        "would" => would(alloc, finaliser, rest),
-        "retire" => retire(alloc, finaliser, rest),
-        "states" => states(alloc, finaliser),
-        _ => Err(Stop::Odd),
+impl Answers for Finaliser {
+    fn answer(&mut self, alloc: Global, kind: &str, rest: &str) -> Result<Vec<u8>, Stop> {
+        match kind {
+            "nodes" => nodes(alloc, self, rest),
+            "include" => include(alloc, self, rest),
+            "note" => note(alloc, self),
+            "would" => would(alloc, self, rest),
+            "retire" => retire(alloc, self, rest),
+            "states" => states(alloc, self),
+            _ => Err(Stop::Odd),
+        }
     }
 }
 

@@ -6,7 +6,7 @@ ghost use Rattle.std.specs.Bool.{OnTrue};
 ghost use Rattle.invocation_world.specs.Advancing.{IsQuiet};
 ghost use Rattle.invocation_world.specs.World.{IsCallMoment, IsPair, IsRow, latest_deadline};
 
-use crate::{InvocationWorld, laws};
+use crate::InvocationWorld;
 use invocations::Invocation;
 use lists::{Bytes, Listed};
 use names_realms::{InvocationId, Moment, Pair, Realm, State};
@@ -389,19 +389,4 @@ fn are_refused_then(
 fn rows_and_inclusions_are_told(rt: HostRuntime) -> Result<(), Fail> {
     assert!(rt; are_refused(rt.alloc(), &CASES[0], &REFUSED)?);
     Ok(())
-}
-
-#[test]
-fn laws_do_nothing() {
-    laws::settles_once();
-    laws::a_settling_is_there();
-    laws::valid_is_settled();
-    laws::advances_once();
-    laws::an_advance_is_there();
-    laws::advance_keeps_valid();
-    laws::changes_keep_valid();
-    laws::advance_keeps_final();
-    laws::settling_keeps_final();
-    laws::changes_keep_final();
-    laws::update_is_told();
 }

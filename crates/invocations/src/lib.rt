@@ -7,8 +7,6 @@ mod ids;
 mod invocation;
 pub mod laws;
 mod table;
-#[cfg(test)]
-mod tests;
 
 pub use faults::AddFault;
 pub use invocation::Invocation;

@@ -5,8 +5,6 @@
 mod entries;
 mod read;
 mod shape;
-#[cfg(test)]
-mod tests;
 
 pub use entries::read_tables;
 pub use read::{note_unknown, read_text};
