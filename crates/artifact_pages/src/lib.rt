@@ -1,7 +1,6 @@
 //! Pages of the artifacts of a parent: which rows one shows, and the token of the next one.
 #![tactic(auto)]
 
-mod copies;
 pub mod laws;
 mod pages;
 mod queries;

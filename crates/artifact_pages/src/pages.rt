@@ -7,7 +7,6 @@ ghost use Rattle.artifacts.specs.Orders.{id_at};
 ghost use Rattle.artifact_replies.specs.ArtifactForms.Tokens.{token_text};
 ghost use Rattle.artifact_pages.specs.Pages.{IsShownPage, next_token};
 
-use crate::copies::copied_id;
 use crate::queries::ArtifactQuery;
 use artifact_replies::ShownArtifacts;
 use artifacts::{Artifact, ArtifactPage, ArtifactRows};
@@ -57,7 +56,7 @@ fn token_behind(
         (record { artifact = id_at (keys_of table.now.rows) place })) }
 {
     let row = table.row(place);
-    let artifact = copied_id(alloc, &row.name.artifact)?;
+    let artifact = row.name.artifact.try_clone(alloc)?;
     write_token(alloc, &ArtifactCursor { artifact }, query)
 }
 

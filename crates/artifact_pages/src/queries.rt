@@ -2,7 +2,6 @@
 ghost use Rattle.std.specs.Prelude.{◌≡◌, IfOk, option_map};
 ghost use Rattle.artifact_pages.specs.Pages.{query_from};
 
-use crate::copies::{copied_id, copied_parent};
 use artifact_replies::ListArtifacts;
 use names_realms::{ArtifactId, Parent};
 use page_tokens::{ArtifactCursor, Query};
@@ -27,7 +26,7 @@ fn id_at(alloc: Global, cursor: &Option<ArtifactCursor>) -> Result<Option<Artifa
     ensures { IfOk result (λ id. id ≡ option_map (λ c. c.artifact) cursor.now) }
 {
     match cursor {
-        Some(cursor) => Ok(Some(copied_id(alloc, &cursor.artifact)?)),
+        Some(cursor) => Ok(Some(cursor.artifact.try_clone(alloc)?)),
         None => Ok(None),
     }
 }
@@ -44,7 +43,7 @@ impl ArtifactQuery {
     {
         Ok(ArtifactQuery {
             holder,
-            parent: copied_parent(alloc, &request.parent)?,
+            parent: request.parent.try_clone(alloc)?,
             query: request.query(alloc)?,
             after: id_at(alloc, &request.page_token)?,
             size: request.counted_size(),

@@ -71,9 +71,6 @@ fn copied(alloc: Global, text: Option<&[u8]>) -> Result<Option<Bytes>, AllocErro
 {
     match text {
         None => Ok(None),
-        Some(text) => {
-            let bytes = Vec::from_slice(alloc, text)?;
-            Ok(Some(Bytes::new(bytes)))
-        }
+        Some(text) => Ok(Some(Bytes::from_slice(alloc, text)?)),
     }
 }

@@ -157,7 +157,7 @@ fn row_of(alloc: Global, id: &str, deadline: u32, created: u32) -> Result<Invoca
     Ok(Invocation {
         id: InvocationId::parse(alloc, id.as_bytes())?,
         realm: Realm::parse(alloc, b"proj:ci")?,
-        creator: Bytes::new(Vec::from_slice(alloc, b"ci")?),
+        creator: Bytes::from_slice(alloc, b"ci")?,
         created: moment(created),
         deadline: moment(deadline),
         started: None,

@@ -85,7 +85,7 @@ pub(crate) fn told_first(alloc: Global, message: &[u8], text: &[u8]) -> Result<B
     ensures { IfOk result (λ b. b ≡ told_first message.now text.now) }
 {
     match message {
-        [] => Ok(Bytes::new(Vec::from_slice(alloc, cut(text))?)),
-        _ => Ok(Bytes::new(Vec::from_slice(alloc, cut(message))?)),
+        [] => Bytes::from_slice(alloc, cut(text)),
+        _ => Bytes::from_slice(alloc, cut(message)),
     }
 }

@@ -1,6 +1,7 @@
 //! Values in their order.
-ghost use Rattle.std.specs.Prelude.{◌≡◌, ◌↔◌, IsTrue, [], length};
+ghost use Rattle.std.specs.Prelude.{◌≡◌, ◌↔◌, IfOk, IsTrue, [], length};
 
+use std::alloc::{AllocError, Global};
 use std::marker::Model;
 
 /// Values in their order.
@@ -57,5 +58,14 @@ impl<T> Listed<T> {
         ensures { IsTrue result ↔ (self.now ≡ []) }
     {
         self.items.is_empty()
+    }
+}
+
+impl Listed<u8> {
+    /// Bytes in memory of their own. `Err` where there is none for them.
+    pub fn from_slice(alloc: Global, bytes: &[u8]) -> Result<Bytes, AllocError>
+        ensures { IfOk result (λ copy. copy ≡ bytes.now) }
+    {
+        Ok(Listed::new(Vec::from_slice(alloc, bytes)?))
     }
 }

@@ -4,7 +4,7 @@ use std::test::Fail;
 
 #[test]
 fn lists_give_back_what_they_were_made_of(rt: HostRuntime) -> Result<(), Fail> {
-    let bytes = Bytes::new(Vec::from_array(rt.alloc(), [1, 2])?);
+    let bytes = Bytes::from_slice(rt.alloc(), &[1, 2])?;
     assert!(rt; bytes.len() == 2 && !bytes.is_empty());
     assert!(rt; bytes.into_vec().as_slice() == [1, 2].as_slice());
     let numbers = Numbers::new(Vec::from_array(rt.alloc(), [7, 8, 9])?);

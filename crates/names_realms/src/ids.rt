@@ -137,6 +137,14 @@ impl<G: IdGrammar> Id<G> {
         self.text.as_str()
     }
 
+    /// The id in memory of its own. `Err` where there is none for it.
+    pub fn try_clone(&self, alloc: Global) -> Result<Id<G>, AllocError>
+        ensures { IfOk result (λ id. id ≡ self.now) }
+    {
+        let text = String::from_str(alloc, self.as_str())?;
+        Ok(Id::of_text(text))
+    }
+
     /// Appends the id, all of it or nothing.
     pub fn write_to(&self, alloc: Global, out: &mut Vec<u8>) -> Result<(), AllocError>
         ensures grammar { IsPart G.form self.now }

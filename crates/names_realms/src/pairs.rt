@@ -75,14 +75,6 @@ fn fault_of_pair(key: &[u8], value: &[u8]) -> Option<PairFault>
     }
 }
 
-/// A copy of bytes.
-fn copied(alloc: Global, bytes: &[u8]) -> Result<Bytes, AllocError>
-    ensures { IfOk result (λ copy. copy ≡ bytes.now) }
-{
-    let items = Vec::from_slice(alloc, bytes)?;
-    Ok(Bytes::new(items))
-}
-
 impl Pair {
     /// Reads a pair: a key `[a-z][a-z0-9_]*(/[a-z][a-z0-9_]*)*` of at most 64 bytes, and a value of
     /// at most 256 bytes of UTF-8, which may be empty. The key is judged first. `Memory` where
@@ -98,8 +90,8 @@ impl Pair {
         if let Some(fault) = fault_of_pair(key, value) {
             return Err(fault);
         }
-        let key = copied(alloc, key)?;
-        let value = copied(alloc, value)?;
+        let key = Bytes::from_slice(alloc, key)?;
+        let value = Bytes::from_slice(alloc, value)?;
         Ok(Pair { key, value })
     }
 }

@@ -86,6 +86,16 @@ impl Parent {
         }
     }
 
+    /// The parent in memory of its own. `Err` where there is none for it.
+    pub fn try_clone(&self, alloc: Global) -> Result<Parent, AllocError>
+        ensures { IfOk result (λ parent. parent ≡ self.now) }
+    {
+        match self {
+            Parent::Invocation(id) => Ok(Parent::Invocation(id.try_clone(alloc)?)),
+            Parent::Result(name) => Ok(Parent::Result(name.try_clone(alloc)?)),
+        }
+    }
+
     /// Appends the one spelling of the name, all of it or nothing.
     pub fn write_to(&self, alloc: Global, out: &mut Vec<u8>) -> Result<(), AllocError>
         ensures named { IsParentName self.now (parent_name self.now) }

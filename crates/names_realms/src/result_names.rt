@@ -74,6 +74,17 @@ impl ResultName {
         }
     }
 
+    /// The name in memory of its own. `Err` where there is none for it.
+    pub fn try_clone(&self, alloc: Global) -> Result<ResultName, AllocError>
+        ensures { IfOk result (λ name. name ≡ self.now) }
+    {
+        Ok(ResultName {
+            invocation: self.invocation.try_clone(alloc)?,
+            test: self.test.try_clone(alloc)?,
+            result: self.result.try_clone(alloc)?,
+        })
+    }
+
     /// Appends the one spelling of the name, all of it or nothing.
     pub fn write_to(&self, alloc: Global, out: &mut Vec<u8>) -> Result<(), AllocError>
         ensures named { IsResultName self.now (result_name self.now) }

@@ -33,7 +33,7 @@ const FAULTS: [(&str, TokenFault); 5] = [
 ];
 
 fn query(alloc: Global) -> Result<Query, Fail> {
-    let name = Bytes::new(Vec::from_slice(alloc, b"invocations/u-v")?);
+    let name = Bytes::from_slice(alloc, b"invocations/u-v")?;
     Ok(Query::of(b"QueryTestVariants", &[name]))
 }
 

@@ -13,7 +13,8 @@ use crate::read::{
 };
 use crate::shape::Shape;
 use lists::Listed;
-use policy_tables::{Binding, Group, Notes, PolicyTables, RealmTable, Role, User, copied};
+use name_parts::Bytes;
+use policy_tables::{Binding, Group, Notes, PolicyTables, RealmTable, Role, User};
 use std::alloc::{AllocError, Global};
 use toml::value::Array;
 use toml::{Table, Value};
@@ -48,7 +49,7 @@ impl Entry for User {
         note_unknown(notes, Shape::User, table)?;
         let token = read_text(notes, table, "token")?;
         Ok(User {
-            name: copied(notes.alloc(), name)?,
+            name: Bytes::from_slice(notes.alloc(), name)?,
             token,
         })
     }
@@ -65,7 +66,7 @@ impl Entry for Group {
         note_unknown(notes, Shape::Group, table)?;
         let members = read_texts(notes, table, "members")?;
         Ok(Group {
-            name: copied(notes.alloc(), name)?,
+            name: Bytes::from_slice(notes.alloc(), name)?,
             members,
         })
     }
@@ -82,7 +83,7 @@ impl Entry for Role {
         note_unknown(notes, Shape::Role, table)?;
         let permissions = read_texts(notes, table, "permissions")?;
         Ok(Role {
-            name: copied(notes.alloc(), name)?,
+            name: Bytes::from_slice(notes.alloc(), name)?,
             permissions,
         })
     }
@@ -116,7 +117,7 @@ impl Entry for RealmTable {
         let extends = read_texts_if_there(notes, table, "extends")?;
         let bindings = read_bindings(notes, table, "bindings")?;
         Ok(RealmTable {
-            name: copied(notes.alloc(), name)?,
+            name: Bytes::from_slice(notes.alloc(), name)?,
             extends,
             bindings,
         })

@@ -11,7 +11,7 @@ ghost use Rattle.policy_document.specs.Document.{wrong_kind, optional_texts_find
 use crate::shape::Shape;
 use lists::Listed;
 use name_parts::Bytes;
-use policy_tables::{Notes, copied};
+use policy_tables::Notes;
 use std::alloc::{AllocError, Global};
 use toml::value::Array;
 use toml::{Table, Value};
@@ -72,7 +72,7 @@ pub fn read_text(notes: &mut Notes, table: &Table, key: &str) -> Result<Bytes, A
         (text_findings notes.old.path key.now (table_view table.now))) }
 {
     match find_text(table, key) {
-        Some(text) => copied(notes.alloc(), text.as_bytes()),
+        Some(text) => Bytes::from_slice(notes.alloc(), text.as_bytes()),
         None => {
             notes.note_key(key.as_bytes())?;
             Ok(no_bytes(notes.alloc()))
@@ -89,7 +89,7 @@ fn read_item(notes: &mut Notes, place: usize, value: &Value) -> Result<Bytes, Al
         (missing (joined notes.old.path (decimal place)) (as_str (view value.now)))) }
 {
     match value.as_str() {
-        Some(text) => copied(notes.alloc(), text.as_bytes()),
+        Some(text) => Bytes::from_slice(notes.alloc(), text.as_bytes()),
         None => {
             notes.note_place(place)?;
             Ok(no_bytes(notes.alloc()))

@@ -150,8 +150,8 @@ pub(crate) fn first_cycle(
     let realms = book.tables().realms.as_slice();
     match least_back(alloc, graph, realms)? {
         Some(place) => {
-            let name = Vec::from_slice(alloc, name_of_place(realms, place))?;
-            Ok(Some(Bytes::new(name)))
+            let name = Bytes::from_slice(alloc, name_of_place(realms, place))?;
+            Ok(Some(name))
         }
         None => Ok(None),
     }

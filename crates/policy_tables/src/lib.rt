@@ -5,7 +5,7 @@ mod findings;
 mod notes;
 mod tables;
 
-pub use findings::{Finding, copied};
+pub use findings::Finding;
 pub use name_parts::{Bytes, Listed};
 pub use notes::Notes;
 pub use tables::{Binding, Group, PolicyTables, RealmTable, Role, User, count_entries};

@@ -9,7 +9,8 @@ ghost use Rattle.std.specs.Cmp.Lexicographic.{slice_cmp};
 ghost use Rattle.std.specs.Fmt.{decimal};
 ghost use Rattle.policy_tables.specs.Findings.{joined, lesser, goes_before, least_with, at};
 
-use crate::findings::{Finding, copied};
+use crate::findings::Finding;
+use name_parts::Bytes;
 use std::alloc::{AllocError, Global};
 use std::cmp::Ordering;
 use std::marker::Model;
@@ -152,8 +153,8 @@ impl Notes {
             (record { path = self.old.path; text = text.now })) }
     {
         if self.goes_first() {
-            let path = copied(self.alloc, self.path.as_slice())?;
-            let text = copied(self.alloc, text)?;
+            let path = Bytes::from_slice(self.alloc, self.path.as_slice())?;
+            let text = Bytes::from_slice(self.alloc, text)?;
             self.shared = self.path.len();
             self.least = Some(Finding { path, text });
         }

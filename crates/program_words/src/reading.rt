@@ -160,12 +160,6 @@ fn has_stray(words: &[String]) -> bool
     words.iter().any(|word| is_stray(word.as_str()))
 }
 
-fn copied(alloc: Global, text: &str) -> Result<Bytes, AllocError>
-    ensures { IfOk result (λ b. b ≡ text.now) }
-{
-    Ok(Bytes::new(Vec::from_slice(alloc, text.as_bytes())?))
-}
-
 /// What clap finds in the words of a command, of which the first is its name.
 fn read_options<'a>(
     command: clap::Command<'a>,
@@ -201,7 +195,10 @@ fn answer_of(alloc: Global, config: &str, journal: &str) -> Result<Command, Word
     ensures value { IfOk result (λ c. c ≡ Command.Answer config.now journal.now) }
     ensures memory { result ≢ Err WordFault.Refused }
 {
-    match (copied(alloc, config), copied(alloc, journal)) {
+    match (
+        Bytes::from_slice(alloc, config.as_bytes()),
+        Bytes::from_slice(alloc, journal.as_bytes()),
+    ) {
         (Ok(config), Ok(journal)) => Ok(Command::Answer { config, journal }),
         _ => Err(WordFault::Memory),
     }
@@ -212,7 +209,7 @@ fn check_of(alloc: Global, journal: &str) -> Result<Command, WordFault>
     ensures value { IfOk result (λ c. c ≡ Command.Check journal.now) }
     ensures memory { result ≢ Err WordFault.Refused }
 {
-    match copied(alloc, journal) {
+    match Bytes::from_slice(alloc, journal.as_bytes()) {
         Ok(journal) => Ok(Command::Check { journal }),
         Err(AllocError) => Err(WordFault::Memory),
     }

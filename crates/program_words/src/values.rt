@@ -30,8 +30,8 @@ fn copied(alloc: Global, text: &str) -> Result<Bytes, WordFault>
     ensures ok { IfOk result (λ b. b ≡ text.now) }
     ensures memory { result ≢ Err WordFault.Refused }
 {
-    match Vec::from_slice(alloc, text.as_bytes()) {
-        Ok(bytes) => Ok(Bytes::new(bytes)),
+    match Bytes::from_slice(alloc, text.as_bytes()) {
+        Ok(bytes) => Ok(bytes),
         Err(AllocError) => Err(WordFault::Memory),
     }
 }

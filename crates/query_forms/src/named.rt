@@ -13,21 +13,10 @@ use crate::names::invocations;
 use field_kinds::{InvocationName, LimitedList, QueryNames};
 use json_fields::{ReadFault, UnbuiltList, filled_at, required};
 use lists::{Bytes, Listed};
-use names_realms::{InvocationId, NameFault};
+use names_realms::InvocationId;
 use page_tokens::Query;
 use serde_json::Value;
 use std::alloc::{AllocError, Global};
-
-/// The id, once more.
-fn copied(alloc: Global, id: &InvocationId) -> Result<InvocationId, AllocError>
-    ensures { IfOk result (λ copy. copy ≡ id.now) }
-{
-    match InvocationId::parse(alloc, id.as_slice()) {
-        Ok(copy) => Ok(copy),
-        Err(NameFault::Memory) => Err(AllocError),
-        Err(_) => unreachable!(),
-    }
-}
 
 /// The ids of invocations that are named.
 fn ids_of(alloc: Global, names: &[InvocationName]) -> Result<Listed<InvocationId>, AllocError>
@@ -35,8 +24,7 @@ fn ids_of(alloc: Global, names: &[InvocationName]) -> Result<Listed<InvocationId
 {
     let mut ids = Vec::with_capacity(alloc, names.len())?;
     for name in names {
-        let id = copied(alloc, name.id())?;
-        ids.push(id)?;
+        ids.push(name.id().try_clone(alloc)?)?;
     }
     Ok(Listed::new(ids))
 }
@@ -71,8 +59,7 @@ fn add_text(alloc: Global, texts: &mut Vec<Bytes>, value: &Value) -> Result<(), 
     ensures { OnOk result (texts.new.items
         ≡ texts.old.items ++ text_of (view value.now) ∷ []) }
 {
-    let text = Vec::from_slice(alloc, text_of(value).as_bytes())?;
-    texts.push(Bytes::new(text))?;
+    texts.push(Bytes::from_slice(alloc, text_of(value).as_bytes())?)?;
     Ok(())
 }
 

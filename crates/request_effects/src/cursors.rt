@@ -1,44 +1,10 @@
 //! Cursors of page tokens, once more.
 ghost use Rattle.std.specs.Prelude.{◌≡◌, IfOk};
 
-use names_realms::{InvocationId, NameFault, ResultId, TestId};
 use page_tokens::{ResultCursor, VerdictCursor};
 use std::alloc::{AllocError, Global};
 
-/// The id of an invocation. `Err` where there is no memory for it, as below.
-fn copied_invocation(alloc: Global, id: &InvocationId) -> Result<InvocationId, AllocError>
-    ensures { IfOk result (λ copy. copy ≡ id.now) }
-{
-    match InvocationId::parse(alloc, id.as_slice()) {
-        Ok(copy) => Ok(copy),
-        Err(NameFault::Memory) => Err(AllocError),
-        Err(_) => unreachable!(),
-    }
-}
-
-/// The id of a test.
-fn copied_test(alloc: Global, id: &TestId) -> Result<TestId, AllocError>
-    ensures { IfOk result (λ copy. copy ≡ id.now) }
-{
-    match TestId::parse(alloc, id.as_slice()) {
-        Ok(copy) => Ok(copy),
-        Err(NameFault::Memory) => Err(AllocError),
-        Err(_) => unreachable!(),
-    }
-}
-
-/// The id of a result.
-fn copied_id(alloc: Global, id: &ResultId) -> Result<ResultId, AllocError>
-    ensures { IfOk result (λ copy. copy ≡ id.now) }
-{
-    match ResultId::parse(alloc, id.as_slice()) {
-        Ok(copy) => Ok(copy),
-        Err(NameFault::Memory) => Err(AllocError),
-        Err(_) => unreachable!(),
-    }
-}
-
-/// A place among results, where one is given.
+/// A place among results, where one is given. `Err` where there is no memory for it, as below.
 pub(crate) fn copied_result(
     alloc: Global,
     cursor: &Option<ResultCursor>,
@@ -47,9 +13,9 @@ pub(crate) fn copied_result(
 {
     match cursor {
         Some(cursor) => Ok(Some(ResultCursor {
-            invocation: copied_invocation(alloc, &cursor.invocation)?,
-            test: copied_test(alloc, &cursor.test)?,
-            result: copied_id(alloc, &cursor.result)?,
+            invocation: cursor.invocation.try_clone(alloc)?,
+            test: cursor.test.try_clone(alloc)?,
+            result: cursor.result.try_clone(alloc)?,
         })),
         None => Ok(None),
     }
@@ -65,7 +31,7 @@ pub(crate) fn copied_verdict(
     match cursor {
         Some(cursor) => Ok(Some(VerdictCursor {
             status: cursor.status,
-            test: copied_test(alloc, &cursor.test)?,
+            test: cursor.test.try_clone(alloc)?,
             label: cursor.label,
             ordinal: cursor.ordinal,
         })),

@@ -21,13 +21,6 @@ pub struct Numbered {
     pub digest: [u8; 32],
 }
 
-/// A copy of bytes.
-fn copied(alloc: Global, bytes: &[u8]) -> Result<Bytes, AllocError>
-    ensures { IfOk result (λ copy. copy ≡ bytes.now) }
-{
-    Ok(Bytes::new(Vec::from_slice(alloc, bytes)?))
-}
-
 /// The number in a demand, with this digest, where it has one. `Err` where there is no memory for
 /// it.
 pub fn numbered_in(
@@ -44,7 +37,7 @@ pub fn numbered_in(
     let Some(number) = demand.number else {
         return Ok(None);
     };
-    let number = copied(alloc, number.as_str().as_bytes())?;
+    let number = Bytes::from_slice(alloc, number.as_str().as_bytes())?;
     Ok(Some(Numbered {
         number,
         digest: *digest,
@@ -63,8 +56,8 @@ pub fn numbered_of(alloc: Global, call: &Call) -> Result<Option<Numbered>, Alloc
 fn copied_pair(alloc: Global, pair: &Pair) -> Result<Pair, AllocError>
     ensures { IfOk result (λ copy. copy ≡ pair.now) }
 {
-    let key = copied(alloc, pair.key.as_slice())?;
-    let value = copied(alloc, pair.value.as_slice())?;
+    let key = Bytes::from_slice(alloc, pair.key.as_slice())?;
+    let value = Bytes::from_slice(alloc, pair.value.as_slice())?;
     Ok(Pair { key, value })
 }
 
@@ -135,7 +128,7 @@ pub fn keep_of(
     let Some(answer) = answer_kept(alloc, tables, effect)? else {
         return Ok(None);
     };
-    let caller = copied(alloc, name)?;
+    let caller = Bytes::from_slice(alloc, name)?;
     let digest = numbered.digest;
     Ok(Some(KeptReply {
         caller,

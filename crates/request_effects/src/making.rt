@@ -53,7 +53,7 @@ pub(crate) fn row_of(
         id,
         invocation,
     } = q;
-    let creator = Bytes::new(Vec::from_slice(alloc, name)?);
+    let creator = Bytes::from_slice(alloc, name)?;
     let tags = pairs_from(alloc, invocation.tags)?;
     Ok(Invocation {
         id,

@@ -124,7 +124,7 @@ fn clock_of(seconds: &str) -> Option<i64> {
 }
 
 fn bytes(alloc: Global, text: &[u8]) -> Result<Bytes, AllocError> {
-    Ok(Bytes::new(Vec::from_slice(alloc, text)?))
+    Ok(Bytes::from_slice(alloc, text)?)
 }
 
 /// The value of a header, none for `-`.

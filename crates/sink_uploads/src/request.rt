@@ -39,23 +39,13 @@ fn batch_body(
     ensures { IfOk result (λ body. body ≡ batch_body invocation.now batch) }
 {
     let request_id = request_id_of(alloc, batch.request_id.as_slice())?;
-    let invocation = copied(alloc, invocation)?;
+    let invocation = invocation.try_clone(alloc)?;
     let request = Request::BatchCreateTestResults(BatchCreateTestResults {
         invocation,
         request_id: Some(request_id),
         requests: batch.results,
     });
     write_request(alloc, &request)
-}
-
-/// An invocation's id once more.
-fn copied(alloc: Global, invocation: &InvocationId) -> Result<InvocationId, AllocError>
-    ensures { IfOk result (λ id. id ≡ invocation.now) }
-{
-    match InvocationId::parse(alloc, invocation.as_slice()) {
-        Ok(id) => Ok(id),
-        Err(_) => Err(AllocError),
-    }
 }
 
 /// The number of a request. A text that is none, of which a plan has none, is told as want of

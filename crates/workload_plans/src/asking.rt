@@ -10,23 +10,16 @@ use workload_draws::Bytes;
 /// The token of the caller.
 const TOKEN: &[u8] = b"load";
 
-/// Bytes once more.
-pub(crate) fn copied(alloc: Global, bytes: &[u8]) -> Result<Bytes, AllocError>
-    ensures { IfOk result (λ copy. copy ≡ bytes.now) }
-{
-    Ok(Bytes::new(Vec::from_slice(alloc, bytes)?))
-}
-
 /// A request as it is asked, without an update token.
 fn written(alloc: Global, request: &Request) -> Result<Asked, AllocError>
     ensures { IfOk result (λ asked. asked ≡ asked_of None request.now) }
 {
     let method = request.method();
     Ok(Asked {
-        bearer: Some(copied(alloc, TOKEN)?),
+        bearer: Some(Bytes::from_slice(alloc, TOKEN)?),
         update_token: None,
-        service: copied(alloc, method.service().as_bytes())?,
-        method: copied(alloc, method.name().as_bytes())?,
+        service: Bytes::from_slice(alloc, method.service().as_bytes())?,
+        method: Bytes::from_slice(alloc, method.name().as_bytes())?,
         body: write_request(alloc, request)?,
     })
 }

@@ -4,7 +4,7 @@ ghost use Rattle.workload_plans.specs.Requests.{finalise_request, load_id, page_
 ghost use Rattle.update_tokens.specs.Hash.{token_text};
 ghost use Rattle.workload_plans.specs.Plans.{change_asked, end_asked, including_asked, invocation_asked, page_asked};
 
-use crate::asking::{asked_of, copied};
+use crate::asking::asked_of;
 use crate::names::invocation_id;
 use crate::requests::{batch, create, finalise, include, page};
 use call_forms::Asked;
@@ -29,7 +29,7 @@ impl<'s> Asking<'s> {
     {
         let id = invocation_id(self.alloc, number)?;
         let token = update_token(self.secret, &id);
-        copied(self.alloc, token.as_slice())
+        Bytes::from_slice(self.alloc, token.as_slice())
     }
 
     /// What changes the invocation of a number, with its update token.
