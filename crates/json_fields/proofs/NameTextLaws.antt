@@ -48,8 +48,8 @@ unfolding escaped
 escaped-ascii [] = IsAscii-nil
 escaped-ascii (b ∷ bs) = IsAscii-append (spelling b) _ (spelling-ascii b) (escaped-ascii bs)
 
-escaped-utf8 : (bs : List ℕ) → IsUtf8 (escaped bs)
-escaped-utf8 bs = IsUtf8-from_ascii (escaped bs) (escaped-ascii bs)
+pub escaped_utf8 : (bs : List ℕ) → IsUtf8 (escaped bs)
+escaped_utf8 bs = IsUtf8-from_ascii (escaped bs) (escaped-ascii bs)
 
 -- what is written out
 literal-utf8 : (text : List ℕ) → list_all (λ b. nat_lt b 128) text ≡ true → IsUtf8 text
@@ -60,7 +60,7 @@ unfolding result_name
 result_name_utf8 r is =
     let id : IsUtf8 r.result = IsPart-utf8 _ _ is.result in
     let tail = IsUtf8-append (codes "/results/") r.result (literal-utf8 (codes "/results/") refl) id in
-    let test = IsUtf8-append (escaped r.test) _ (escaped-utf8 r.test) tail in
+    let test = IsUtf8-append (escaped r.test) _ (escaped_utf8 r.test) tail in
     let tests = IsUtf8-append (codes "/tests/") _ (literal-utf8 (codes "/tests/") refl) test in
     IsUtf8-append (codes "invocations/") _ (literal-utf8 (codes "invocations/") refl) (IsUtf8-append r.invocation _ (IsPart-utf8 _ _ is.invocation) tests)
 
@@ -71,5 +71,5 @@ parent_name_utf8 (Result name) is = result_name_utf8 name is
 pub artifact_name_utf8 : (a : ArtifactName) → IsArtifactName a (artifact_name a) → IsUtf8 (artifact_name a)
 unfolding artifact_name
 artifact_name_utf8 a is =
-    let tail = IsUtf8-append (codes "/artifacts/") _ (literal-utf8 (codes "/artifacts/") refl) (escaped-utf8 a.artifact) in
+    let tail = IsUtf8-append (codes "/artifacts/") _ (literal-utf8 (codes "/artifacts/") refl) (escaped_utf8 a.artifact) in
     IsUtf8-append (parent_name a.parent) _ (parent_name_utf8 a.parent is.parent) tail

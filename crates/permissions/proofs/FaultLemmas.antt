@@ -19,15 +19,16 @@ or_first o p f e = ap (λ q. option_or q p) e
 pub entries_first : (t : PolicyTables) (f : PolicyFault) → entries_fault t ≡ Some f → text_fault t ≡ Some f
 entries_first t f e = or_first (entries_fault t) _ f e
 
-none_before : (o p : Option PolicyFault) → option_or o p ≡ None → o ≡ None
+-- what comes to nothing, from its parts
+pub none_before : (o p : Option PolicyFault) → option_or o p ≡ None → o ≡ None
 none_before None p e = refl
 none_before (Some f) p e = e
 
-none_behind : (o p : Option PolicyFault) → option_or o p ≡ None → p ≡ None
+pub none_behind : (o p : Option PolicyFault) → option_or o p ≡ None → p ≡ None
 none_behind None p e = e
 none_behind (Some f) p e = let no : Some f ≡ None = e in cc
 
-not_mapped : (g : Finding → PolicyFault) (o : Option Finding) → option_map g o ≡ None → o ≡ None
+pub not_mapped : (g : Finding → PolicyFault) (o : Option Finding) → option_map g o ≡ None → o ≡ None
 not_mapped g None e = refl
 not_mapped g (Some f) e = let no : Some (g f) ≡ None = e in cc
 
@@ -39,11 +40,11 @@ kept f (g ∷ gs) e = elim (cases_Bool (goes_before g.path (Some f))) [
   | inr n ↦ kept f gs (sym (ap (λ b. least_with (cond b (Some g) (Some f)) gs) n) ∙ e)
 ]
 
-no_finding : (fs : List Finding) → least_of fs ≡ None → fs ≡ []
+pub no_finding : (fs : List Finding) → least_of fs ≡ None → fs ≡ []
 no_finding [] e = refl
 no_finding (f ∷ fs) e = absurd (kept f fs e)
 
-first_passes : (b : Bool) (f : Finding) (fs : List Finding) → cond (not b) (f ∷ fs) fs ≡ [] → b ≡ true
+pub first_passes : (b : Bool) (f : Finding) (fs : List Finding) → cond (not b) (f ∷ fs) fs ≡ [] → b ≡ true
 first_passes true f fs e = refl
 first_passes false f fs e = let no : f ∷ fs ≡ [] = e in cc
 

@@ -1,52 +1,22 @@
 -- The names of the users of a policy without a fault are of their form.
-use Rattle.std.proofs.Common.{◌≡◌, ℕ, ◌<◌, Bool, true, false, cond, List, [], ◌∷◌, ◌++◌, length, map, Option, Some, None, option_map, refl, sym, ap, ◌∙◌, subst, inl, inr}
+use Rattle.std.proofs.Common.{◌≡◌, ℕ, ◌<◌, Bool, true, false, cond, List, [], ◌∷◌, ◌++◌, length, map, Option, Some, None, refl, sym, ap, ◌∙◌, subst, inl, inr}
 use Rattle.std.specs.Prelude.{◌+◌, not, codes}
 use Rattle.std.specs.List.{All}
-use Rattle.std.specs.Option.{option_or}
 use Rattle.std.proofs.lemmas.Bool.{cases_Bool}
 use Rattle.std.proofs.lemmas.List.{length-map}
 use Rattle.std.proofs.lemmas.List.Elements.{All-cons, All-nil}
 use Rattle.policy_tables.specs.declared.findings.Finding.{Finding}
 use Rattle.policy_tables.specs.declared.tables.PolicyTables.{PolicyTables}
 use Rattle.policy_tables.specs.declared.tables.User.{User}
-use Rattle.policy_tables.specs.Findings.{goes_before, least_with, least_of}
 use Rattle.policy_checks.specs.declared.texts.Check.TheVariants.{Form}
 use Rattle.policy_checks.specs.Checks.{is_name, is_token, is_faulty}
 use Rattle.policy_checks.specs.Spots.{Spot, failing, all_spots, spots_of, user_spots, group_spots, role_spots, realm_spots}
 use Rattle.policy_checks.proofs.PlaceLemmas.{place_of-within}
-use Rattle.permissions.specs.declared.faults.PolicyFault.{PolicyFault}
 use Rattle.permissions.specs.Faults.{IsSound, check_fault, checked, entries_fault}
+use Rattle.permissions.proofs.FaultLemmas.{none_before, none_behind, not_mapped, no_finding, first_passes}
 use Rattle.request_demands.specs.Settings.{Settings, HasNames, caller_of, caller_name}
 
-none_before : (o p : Option PolicyFault) → option_or o p ≡ None → o ≡ None
-none_before None p e = refl
-none_before (Some f) p e = e
-
-none_behind : (o p : Option PolicyFault) → option_or o p ≡ None → p ≡ None
-none_behind None p e = e
-none_behind (Some f) p e = let no : Some f ≡ None = e in cc
-
-not_mapped : (g : Finding → PolicyFault) (o : Option Finding) → option_map g o ≡ None → o ≡ None
-not_mapped g None e = refl
-not_mapped g (Some f) e = let no : Some (g f) ≡ None = e in cc
-
--- a finding is kept, or a lesser one
-kept : (f : Finding) (fs : List Finding) → least_with (Some f) fs ≡ None → ⊥
-kept f [] e = let no : Some f ≡ None = e in cc
-kept f (g ∷ gs) e = elim (cases_Bool (goes_before g.path (Some f))) [
-  | inl y ↦ kept g gs (sym (ap (λ b. least_with (cond b (Some g) (Some f)) gs) y) ∙ e)
-  | inr n ↦ kept f gs (sym (ap (λ b. least_with (cond b (Some g) (Some f)) gs) n) ∙ e)
-]
-
-no_finding : (fs : List Finding) → least_of fs ≡ None → fs ≡ []
-no_finding [] e = refl
-no_finding (f ∷ fs) e = absurd (kept f fs e)
-
--- where no text fails, the first one has its form, and none of the others fails
-right_first : (b : Bool) (f : Finding) (fs : List Finding) → cond (not b) (f ∷ fs) fs ≡ [] → b ≡ true
-right_first true f fs e = refl
-right_first false f fs e = let no : f ∷ fs ≡ [] = e in cc
-
+-- where no text fails, none of the others fails either
 others_pass : (b : Bool) (f : Finding) (fs : List Finding) → cond b (f ∷ fs) fs ≡ [] → fs ≡ []
 others_pass true f fs e = let no : f ∷ fs ≡ [] = e in cc
 others_pass false f fs e = e
@@ -70,7 +40,7 @@ names_pass : (t : PolicyTables) (path : List ℕ) (n : ℕ) (us : List User) →
     → All (λ name. is_name name ≡ true) (map (λ u. u.name) us)
 names_pass t path n [] e = All-nil (λ name. is_name name ≡ true)
 names_pass t path n (u ∷ us) e =
-    All-cons (λ name. is_name name ≡ true) u.name (map (λ u. u.name) us) (right_first (is_name u.name) _ _ e)
+    All-cons (λ name. is_name name ≡ true) u.name (map (λ u. u.name) us) (first_passes (is_name u.name) _ _ e)
     (names_pass t path (n + 1) us (user_passes t path n u (spots_of user_spots path (n + 1) us) e))
 
 pub names_of_sound : (t : PolicyTables) → IsSound t → HasNames (record { policy = t })

@@ -1,4 +1,4 @@
-use Rattle.result_forms.proofs.NameTextLaws.{escaped_utf8}
+use Rattle.json_fields.proofs.NameTextLaws.{escaped_utf8}
 use Rattle.result_forms.proofs.replies.escaped_test.Goals as goal
 
 pub owned_text-requires : goal.owned_text-requires

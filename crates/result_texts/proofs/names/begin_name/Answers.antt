@@ -1,4 +1,4 @@
-use Rattle.result_forms.proofs.NameTextLaws.{escaped_utf8}
+use Rattle.json_fields.proofs.NameTextLaws.{escaped_utf8}
 use Rattle.result_texts.proofs.names.begin_name.Goals as goal
 
 pub unreachable-requires : goal.unreachable-requires
