@@ -15,10 +15,11 @@ use Rattle.names_realms.specs.declared.parents.Parent.{Parent}
 use Rattle.artifacts.specs.declared.artifact.Artifact.{Artifact}
 use Rattle.artifacts.specs.Artifacts.{Key, key_of, keys_of, named}
 use Rattle.artifacts.specs.Cuts.{is_shown}
-use Rattle.artifacts.specs.Orders.{IsRising, HasOneMore, id_at, key_at, no_key, parent_order}
+use Rattle.lists.specs.Orders.{IsRising, HasOneMore}
+use Rattle.artifacts.specs.Orders.{id_at, key_at, no_key, parent_order}
 use Rattle.artifacts.specs.Pages.{IsListed, IsListing}
 use Rattle.artifacts.proofs.KeyLemmas.{key_same, parent_order_total, same_parent}
-use Rattle.artifacts.proofs.OrderLemmas.{contains_first, contains_rest, first_or_rest, nat_equal, one_more, rising_agree, then_equal}
+use Rattle.lists.proofs.OrderLemmas.{contains_first, contains_rest, first_or_rest, nat_equal, one_more, rising_agree, then_equal}
 use Rattle.artifacts.proofs.PageLemmas.{after_from, not_shown, listed_key}
 use Rattle.artifact_pages.specs.declared.queries.ArtifactQuery.{ArtifactQuery}
 use Rattle.artifact_pages.specs.Pages.{IsWholeListing, page_order}

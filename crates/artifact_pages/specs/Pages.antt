@@ -7,7 +7,8 @@ use Rattle.page_tokens.specs.declared.kinds.ArtifactCursor.{ArtifactCursor}
 use Rattle.artifacts.specs.declared.artifact.Artifact.{Artifact}
 use Rattle.artifacts.specs.Laws.{last_id}
 use Rattle.artifacts.specs.Artifacts.{keys_of}
-use Rattle.artifacts.specs.Orders.{IsRising, id_at}
+use Rattle.lists.specs.Orders.{IsRising}
+use Rattle.artifacts.specs.Orders.{id_at}
 use Rattle.artifacts.specs.Pages.{IsListed}
 use Rattle.artifact_replies.specs.ArtifactForms.Listed.{counted_size, query_of}
 use Rattle.artifact_replies.specs.ArtifactForms.Tokens.{token_text}

@@ -13,9 +13,10 @@ use Rattle.names_realms.specs.declared.parents.Parent.{Parent}
 use Rattle.artifacts.specs.declared.artifact.Artifact.{Artifact}
 use Rattle.artifacts.specs.Artifacts.{Key, keys_of}
 use Rattle.artifacts.specs.Laws.{Answer, AreFollowed, HasOneListing, PagesHaveAll, last_id, places_of_page}
-use Rattle.artifacts.specs.Orders.{IsRising, id_at}
+use Rattle.lists.specs.Orders.{IsRising}
+use Rattle.artifacts.specs.Orders.{id_at}
 use Rattle.artifacts.specs.Pages.{IsAfter, IsListed, IsListing}
-use Rattle.artifacts.proofs.OrderLemmas.{contains_first, contains_rest, first_or_rest}
+use Rattle.lists.proofs.OrderLemmas.{contains_first, contains_rest, first_or_rest}
 use Rattle.artifacts.proofs.PageLemmas.{IsCut, behind, listed_key, not_shown, rising_drop, rising_pair, true_or_false, after_from}
 use Rattle.artifacts.specs.Cuts.{is_shown}
 

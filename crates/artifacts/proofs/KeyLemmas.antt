@@ -15,8 +15,9 @@ use Rattle.artifacts.specs.Artifacts.{Key}
 use Rattle.names_realms.specs.declared.parents.Parent.{Parent}
 use Rattle.names_realms.specs.declared.parents.Parent.TheVariants.{Invocation, Result as ResultParent}
 use Rattle.names_realms.specs.declared.result_names.ResultName.{ResultName}
-use Rattle.artifacts.specs.Orders.{IsRising, IsKeyIndex, IsFrontIndex, invocation_of, key_order, key_at, no_key, order_at, parent_order, places_order, rank_of, result_of, test_of}
-use Rattle.artifacts.proofs.OrderLemmas.{nat_equal, none_equal, one_more_insert, rising_agree, rising_insert, same_text, then_equal}
+use Rattle.lists.specs.Orders.{IsRising}
+use Rattle.artifacts.specs.Orders.{IsKeyIndex, IsFrontIndex, invocation_of, key_order, key_at, no_key, order_at, parent_order, places_order, rank_of, result_of, test_of}
+use Rattle.lists.proofs.OrderLemmas.{nat_equal, none_equal, one_more_insert, rising_agree, rising_insert, same_text, then_equal}
 
 pub parent_order_total : IsTotalOrder parent_order
 parent_order_total =

@@ -4,7 +4,6 @@ pub mod FollowLemmas
 pub mod KeyLemmas
 pub mod LawLemmas
 pub mod ListLemmas
-pub mod OrderLemmas
 pub mod PageLemmas
 pub mod PlaceLemmas
 pub mod RequestLemmas

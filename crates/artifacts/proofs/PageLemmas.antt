@@ -14,10 +14,11 @@ use Rattle.names_realms.specs.declared.parents.Parent.{Parent}
 use Rattle.artifacts.specs.declared.artifact.Artifact.{Artifact}
 use Rattle.artifacts.specs.Artifacts.{Key, key_of, keys_of, named}
 use Rattle.artifacts.specs.Cuts.{HaveOneHolder, before_at, every_id, is_shown, stands_before}
-use Rattle.artifacts.specs.Orders.{IsKeyIndex, IsRising, id_at, key_at, key_order, no_key, parent_order, places_order}
+use Rattle.lists.specs.Orders.{IsRising}
+use Rattle.artifacts.specs.Orders.{IsKeyIndex, id_at, key_at, key_order, no_key, parent_order, places_order}
 use Rattle.artifacts.specs.Pages.{IsAfter, IsListed, IsListing}
 use Rattle.artifacts.proofs.KeyLemmas.{key_same, parent_order_total, same_parent}
-use Rattle.artifacts.proofs.OrderLemmas.{rising_agree}
+use Rattle.lists.proofs.OrderLemmas.{rising_agree}
 
 pub true_or_false : (b : Bool) → b ≡ true → b ≡ false → ⊥
 true_or_false b t f = let no : true ≡ false = sym t ∙ f in cc

@@ -6,7 +6,8 @@ use Rattle.std.specs.declared.cmp.Ordering.TheVariants.{Less}
 use Rattle.names_realms.specs.declared.parents.Parent.{Parent}
 use Rattle.artifacts.specs.declared.artifact.Artifact.{Artifact}
 use Rattle.artifacts.specs.Artifacts.{IsPlaceOf, keys_of, named}
-use Rattle.artifacts.specs.Orders.{IsRising, id_at}
+use Rattle.lists.specs.Orders.{IsRising}
+use Rattle.artifacts.specs.Orders.{id_at}
 
 -- The id comes after the last one that was shown, where one was.
 abbrev pub IsAfter : Option (List ℕ) → List ℕ → Type 0

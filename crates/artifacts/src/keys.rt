@@ -4,7 +4,8 @@ ghost use Rattle.std.specs.List.Sorted.{IsPartitionPoint};
 ghost use Rattle.std.specs.declared.cmp.Ordering.TheVariants.{Less, Greater};
 ghost use Rattle.artifacts.specs.Artifacts.{HasKey, IsPlaceOf, key_of, keys_of, named};
 ghost use Rattle.artifacts.specs.Batches.{AreOnce, IsRepeat};
-ghost use Rattle.artifacts.specs.Orders.{IsFrontIndex, IsKeyIndex, IsRising, IsSlot, id_at, key_at, invocation_of};
+ghost use Rattle.lists.specs.Orders.{IsRising, IsSlot};
+ghost use Rattle.artifacts.specs.Orders.{IsFrontIndex, IsKeyIndex, id_at, key_at, invocation_of};
 ghost use Rattle.artifacts.specs.Orders.{order_at, parent_at, parent_order, parts_order, places_order, rank_of};
 ghost use Rattle.artifacts.specs.Orders.{result_of, test_of};
 

@@ -3,7 +3,8 @@ ghost use Rattle.std.specs.Prelude.{◌≡◌, ◌≤◌, ◌<◌, ◌↔◌, tr
 ghost use Rattle.std.specs.List.Sorted.{IsPartitionPoint};
 ghost use Rattle.artifacts.specs.Artifacts.{keys_of};
 ghost use Rattle.artifacts.specs.Cuts.{HaveOneHolder, before_at, every_id, is_shown, stands_before};
-ghost use Rattle.artifacts.specs.Orders.{IsKeyIndex, IsRising, places_order};
+ghost use Rattle.lists.specs.Orders.{IsRising};
+ghost use Rattle.artifacts.specs.Orders.{IsKeyIndex, places_order};
 ghost use Rattle.artifacts.specs.Pages.{IsListing};
 
 use crate::artifact::Artifact;

@@ -14,8 +14,9 @@ use Rattle.invocations.specs.declared.due.Due.{Due}
 use Rattle.invocations.specs.declared.invocation.Invocation.{Invocation}
 use Rattle.invocations.specs.Due.{IsDue, IsNextDue}
 use Rattle.invocations.specs.Rows.{IsInState}
-use Rattle.invocations.specs.Orders.{IsRising, HasOneMore, HasOneFewer, IsDueIndex, IsInTurn, due_order, deadline_in, deadlines_of, place_at, place_in}
-use Rattle.invocations.proofs.OrderLemmas.{first_least}
+use Rattle.lists.specs.Orders.{IsRising, HasOneMore, HasOneFewer}
+use Rattle.invocations.specs.Orders.{IsDueIndex, IsInTurn, due_order, deadline_in, deadlines_of, place_at, place_in}
+use Rattle.lists.proofs.OrderLemmas.{first_least}
 use Rattle.invocations.proofs.RowLemmas.{at_place, at_front, at_end, contained}
 
 -- the first of the entries

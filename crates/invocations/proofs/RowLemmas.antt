@@ -1,10 +1,16 @@
 -- Rows that are added and changed.
-use Rattle.std.proofs.Common.{◌≡◌, ◌⊎◌, ◌<◌, ◌≤◌, ℕ, zero, suc, List, [], ◌∷◌, ◌++◌, length, Contains, Some, None, get_or, set, refl, sym, ap, ◌∙◌, subst, inl, inr, arith, lit≤, option_map}
+use Rattle.std.proofs.Common.{◌≡◌, ◌⊎◌, ◌<◌, ◌≤◌, ℕ, zero, suc, List, [], ◌∷◌, ◌++◌, length, Contains, Some, None, get_or, set, refl, sym, ap, ◌∙◌, subst, inl, inr, arith, lit≤, option_map, Result, Ok, Err}
 use Rattle.std.specs.List.{slice_get}
+use Rattle.std.specs.Result.{OnErr, OnOk}
 use Rattle.std.proofs.lemmas.Option.{same_Some, slice_get_within, get_or_from_slice_get, slice_get_read, slice_get-map}
 use Rattle.std.proofs.lemmas.List.{length_push, map_push}
 use Rattle.invocations.specs.declared.invocation.Invocation.{Invocation}
 use Rattle.invocations.specs.Rows.{ids_of, HasId, IsPlaceOf, IsTable, with_changed}
+
+-- what a call does where it can't fail
+pub if_ok : {T E : Type 0} (result : Result T E) (P Q : Type 0) → OnOk result P → OnErr result Q → (Q → ⊥) → P
+if_ok (Ok x) P Q p q not = p
+if_ok (Err e) P Q p q not = absurd (not q)
 
 pub changed_is : (change : Invocation → Invocation) (rows : List Invocation) (place : ℕ) (row : Invocation)
     → row ≡ get_or rows place row → set rows place (change row) ≡ with_changed change rows place

@@ -1,10 +1,8 @@
 -- The code's own words for lists that are kept in order.
-use Rattle.std.specs.Prelude.{◌≡◌, ◌≢◌, ◌⊎◌, ◌↔◌, ◌<◌, ◌≤◌, ℕ, ℤ, List, [], ◌∷◌, Option, Some, None, Result, MatchResult, length, map, slice_get, Contains}
-use Rattle.std.specs.List.{AllByRecursion, HoldsAt}
-use Rattle.std.specs.List.Sorted.{IsPartitionPoint}
+use Rattle.std.specs.Prelude.{◌≡◌, ◌↔◌, ◌≤◌, ℕ, ℤ, List, Option, Some, None, length, map, slice_get, Contains}
 use Rattle.std.specs.Ordering.{nat_cmp, int_cmp, ordering_then}
 use Rattle.std.specs.declared.cmp.Ordering.{Ordering}
-use Rattle.std.specs.declared.cmp.Ordering.TheVariants.{Less, Equal, Greater}
+use Rattle.lists.specs.Orders.{IsRising, HasOneMore, HasOneFewer}
 use Rattle.hash_chains.specs.Chains.{ChainsState}
 use Rattle.names_realms.specs.declared.states.State.{State}
 use Rattle.names_realms.specs.declared.states.State.TheVariants.{Active, Finalizing, Finalized}
@@ -12,25 +10,6 @@ use Rattle.invocations.specs.declared.due.Due.{Due}
 use Rattle.invocations.specs.declared.invocation.Invocation.{Invocation}
 use Rattle.invocations.specs.Hashes.{IsHashed}
 use Rattle.invocations.specs.Rows.{IsTable}
-
--- each value is below all that stand behind it
-abbrev pub IsRising : {X : Type 0} → (X → X → Ordering) → List X → Type 0
-IsRising order [] = Unit {0}
-IsRising order (x ∷ xs) = AllByRecursion (λ y. order x y ≡ Less) xs × IsRising order xs
-
--- the place of a value that is sought, or the place where it would go
-abbrev pub IsSlot : {X : Type 0} → (X → Ordering) → List X → Result ℕ ℕ → Type 0
-IsSlot order xs found =
-    MatchResult found (λ i. (i < length xs) × HoldsAt (λ y. order y ≡ Equal) xs i)
-    (λ i. (i ≤ length xs) × IsPartitionPoint (λ y. order y ≡ Less) (λ y. order y ≡ Greater) xs i)
-
--- the new list has what the old one has, and this value
-abbrev pub HasOneMore : {X : Type 0} → List X → X → List X → Type 0
-HasOneMore {X} old x new = (y : X) → Contains new y ↔ (Contains old y ⊎ (y ≡ x))
-
--- the new list has what the old one has, but this value
-abbrev pub HasOneFewer : {X : Type 0} → List X → X → List X → Type 0
-HasOneFewer {X} old x new = (y : X) → Contains new y ↔ (Contains old y × (y ≢ x))
 
 abbrev pub due_order : Due → Due → Ordering
 due_order a b = ordering_then (int_cmp a.deadline b.deadline) (nat_cmp a.place b.place)

@@ -2,7 +2,8 @@
 ghost use Rattle.std.specs.Prelude.{◌≡◌, ◌≤◌, ◌<◌, ◌+◌, ◌≤ℤ◌, ◌<ℤ◌, ◌⊎◌, ◌++◌, ◌∷◌, [], List, OnOk, Contains, length};
 ghost use Rattle.std.specs.VecDeque.{deque_len, deque_capacity};
 ghost use Rattle.invocations.specs.Due.{IsNextPlace};
-ghost use Rattle.invocations.specs.Orders.{HasOneFewer, HasOneMore, HasReplaced, IsDueIndex, IsRising, IsSlot};
+ghost use Rattle.lists.specs.Orders.{HasOneFewer, HasOneMore, IsRising, IsSlot};
+ghost use Rattle.invocations.specs.Orders.{HasReplaced, IsDueIndex};
 ghost use Rattle.invocations.specs.Orders.{deadline_in, deadlines_of, due_order, place_at};
 ghost use Rattle.invocations.specs.declared.invocation.Invocation.{Invocation};
 

@@ -14,7 +14,8 @@ use Rattle.artifact_replies.specs.Laws.{AreAlike}
 use Rattle.artifact_replies.specs.Replies.{ArtifactsShown, artifacts_data}
 use Rattle.artifacts.specs.declared.artifact.Artifact.{Artifact}
 use Rattle.artifacts.specs.Artifacts.{Key, key_of, keys_of, named}
-use Rattle.artifacts.specs.Orders.{IsRising, id_at, invocation_of}
+use Rattle.lists.specs.Orders.{IsRising}
+use Rattle.artifacts.specs.Orders.{id_at, invocation_of}
 use Rattle.artifacts.specs.Pages.{IsAfter}
 use Rattle.invocations.specs.declared.invocation.Invocation.{Invocation}
 use Rattle.json_fields.specs.Fields.{Pairs}

@@ -11,7 +11,7 @@ use Rattle.std.proofs.lemmas.List.Edits.{length-insert}
 use Rattle.std.proofs.lemmas.Option.{get_or_from_slice_get, slice_get-get_or}
 use Rattle.test_results.specs.Results.{Key}
 use Rattle.test_results.specs.Orders.{IsFrontIndex, key_order, key_at, no_key, order_at, places_order}
-use Rattle.test_results.proofs.OrderLemmas.{nat_equal, none_equal, one_more_insert, rising_insert, same_text, then_equal}
+use Rattle.lists.proofs.OrderLemmas.{nat_equal, none_equal, one_more_insert, rising_insert, same_text, then_equal}
 
 pub key_order_total : IsTotalOrder key_order
 key_order_total =

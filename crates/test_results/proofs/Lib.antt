@@ -4,6 +4,5 @@ pub mod FaultLemmas
 pub mod KeyLemmas
 pub mod LawLemmas
 pub mod ListLemmas
-pub mod OrderLemmas
 pub mod PlaceLemmas
 pub mod TableLemmas

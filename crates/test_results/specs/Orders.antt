@@ -1,30 +1,13 @@
 -- The code's own words for places that are kept in the order of their keys.
-use Rattle.std.specs.Prelude.{◌≡◌, ◌⊎◌, ◌↔◌, ◌<◌, ◌≤◌, ℕ, List, [], ◌∷◌, Result, MatchResult, length, slice_index_or, Contains}
-use Rattle.std.specs.List.{AllByRecursion, HoldsAt}
-use Rattle.std.specs.List.Sorted.{IsPartitionPoint}
+use Rattle.std.specs.Prelude.{◌≡◌, ◌↔◌, ◌<◌, ℕ, List, [], length, slice_index_or, Contains}
 use Rattle.std.specs.Ordering.{nat_cmp, ordering_then}
 use Rattle.std.specs.Cmp.Lexicographic.{slice_cmp}
 use Rattle.std.specs.declared.cmp.Ordering.{Ordering}
-use Rattle.std.specs.declared.cmp.Ordering.TheVariants.{Less, Equal, Greater}
+use Rattle.lists.specs.Orders.{IsRising}
 use Rattle.hash_chains.specs.Chains.{ChainsState}
 use Rattle.test_results.specs.declared.result.TestResult.{TestResult}
 use Rattle.test_results.specs.Hashes.{IsHashed}
 use Rattle.test_results.specs.Results.{Key, IsTable, named, places_in}
-
--- each value is below all that stand behind it
-abbrev pub IsRising : {X : Type 0} → (X → X → Ordering) → List X → Type 0
-IsRising order [] = Unit {0}
-IsRising order (x ∷ xs) = AllByRecursion (λ y. order x y ≡ Less) xs × IsRising order xs
-
--- the place of a value that is sought, or the place where it would go
-abbrev pub IsSlot : {X : Type 0} → (X → Ordering) → List X → Result ℕ ℕ → Type 0
-IsSlot order xs found =
-    MatchResult found (λ i. (i < length xs) × HoldsAt (λ y. order y ≡ Equal) xs i)
-    (λ i. (i ≤ length xs) × IsPartitionPoint (λ y. order y ≡ Less) (λ y. order y ≡ Greater) xs i)
-
--- the new list has what the old one has, and this value
-abbrev pub HasOneMore : {X : Type 0} → List X → X → List X → Type 0
-HasOneMore {X} old x new = (y : X) → Contains new y ↔ (Contains old y ⊎ (y ≡ x))
 
 -- keys by holder, id and test: ids differ sooner than tests, which often begin alike
 abbrev pub key_order : Key → Key → Ordering

@@ -3,7 +3,8 @@ ghost use Rattle.std.specs.Prelude.{◌≡◌, ◌≤◌, ◌<◌, ◌+◌, Matc
 ghost use Rattle.std.specs.List.{All};
 ghost use Rattle.std.specs.declared.cmp.Ordering.TheVariants.{Less};
 ghost use Rattle.test_results.specs.Batches.{AreOnce, IsRepeat};
-ghost use Rattle.test_results.specs.Orders.{IsFrontIndex, IsRising, IsSlot, key_order, order_at, places_order};
+ghost use Rattle.lists.specs.Orders.{IsRising, IsSlot};
+ghost use Rattle.test_results.specs.Orders.{IsFrontIndex, key_order, order_at, places_order};
 ghost use Rattle.test_results.specs.Results.{key_of, keys_of, named};
 
 use crate::result::TestResult;

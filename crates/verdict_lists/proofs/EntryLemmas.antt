@@ -19,7 +19,7 @@ use Rattle.test_results.specs.Exonerations.{places_in as exoneration_places}
 use Rattle.verdict_lists.specs.declared.entries.Entry.{Entry}
 use Rattle.verdict_lists.specs.declared.entries.Entry.TheVariants.{Result, Exoneration}
 use Rattle.verdict_lists.specs.World.{World}
-use Rattle.verdict_lists.specs.Orders.{IsRising}
+use Rattle.lists.specs.Orders.{IsRising}
 use Rattle.verdict_lists.specs.Entries.{AreReached, IsReachedEntry, entries_in, entries_of, entry_order, number_order}
 use Rattle.verdict_lists.proofs.ListLemmas.{In, in_from, contains_from, every_from, every_at, in_left, in_right, in_either, in_map, from_map, in_flat, from_flat, rising_append, rising_map, rising_flat, rising_sorted, distinct_rising}
 use Rattle.verdict_lists.proofs.OrderLemmas.{entry_order_total, number_order_total, same_entry, unequal_from}

@@ -8,11 +8,12 @@ use Rattle.std.proofs.lemmas.Bool.{cases_Bool}
 use Rattle.std.proofs.lemmas.Cmp.{on_total, tied_itself}
 use Rattle.std.proofs.lemmas.List.{append-nil, take-append-drop}
 use Rattle.std.proofs.lemmas.List.Elements.{filter-append}
-use Rattle.test_results.proofs.OrderLemmas.{then_equal}
+use Rattle.lists.proofs.OrderLemmas.{then_equal}
 use Rattle.verdict_lists.specs.declared.entries.Entry.{Entry}
 use Rattle.verdict_lists.specs.declared.verdict.Verdict.{Verdict}
 use Rattle.verdict_lists.specs.World.{World}
-use Rattle.verdict_lists.specs.Orders.{IsRising, group_order, own_order, key_order}
+use Rattle.lists.specs.Orders.{IsRising}
+use Rattle.verdict_lists.specs.Orders.{group_order, own_order, key_order}
 use Rattle.verdict_lists.specs.Entries.{entry_key, entry_order, number_order}
 use Rattle.verdict_lists.specs.Groups.{IsCut, group_of_entries, is_same, made_of, verdict_at}
 use Rattle.verdict_lists.proofs.ListLemmas.{In, in_from, contains_from, every_from, every_at, in_left, in_right, in_either, filter_none, from_filter, in_filter, filter_yes, rising_append, rising_right}

@@ -11,7 +11,7 @@ use Rattle.inclusion_graph.specs.Walks.{IsReached}
 use Rattle.inclusion_graph.proofs.WalkLemmas.{along}
 use Rattle.invocations.specs.Rows.{ids_of}
 use Rattle.test_results.specs.Results.{Key as ResultName, key_of}
-use Rattle.test_results.proofs.OrderLemmas.{same_text, then_equal}
+use Rattle.lists.proofs.OrderLemmas.{same_text, then_equal}
 use Rattle.verdict_lists.specs.World.{World, AreRoots, IsKept, IsReachedResult}
 use Rattle.verdict_lists.specs.Orders.{Key, id_at, no_key, result_key, result_key_at}
 use Rattle.verdict_lists.specs.Listing.{names_order}

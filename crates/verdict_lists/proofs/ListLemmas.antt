@@ -13,7 +13,7 @@ use Rattle.std.proofs.lemmas.Bool.{cases_Bool, true≢false}
 use Rattle.std.proofs.lemmas.Cmp.{tied_itself}
 use Rattle.std.proofs.lemmas.List.Sorted.{ranks_by, sorted_far}
 use Rattle.std.proofs.lemmas.Map.Keys.{IsDistinct-cons, IsDistinct-head, IsDistinct-tail}
-use Rattle.verdict_lists.specs.Orders.{IsRising}
+use Rattle.lists.specs.Orders.{IsRising}
 
 -- a value stands in a list
 abbrev pub In : {X : Type 0} → X → List X → Type 0

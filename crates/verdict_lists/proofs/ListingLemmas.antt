@@ -10,11 +10,12 @@ use Rattle.std.proofs.lemmas.Bool.{true≢false}
 use Rattle.std.proofs.lemmas.Cmp.{then_total, on_total, nat_cmp_total, tied_itself, eq_by_cmp_equiv}
 use Rattle.std.proofs.lemmas.List.Sorted.{Contains-permutation, IsPermutation-sym}
 use Rattle.std.proofs.lemmas.Map.Keys.{IsDistinct-IsPermutation}
-use Rattle.test_results.proofs.OrderLemmas.{nat_equal, then_equal}
+use Rattle.lists.proofs.OrderLemmas.{nat_equal, then_equal}
 use Rattle.verdict_lists.specs.declared.entries.Entry.{Entry}
 use Rattle.verdict_lists.specs.declared.entries.Entry.TheVariants.{Result}
 use Rattle.verdict_lists.specs.World.{World}
-use Rattle.verdict_lists.specs.Orders.{Key, IsRising, result_key_at, result_order}
+use Rattle.lists.specs.Orders.{IsRising}
+use Rattle.verdict_lists.specs.Orders.{Key, result_key_at, result_order}
 use Rattle.verdict_lists.specs.Entries.{AreReached, entry_order, result_in}
 use Rattle.verdict_lists.specs.Groups.{results_in}
 use Rattle.verdict_lists.specs.Listing.{AreListed, listed_order, names_order}

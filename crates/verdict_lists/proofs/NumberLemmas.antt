@@ -15,7 +15,8 @@ use Rattle.std.proofs.lemmas.List.Sums.{count_by-le-length, length-filter, sum_b
 use Rattle.verdict_lists.specs.declared.entries.Entry.{Entry}
 use Rattle.verdict_lists.specs.declared.verdict.Verdict.{Verdict}
 use Rattle.verdict_lists.specs.World.{World, IsReachedResult}
-use Rattle.verdict_lists.specs.Orders.{IsRising, pairs_order}
+use Rattle.lists.specs.Orders.{IsRising}
+use Rattle.verdict_lists.specs.Orders.{pairs_order}
 use Rattle.verdict_lists.specs.Statuses.{status_number}
 use Rattle.verdict_lists.specs.Verdicts.{AreNumbered, AreVerdicts, IsVerdict, front_order, is_like, verdict_key, verdict_order}
 use Rattle.verdict_lists.specs.Entries.{AreReached}

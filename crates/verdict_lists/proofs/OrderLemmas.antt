@@ -7,7 +7,7 @@ use Rattle.std.specs.declared.cmp.Ordering.TheVariants.{Less, Equal, Greater}
 use Rattle.std.proofs.lemmas.Bool.{true≢false}
 use Rattle.std.proofs.lemmas.Cmp.{then_total, on_total, lists_total, nat_cmp_total, tied_itself}
 use Rattle.names_realms.specs.declared.pairs.Pair.{Pair}
-use Rattle.test_results.proofs.OrderLemmas.{nat_equal, same_text, then_equal}
+use Rattle.lists.proofs.OrderLemmas.{nat_equal, same_text, then_equal}
 use Rattle.verdict_lists.specs.declared.entries.Entry.{Entry}
 use Rattle.verdict_lists.specs.declared.entries.Entry.TheVariants.{Result, Exoneration}
 use Rattle.verdict_lists.specs.World.{World}

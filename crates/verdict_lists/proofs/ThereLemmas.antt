@@ -6,7 +6,7 @@ use Rattle.std.specs.declared.cmp.Ordering.TheVariants.{Equal}
 use Rattle.inclusion_graph.specs.declared.edge.Edge.{Edge}
 use Rattle.inclusion_graph.specs.Walks.{IsReached, Reaches}
 use Rattle.inclusion_graph.proofs.ReachLaws.{reaches_or_not}
-use Rattle.test_results.proofs.OrderLemmas.{nat_equal, then_equal}
+use Rattle.lists.proofs.OrderLemmas.{nat_equal, then_equal}
 use Rattle.verdict_lists.specs.declared.entries.Entry.{Entry}
 use Rattle.verdict_lists.specs.declared.entries.Entry.TheVariants.{Result, Exoneration}
 use Rattle.verdict_lists.specs.declared.verdict.Verdict.{Verdict}

@@ -11,12 +11,13 @@ use Rattle.std.proofs.lemmas.Cmp.{then_total, on_total, nat_cmp_total, eq_by_cmp
 use Rattle.std.proofs.lemmas.List.{append-nil}
 use Rattle.std.proofs.lemmas.Map.Keys.{IsDistinct-IsPermutation}
 use Rattle.names_realms.specs.Variants.{label_of}
-use Rattle.test_results.proofs.OrderLemmas.{then_equal}
+use Rattle.lists.proofs.OrderLemmas.{then_equal}
 use Rattle.verdict_lists.specs.declared.entries.Entry.{Entry}
 use Rattle.verdict_lists.specs.declared.entries.Entry.TheVariants.{Result, Exoneration}
 use Rattle.verdict_lists.specs.declared.verdict.Verdict.{Verdict}
 use Rattle.verdict_lists.specs.World.{World, IsReachedResult, IsReachedExoneration}
-use Rattle.verdict_lists.specs.Orders.{Key, IsRising, group_order, pairs_order, no_key, result_key, result_key_at, exoneration_key_at, result_order, exoneration_order}
+use Rattle.lists.specs.Orders.{IsRising}
+use Rattle.verdict_lists.specs.Orders.{Key, group_order, pairs_order, no_key, result_key, result_key_at, exoneration_key_at, result_order, exoneration_order}
 use Rattle.verdict_lists.specs.Statuses.{status_number}
 use Rattle.verdict_lists.specs.Verdicts.{IsAlike, IsVerdict, first_key, front_order, is_some, verdict_key, verdict_order}
 use Rattle.verdict_lists.specs.Entries.{AreReached, entry_key, entry_order, result_in, exoneration_in}

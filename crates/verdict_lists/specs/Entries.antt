@@ -10,7 +10,8 @@ use Rattle.verdict_lists.specs.declared.entries.Entry.{Entry}
 use Rattle.verdict_lists.specs.declared.entries.Entry.TheVariants.{Result, Exoneration}
 use Rattle.verdict_lists.specs.declared.keys.Key.{Key as SeenKey}
 use Rattle.verdict_lists.specs.World.{World, IsReachedResult, IsReachedExoneration}
-use Rattle.verdict_lists.specs.Orders.{Key, key_order, result_key_at, exoneration_key_at, IsRising}
+use Rattle.lists.specs.Orders.{IsRising}
+use Rattle.verdict_lists.specs.Orders.{Key, key_order, result_key_at, exoneration_key_at}
 
 -- a key of the code
 abbrev pub seen : SeenKey → Key

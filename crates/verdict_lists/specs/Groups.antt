@@ -9,7 +9,8 @@ use Rattle.test_results.specs.declared.result.TestResult.{TestResult}
 use Rattle.verdict_lists.specs.declared.entries.Entry.{Entry}
 use Rattle.verdict_lists.specs.declared.verdict.Verdict.{Verdict}
 use Rattle.verdict_lists.specs.World.{World, results_at}
-use Rattle.verdict_lists.specs.Orders.{IsRising, group_order}
+use Rattle.lists.specs.Orders.{IsRising}
+use Rattle.verdict_lists.specs.Orders.{group_order}
 use Rattle.verdict_lists.specs.Statuses.{status_of}
 use Rattle.verdict_lists.specs.Verdicts.{is_some}
 use Rattle.verdict_lists.specs.Entries.{entry_key, result_in, exoneration_in}

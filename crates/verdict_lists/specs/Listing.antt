@@ -4,7 +4,8 @@ use Rattle.std.specs.Ordering.{nat_cmp, ordering_then}
 use Rattle.std.specs.Cmp.Lexicographic.{slice_cmp}
 use Rattle.std.specs.declared.cmp.Ordering.{Ordering}
 use Rattle.verdict_lists.specs.World.{World, IsReachedResult}
-use Rattle.verdict_lists.specs.Orders.{Key, IsRising, result_key_at}
+use Rattle.lists.specs.Orders.{IsRising}
+use Rattle.verdict_lists.specs.Orders.{Key, result_key_at}
 
 abbrev pub names_order : Key → Key → Ordering
 names_order a b =

@@ -1,20 +1,13 @@
 -- The orders of results, of exonerations and of verdicts.
-use Rattle.std.specs.Prelude.{◌≡◌, ℕ, Bool, false, List, [], ◌∷◌, map, slice_index_or}
-use Rattle.std.specs.List.{AllByRecursion}
+use Rattle.std.specs.Prelude.{ℕ, Bool, false, List, [], map, slice_index_or}
 use Rattle.std.specs.Ordering.{nat_cmp, bool_cmp, ordering_then}
 use Rattle.std.specs.Cmp.Lexicographic.{slice_cmp}
 use Rattle.std.specs.declared.cmp.Ordering.{Ordering}
-use Rattle.std.specs.declared.cmp.Ordering.TheVariants.{Less}
 use Rattle.names_realms.specs.declared.pairs.Pair.{Pair}
 use Rattle.invocations.specs.Rows.{ids_of}
 use Rattle.test_results.specs.declared.result.TestResult.{TestResult}
 use Rattle.test_results.specs.declared.exoneration.TestExoneration.{TestExoneration}
 use Rattle.verdict_lists.specs.World.{World}
-
--- Each value comes before all that stand behind it.
-abbrev pub IsRising : {X : Type 0} → (X → X → Ordering) → List X → Type 0
-IsRising order [] = Unit {0}
-IsRising order (x ∷ xs) = AllByRecursion (λ y. order x y ≡ Less) xs × IsRising order xs
 
 -- What a result or an exoneration is put in order by: the test's id, the variant's pairs, whether a
 -- result is expected, the id of the invocation that holds it, a result's id, and an exoneration's

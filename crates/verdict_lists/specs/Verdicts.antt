@@ -6,7 +6,8 @@ use Rattle.std.specs.declared.cmp.Ordering.{Ordering}
 use Rattle.names_realms.specs.Variants.{label_of}
 use Rattle.verdict_lists.specs.declared.verdict.Verdict.{Verdict}
 use Rattle.verdict_lists.specs.World.{World, IsReachedResult, IsReachedExoneration, results_at}
-use Rattle.verdict_lists.specs.Orders.{Key, IsRising, no_key, result_key_at, exoneration_key_at, pairs_order, result_order, exoneration_order}
+use Rattle.lists.specs.Orders.{IsRising}
+use Rattle.verdict_lists.specs.Orders.{Key, no_key, result_key_at, exoneration_key_at, pairs_order, result_order, exoneration_order}
 use Rattle.verdict_lists.specs.Statuses.{status_number, status_of}
 
 -- the key of the first of the results at these places

@@ -1,7 +1,7 @@
 //! The reached results and exonerations, in one list.
 ghost use Rattle.std.specs.Prelude.{◌≡◌, ◌++◌, IfOk, OnOk, IsPermutation, IsSorted, map};
 ghost use Rattle.verdict_lists.specs.Entries.{AreReached, entries_in, entries_of, entry_order, number_order};
-ghost use Rattle.verdict_lists.specs.Orders.{IsRising};
+ghost use Rattle.lists.specs.Orders.{IsRising};
 ghost use Rattle.verdict_lists.specs.World.{AreRoots, IsWhole, world_of};
 
 use crate::keys::compare_keys;

@@ -4,7 +4,7 @@ ghost use Rattle.std.specs.List.{prefix_len};
 ghost use Rattle.std.specs.Option.{option_to_list};
 ghost use Rattle.verdict_lists.specs.Entries.{entry_order};
 ghost use Rattle.verdict_lists.specs.Groups.{AreGrouped, exonerations_in, is_same, label_at, made_of, results_in};
-ghost use Rattle.verdict_lists.specs.Orders.{IsRising};
+ghost use Rattle.lists.specs.Orders.{IsRising};
 ghost use Rattle.verdict_lists.specs.World.{world_of};
 
 use crate::entries::Entry;

@@ -5,7 +5,7 @@ ghost use Rattle.verdict_lists.specs.Groups.{plain};
 ghost use Rattle.verdict_lists.specs.declared.verdict.Verdict.{Verdict};
 ghost use Rattle.verdict_lists.specs.Verdicts.{AreNumbered, first_key, fronts_order, is_like, verdict_order};
 ghost use Rattle.verdict_lists.specs.Entries.{seen};
-ghost use Rattle.verdict_lists.specs.Orders.{IsRising};
+ghost use Rattle.lists.specs.Orders.{IsRising};
 ghost use Rattle.verdict_lists.specs.World.{world_of};
 
 use crate::keys::{Key, compare_pairs, no_key};

@@ -9,7 +9,8 @@ use Rattle.std.proofs.lemmas.Cmp.{then_total, on_total, nat_cmp_total, tied_itse
 use Rattle.std.proofs.lemmas.List.Sums.{sum_by-append}
 use Rattle.verdict_lists.specs.declared.verdict.Verdict.{Verdict}
 use Rattle.verdict_lists.specs.World.{World, AreRoots, IsKept, IsReachedResult}
-use Rattle.verdict_lists.specs.Orders.{IsRising, pairs_order, result_key_at}
+use Rattle.lists.specs.Orders.{IsRising}
+use Rattle.verdict_lists.specs.Orders.{pairs_order, result_key_at}
 use Rattle.verdict_lists.specs.Listing.{listed_order, names_order}
 use Rattle.verdict_lists.specs.Statuses.{status_number}
 use Rattle.verdict_lists.specs.Verdicts.{AreNumbered, front_order, is_like, verdict_order, verdict_key as key_of_results}

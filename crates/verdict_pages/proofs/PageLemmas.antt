@@ -9,7 +9,7 @@ use Rattle.std.proofs.lemmas.Bool.{cases_Bool, cases_lt, ltb-true, ltb-false, tr
 use Rattle.std.proofs.lemmas.Cmp.{alike_right, tied_itself}
 use Rattle.std.proofs.lemmas.List.{append-nil, get_or-take, get_or-drop, length-drop, length-take, take-append-drop}
 use Rattle.std.proofs.lemmas.List.Elements.{All-head, All-tail, Contains-get_or, filter-append, recursion_from_All}
-use Rattle.verdict_lists.specs.Orders.{IsRising}
+use Rattle.lists.specs.Orders.{IsRising}
 use Rattle.verdict_lists.proofs.ListLemmas.{In, in_from, every_at, filter_none, filter_yes, filter_no, in_right, rising_right}
 use Rattle.verdict_pages.specs.Pages.{behind, comes_to_end, has_more, last_key, next_key, page_rows, pages}
 use Rattle.verdict_pages.specs.Laws.{PagesAreList}

@@ -5,7 +5,8 @@ use Rattle.std.specs.Cmp.Lexicographic.{slice_cmp}
 use Rattle.std.specs.declared.cmp.Ordering.{Ordering}
 use Rattle.verdict_lists.specs.declared.verdict.Verdict.{Verdict}
 use Rattle.verdict_lists.specs.World.{World}
-use Rattle.verdict_lists.specs.Orders.{IsRising, result_key_at}
+use Rattle.lists.specs.Orders.{IsRising}
+use Rattle.verdict_lists.specs.Orders.{result_key_at}
 use Rattle.verdict_lists.specs.Statuses.{status_number}
 use Rattle.verdict_lists.specs.Verdicts.{verdict_key as key_of_results}
 use Rattle.verdict_pages.specs.Pages.{behind, has_more, page_rows}

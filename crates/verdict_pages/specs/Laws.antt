@@ -3,7 +3,7 @@ use Rattle.std.specs.Prelude.{◌≡◌, ◌<◌, ℕ, true, List, All, None}
 use Rattle.std.specs.declared.cmp.Ordering.{Ordering}
 use Rattle.verdict_lists.specs.declared.verdict.Verdict.{Verdict}
 use Rattle.verdict_lists.specs.World.{World, AreRoots, IsKept}
-use Rattle.verdict_lists.specs.Orders.{IsRising}
+use Rattle.lists.specs.Orders.{IsRising}
 use Rattle.verdict_lists.specs.Listing.{AreListed}
 use Rattle.verdict_lists.specs.Verdicts.{AreVerdicts}
 use Rattle.verdict_pages.specs.Keys.{KeysRise, ResultKeysRise, ResultPlace, VerdictPlace, by_result, by_verdict, result_place, verdict_place}

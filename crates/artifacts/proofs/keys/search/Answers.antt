@@ -3,7 +3,7 @@ use Rattle.std.proofs.lemmas.Fn.{always_returns_same}
 use Rattle.artifacts.specs.Artifacts.{keys_of, named}
 use Rattle.artifacts.specs.Orders.{key_at, order_at}
 use Rattle.artifacts.proofs.KeyLemmas.{key_order_total}
-use Rattle.artifacts.proofs.OrderLemmas.{slot_from_search}
+use Rattle.lists.proofs.OrderLemmas.{slot_from_search}
 use Rattle.artifacts.proofs.keys.search.Goals as goal
 
 pub returns : goal.returns

@@ -2,7 +2,8 @@ use Rattle.std.proofs.Common.{◌≤◌, ℕ, List, length, drop, sym, ap, ◌�
 use Rattle.std.specs.Prelude.{option_map}
 use Rattle.artifacts.specs.Artifacts.{keys_of}
 use Rattle.artifacts.specs.Cuts.{is_shown, stands_before}
-use Rattle.artifacts.specs.Orders.{IsRising, places_order}
+use Rattle.lists.specs.Orders.{IsRising}
+use Rattle.artifacts.specs.Orders.{places_order}
 use Rattle.artifacts.specs.Pages.{IsListing}
 use Rattle.artifacts.proofs.PageLemmas.{IsCut, listing_from_cuts, rising_take}
 use Rattle.artifacts.proofs.pages.listing.Goals as goal

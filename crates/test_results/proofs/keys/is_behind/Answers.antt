@@ -3,7 +3,7 @@ use Rattle.std.specs.Ordering.{is_lt}
 use Rattle.test_results.specs.Orders.{key_at, order_at}
 use Rattle.test_results.specs.Results.{keys_of, named}
 use Rattle.test_results.proofs.KeyLemmas.{key_order_total}
-use Rattle.test_results.proofs.OrderLemmas.{all_below}
+use Rattle.lists.proofs.OrderLemmas.{all_below}
 use Rattle.test_results.proofs.keys.is_behind.Goals as goal
 
 less_at : (o : Ordering) → is_lt o ≡ true → o ≡ Less

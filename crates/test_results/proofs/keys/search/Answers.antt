@@ -3,7 +3,7 @@ use Rattle.std.proofs.lemmas.Fn.{always_returns_same}
 use Rattle.test_results.specs.Results.{keys_of, named}
 use Rattle.test_results.specs.Orders.{key_at, order_at}
 use Rattle.test_results.proofs.KeyLemmas.{key_order_total}
-use Rattle.test_results.proofs.OrderLemmas.{slot_from_search}
+use Rattle.lists.proofs.OrderLemmas.{slot_from_search}
 use Rattle.test_results.proofs.keys.search.Goals as goal
 
 pub returns : goal.returns

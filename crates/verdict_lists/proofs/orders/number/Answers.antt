@@ -4,7 +4,7 @@ use Rattle.std.proofs.lemmas.List.{get_or_default, length-map}
 use Rattle.std.proofs.lemmas.Option.{slice_get-get_or}
 use Rattle.verdict_lists.specs.declared.verdict.Verdict.{Verdict}
 use Rattle.verdict_lists.specs.Groups.{plain}
-use Rattle.verdict_lists.specs.Orders.{IsRising}
+use Rattle.lists.specs.Orders.{IsRising}
 use Rattle.verdict_lists.specs.Verdicts.{is_like, verdict_order}
 use Rattle.verdict_lists.specs.World.{world_of}
 use Rattle.verdict_lists.proofs.NumberLemmas.{numbered_set, plain_set, rising_plain}

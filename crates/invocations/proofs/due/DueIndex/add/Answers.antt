@@ -1,7 +1,9 @@
 use Rattle.std.proofs.Common.{◌≡◌, ◌≤◌, ◌+◌, subst, sym, arith}
 use Rattle.std.specs.List.{insert}
-use Rattle.invocations.specs.Orders.{IsRising, HasOneMore, due_order}
-use Rattle.invocations.proofs.OrderLemmas.{if_ok, rising_insert, one_more_insert}
+use Rattle.lists.specs.Orders.{IsRising, HasOneMore}
+use Rattle.invocations.specs.Orders.{due_order}
+use Rattle.lists.proofs.OrderLemmas.{rising_insert, one_more_insert}
+use Rattle.invocations.proofs.RowLemmas.{if_ok}
 use Rattle.invocations.proofs.OrderedRows.{due_order_total}
 use Rattle.invocations.proofs.due.DueIndex.add.Goals as goal
 

@@ -2,8 +2,9 @@ use Rattle.std.proofs.Common.{◌≡◌, ◌<◌, ◌+◌, Option, subst, sym, g
 use Rattle.std.specs.List.{remove}
 use Rattle.std.specs.Option.{OnSome}
 use Rattle.invocations.specs.declared.due.Due.{Due}
-use Rattle.invocations.specs.Orders.{IsRising, HasOneFewer, due_order}
-use Rattle.invocations.proofs.OrderLemmas.{rising_remove, one_fewer_remove}
+use Rattle.lists.specs.Orders.{IsRising, HasOneFewer}
+use Rattle.invocations.specs.Orders.{due_order}
+use Rattle.lists.proofs.OrderLemmas.{rising_remove, one_fewer_remove}
 use Rattle.invocations.proofs.OrderedRows.{due_order_total, same_due}
 use Rattle.invocations.proofs.due.DueIndex.remove.Goals as goal
 

@@ -1,6 +1,6 @@
 use Rattle.std.proofs.Common.{◌≡◌, length, subst}
 use Rattle.std.specs.List.Sorted.{IsSearchInRange}
-use Rattle.invocations.proofs.OrderLemmas.{slot_from_search}
+use Rattle.lists.proofs.OrderLemmas.{slot_from_search}
 use Rattle.invocations.proofs.OrderedRows.{due_order_total}
 use Rattle.invocations.specs.declared.due.Due.{Due}
 use Rattle.invocations.proofs.due.DueIndex.search.Goals as goal

@@ -1,18 +1,18 @@
 -- Lists that are kept in order.
-use Rattle.std.proofs.Common.{◌≡◌, ◌⊎◌, ◌<◌, ◌≤◌, ◌+◌, ℕ, zero, suc, false, List, [], ◌∷◌, ◌++◌, length, take, drop, get_or, Contains, Result, Ok, Err, Ordering, refl, sym, ap, ◌∙◌, subst, inl, inr, arith, add-one}
+use Rattle.std.proofs.Common.{◌≡◌, ◌≢◌, ◌⊎◌, ◌<◌, ◌≤◌, ◌+◌, ℕ, zero, suc, false, List, [], ◌∷◌, ◌++◌, length, take, drop, get_or, Contains, Result, Ok, Err, Ordering, refl, sym, ap, ◌∙◌, subst, inl, inr, arith, add-one}
 use Rattle.std.specs.Cmp.{IsTotalOrder}
-use Rattle.std.specs.Cmp.Lexicographic.{slice_cmp, bytes_decides}
-use Rattle.std.specs.List.{All, AllByRecursion, AllWithin, insert}
+use Rattle.std.specs.List.{AllByRecursion, AllWithin, insert, remove, All}
 use Rattle.std.specs.List.Sorted.{IsBinarySearchResult, IsPartitionPoint, IsSearchInRange, IsSortedBy}
-use Rattle.std.specs.Ordering.{nat_cmp, ordering_then, is_lt, is_eq, ordering_reverse, MatchOrdering}
+use Rattle.std.specs.Ordering.{is_lt, ordering_reverse, nat_cmp, ordering_then, is_eq, MatchOrdering}
 use Rattle.std.proofs.lemmas.Bool.{cases_lt}
 use Rattle.std.specs.declared.cmp.Ordering.TheVariants.{Less, Equal, Greater}
-use Rattle.std.proofs.lemmas.Cmp.{ranked}
-use Rattle.std.proofs.lemmas.Map.Text.{is_eq-slice_cmp}
-use Rattle.std.proofs.lemmas.List.{get_or-take, get_or-drop, length-take, length-drop, take-append-drop}
-use Rattle.std.proofs.lemmas.List.Elements.{All-from_recursion, recursion_from_All, Contains-append_left, Contains-append_right, Contains-append_cases}
+use Rattle.std.proofs.lemmas.Cmp.{tied_itself, ranked}
+use Rattle.std.proofs.lemmas.List.{get_or-take, get_or-drop, length-take, length-drop, take-append-drop, drop_more}
+use Rattle.std.proofs.lemmas.List.Elements.{recursion_from_All, All-from_recursion, All-contains, Contains-append_left, Contains-append_right, Contains-append_cases}
 use Rattle.std.proofs.lemmas.List.Sorted.{searchable_from_sorted}
-use Rattle.test_results.specs.Orders.{IsRising, IsSlot, HasOneMore}
+use Rattle.std.specs.Cmp.Lexicographic.{slice_cmp, bytes_decides}
+use Rattle.std.proofs.lemmas.Map.Text.{is_eq-slice_cmp}
+use Rattle.lists.specs.Orders.{IsRising, IsSlot, HasOneMore, HasOneFewer}
 
 not_equal : (o : Ordering) → o ≡ Less → o ≡ Equal → ⊥
 not_equal o a b = let no : Less ≡ Equal = sym a ∙ b in cc
@@ -69,19 +69,29 @@ every_more : {X : Type 0} (P : X → Type 0) (front back : List X) (x : X) → P
 every_more P [] back x p h = (p, h)
 every_more P (a ∷ front) back x p h = (h.0, every_more P front back x p h.1)
 
+every_fewer : {X : Type 0} (P : X → Type 0) (front back : List X) (x : X) → AllByRecursion P (front ++ x ∷ back)
+    → AllByRecursion P (front ++ back)
+every_fewer P [] back x h = h.1
+every_fewer P (a ∷ front) back x h = (h.0, every_fewer P front back x h.1)
+
 rising_more : {X : Type 0} (R : X → X → Ordering) (front back : List X) (x : X) → IsRising R (front ++ back)
     → AllByRecursion (λ a. R a x ≡ Less) front → AllByRecursion (λ b. R x b ≡ Less) back → IsRising R (front ++ x ∷ back)
 rising_more R [] back x h below above = (above, h)
 rising_more R (a ∷ front) back x h below above =
     (every_more (λ y. R a y ≡ Less) front back x below.0 h.0, rising_more R front back x h.1 below.1 above)
 
-contains_rest : {X : Type 0} (x y : X) (xs : List X) → Contains xs y → Contains (x ∷ xs) y
+rising_fewer : {X : Type 0} (R : X → X → Ordering) (front back : List X) (x : X) → IsRising R (front ++ x ∷ back)
+    → IsRising R (front ++ back)
+rising_fewer R [] back x h = h.1
+rising_fewer R (a ∷ front) back x h = (every_fewer (λ y. R a y ≡ Less) front back x h.0, rising_fewer R front back x h.1)
+
+pub contains_rest : {X : Type 0} (x y : X) (xs : List X) → Contains xs y → Contains (x ∷ xs) y
 contains_rest x y xs h = (suc h.0, omega (arith, h.1), h.2)
 
-contains_first : {X : Type 0} (x : X) (xs : List X) → Contains (x ∷ xs) x
+pub contains_first : {X : Type 0} (x : X) (xs : List X) → Contains (x ∷ xs) x
 contains_first x xs = (zero, omega arith, refl)
 
-first_or_rest : {X : Type 0} (x y : X) (xs : List X) (k : ℕ) → k < length (x ∷ xs) → get_or (x ∷ xs) k y ≡ y
+pub first_or_rest : {X : Type 0} (x y : X) (xs : List X) (k : ℕ) → k < length (x ∷ xs) → get_or (x ∷ xs) k y ≡ y
     → (x ≡ y) ⊎ Contains xs y
 first_or_rest x y xs zero within e = inl e
 first_or_rest x y xs (suc k) within e = inr (k, omega arith, e)
@@ -102,6 +112,26 @@ one_more front back x y = (
     ]
     | inr e ↦ Contains-append_right front (x ∷ back) y (subst (Contains (x ∷ back)) (sym e) (contains_first x back))
   ],
+)
+
+-- the value in the middle stands nowhere else
+not_beside : {X : Type 0} {R : X → X → Ordering} → IsTotalOrder R → (front back : List X) (x : X) → IsRising R (front ++ x ∷ back)
+    → (y : X) → Contains (front ++ back) y → y ≢ x
+not_beside {X} {R} o [] back x h y held e =
+    not_equal (R x x) (All-contains (λ b. R x b ≡ Less) back x (All-from_recursion (λ b. R x b ≡ Less) back h.0) (subst (Contains back) e held)) (tied_itself o x)
+not_beside {X} {R} o (a ∷ front) back x h y held e =
+    elim (first_or_rest a y (front ++ back) held.0 held.1 held.2) [
+      | inl same ↦ not_equal (R x x)
+          (subst (λ z. R z x ≡ Less) (same ∙ e) (All-contains (λ b. R a b ≡ Less) (front ++ x ∷ back) x (All-from_recursion (λ b. R a b ≡ Less) (front ++ x ∷ back) h.0) (Contains-append_right front (x ∷ back) x (contains_first x back))))
+          (tied_itself o x)
+      | inr rest ↦ not_beside o front back x h.1 y rest e
+    ]
+
+one_fewer : {X : Type 0} {R : X → X → Ordering} → IsTotalOrder R → (front back : List X) (x : X) → IsRising R (front ++ x ∷ back)
+    → HasOneFewer (front ++ x ∷ back) x (front ++ back)
+one_fewer o front back x h y = (
+  λ held. ((one_more front back x y).1 (inl held), not_beside o front back x h y held),
+  λ both. elim ((one_more front back x y).0 both.0) [ inl old ↦ old | inr e ↦ absurd (both.1 e) ],
 )
 
 -- from places to fronts and backs
@@ -127,6 +157,22 @@ pub one_more_insert : {X : Type 0} (xs : List X) (i : ℕ) (x : X) → HasOneMor
 one_more_insert xs i x =
     subst (λ ys. HasOneMore ys x (insert xs i x)) (take-append-drop i xs) (one_more (take i xs) (drop i xs) x)
 
+around : {X : Type 0} (xs : List X) (i : ℕ) (d : X) → i < length xs → take i xs ++ get_or xs i d ∷ drop (suc i) xs ≡ xs
+around xs i d within =
+    ap (λ ys. take i xs ++ ys) (sym (rw (← add-one) (drop_more xs i d within))) ∙ take-append-drop i xs
+
+pub rising_remove : {X : Type 0} (R : X → X → Ordering) (xs : List X) (i : ℕ) (d : X) → i < length xs → IsRising R xs
+    → IsRising R (remove xs i)
+rising_remove R xs i d within h =
+    rising_fewer R (take i xs) (drop (suc i) xs) (get_or xs i d) (subst (IsRising R) (sym (around xs i d within)) h)
+
+pub one_fewer_remove : {X : Type 0} {R : X → X → Ordering} → IsTotalOrder R → (xs : List X) (i : ℕ) (d : X) → i < length xs
+    → IsRising R xs → HasOneFewer xs (get_or xs i d) (remove xs i)
+one_fewer_remove {X} {R} o xs i d within h =
+    let same = around xs i d within in
+    subst (λ ys. HasOneFewer ys (get_or xs i d) (remove xs i)) same
+    (one_fewer o (take i xs) (drop (suc i) xs) (get_or xs i d) (subst (IsRising R) (sym same) h))
+
 -- where a value would go, none is that is equal to it
 pub none_equal : {X : Type 0} (order : X → Ordering) (xs : List X) (i : ℕ) → i ≤ length xs
     → IsPartitionPoint (λ y. order y ≡ Less) (λ y. order y ≡ Greater) xs i → (y : X) → Contains xs y → order y ≡ Equal → ⊥
@@ -136,6 +182,20 @@ none_equal order xs i within parts y held same =
       | inl lt ↦ not_equal (order (get_or xs held.0 y)) (parts.0 held.0 y (omega arith) lt) at
       | inr ge ↦ not_equal_greater (order (get_or xs held.0 y)) (parts.1 held.0 y ge held.1) at
     ]
+
+-- orders that agree on what stands in the list
+every_agree : {X : Type 0} (P Q : X → Type 0) (xs : List X) → ((y : X) → Contains xs y → P y → Q y) → AllByRecursion P xs → AllByRecursion Q xs
+every_agree P Q [] f h = h
+every_agree P Q (x ∷ xs) f h =
+    (f x (zero, omega arith, refl) h.0, every_agree P Q xs (λ y held. f y (suc held.0, omega (arith, held.1), held.2)) h.1)
+
+pub rising_agree : {X : Type 0} (R S : X → X → Ordering) (xs : List X)
+    → ((a b : X) → Contains xs a → Contains xs b → R a b ≡ Less → S a b ≡ Less) → IsRising R xs → IsRising S xs
+rising_agree R S [] f h = h
+rising_agree R S (x ∷ xs) f h = (
+  every_agree (λ y. R x y ≡ Less) (λ y. S x y ≡ Less) xs (λ y held. f x y (zero, omega arith, refl) (suc held.0, omega (arith, held.1), held.2)) h.0,
+  rising_agree R S xs (λ a b p q. f a b (suc p.0, omega (arith, p.1), p.2) (suc q.0, omega (arith, q.1), q.2)) h.1,
+)
 
 pub then_equal : (o p : Ordering) → ordering_then o p ≡ Equal → (o ≡ Equal) × (p ≡ Equal)
 then_equal Less p e = let no : Less ≡ Equal = e in cc
@@ -147,3 +207,12 @@ nat_equal x y e = subst (λ r. MatchOrdering r (x < y) (x ≡ y) (y < x)) e (ran
 
 pub same_text : (xs ys : List ℕ) → slice_cmp nat_cmp xs ys ≡ Equal → xs ≡ ys
 same_text xs ys e = (bytes_decides xs ys).0 (sym (is_eq-slice_cmp xs ys) ∙ ap is_eq e)
+
+-- the first value is the least
+pub first_least : {X : Type 0} (R : X → X → Ordering) (x : X) (xs : List X) (y : X) → IsRising R (x ∷ xs) → Contains (x ∷ xs) y
+    → (x ≡ y) ⊎ (R x y ≡ Less)
+first_least R x xs y h held =
+    elim (first_or_rest x y xs held.0 held.1 held.2) [
+      | inl e ↦ inl e
+      | inr rest ↦ inr (All-contains (λ b. R x b ≡ Less) xs y (All-from_recursion (λ b. R x b ≡ Less) xs h.0) rest)
+    ]
