@@ -51,7 +51,7 @@ pub(crate) trait Answers {
 }
 
 /// Tells calls, each with its answer.
-pub(crate) fn tell_calls<A: Answers>(
+pub(crate) fn tell_calls<A: Answers + Drop>(
     alloc: Global,
     mut value: A,
     calls: &str,

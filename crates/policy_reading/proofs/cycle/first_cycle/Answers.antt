@@ -22,7 +22,7 @@ returns-in_ok-name-in-Some c =
     let rs = c.as_slice-realms.result.now in
     let realms : rs ≡ t.realms = c.as_slice-realms.ensures ∙ ap (λ t. t.realms) c.tables.ensures in
     let found = subst (IsLeastBefore c.args.graph.now rs (length rs)) c.in-Some.is c.in_ok-place.ensures in
-    let name : c.new.result ≡ name_at rs c.in-Some.place = c.new.ensures ∙ c.in_ok-name-in-Some.ensures.items ∙ c.name_of_place.ensures in
+    let name = c.in_ok-name-in-Some.ensures ∙ c.name_of_place.ensures in
     subst (IsLeastCycle t) (sym name) (least_cycle_named t c.args.graph.now rs c.in-Some.place c.requires realms found)
 
 pub returns-in-None : goal.returns-in-None
