@@ -10,6 +10,6 @@ mod tcp;
 mod tests;
 
 pub use dialer::Dialer;
-pub use memory::MemoryDialer;
+pub use memory::{MemoryDialer, MemoryLinks};
 pub use stream_link::StreamLink;
 pub use tcp::TcpDialer;

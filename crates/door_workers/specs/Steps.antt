@@ -3,8 +3,7 @@ use Rattle.std.specs.Prelude.{◌≡◌, ℕ, List, [], ◌∷◌, Option, Some,
 use Rattle.std.specs.Borrow.{GName}
 use Rattle.fault_counts.specs.declared.Failed.{Failed}
 use Rattle.outside.specs.Ends.{Ends}
-use Rattle.dialers.specs.Dials.{Dials}
-use Rattle.doors.specs.Doors.{Accepts}
+use Rattle.dialers.specs.Dials.{Dials, Accepts}
 use Rattle.tellers.specs.Exchange.{Exchange}
 use Rattle.door_workers.specs.Visits.{Visit, WasServed, PassedThrough}
 

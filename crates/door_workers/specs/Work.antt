@@ -3,8 +3,7 @@ use Rattle.std.specs.Prelude.{◌≡◌, ◌≤◌, Bool, true, false, List, All
 use Rattle.std.specs.Borrow.{GName}
 use Rattle.fault_counts.specs.Causes.{Rose}
 use Rattle.outside.specs.Ends.{Ends}
-use Rattle.dialers.specs.Dials.{Dials}
-use Rattle.doors.specs.Doors.{NoneToCome}
+use Rattle.dialers.specs.Dials.{Dials, NoneToCome}
 use Rattle.tellers.specs.Exchange.{Exchange}
 use Rattle.door_workers.specs.Tallies.{Counts}
 use Rattle.door_workers.specs.Visits.{Visit, WasServed, PassedThrough, exchanges_on}

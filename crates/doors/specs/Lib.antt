@@ -1,4 +1,2 @@
-pub mod Doors
-pub mod Memory
 pub mod Listeners
 pub mod Waits

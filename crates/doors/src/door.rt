@@ -1,7 +1,6 @@
 //! Where the links come from that others open.
 ghost use Rattle.std.specs.Prelude.{◌≡◌};
-ghost use Rattle.dialers.specs.Dials.{Dials, IsOneOut, with_returned};
-ghost use Rattle.doors.specs.Doors.{Accepts};
+ghost use Rattle.dialers.specs.Dials.{Accepts, Dials, IsOneOut, with_returned};
 
 use outside::{Failed, Link};
 

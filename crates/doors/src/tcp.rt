@@ -2,9 +2,8 @@
 ghost use Rattle.std.specs.Prelude.{◌≡◌, ◌↔◌, ◌-◌, IsTrue, MatchResult};
 ghost use Rattle.std.specs.Option.{option_map};
 ghost use Rattle.fault_counts.specs.Causes.{counted};
-ghost use Rattle.dialers.specs.Dials.{with_returned};
+ghost use Rattle.dialers.specs.Dials.{Accepts, with_returned};
 ghost use Rattle.dialers.specs.Streams.{untold};
-ghost use Rattle.doors.specs.Doors.{Accepts};
 ghost use Rattle.doors.specs.Listeners.{CountsDown};
 
 use crate::Door;

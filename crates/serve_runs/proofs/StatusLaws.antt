@@ -2,8 +2,7 @@
 use Rattle.std.proofs.Common.{◌≡◌, ◌≢◌, ℕ, ◌+◌, ◌⊎◌, inl, inr, Bool, true, false, List, [], ◌∷◌, map, ℤ, Option, Result, Ok, Err, refl, sym, ap, ◌∙◌, subst, arith}
 use Rattle.std.specs.Borrow.{GName}
 use Rattle.std.specs.List.{AllZip, list_any}
-use Rattle.dialers.specs.Dials.{Dials}
-use Rattle.doors.specs.Doors.{NoneToCome}
+use Rattle.dialers.specs.Dials.{Dials, NoneToCome}
 use Rattle.door_workers.specs.Work.{ServesDoor, EndsWork}
 use Rattle.door_workers.specs.declared.tally.Tally.{Tally}
 use Rattle.fault_counts.specs.Causes.{Rose}

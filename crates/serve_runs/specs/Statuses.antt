@@ -2,8 +2,7 @@
 use Rattle.std.specs.Prelude.{◌≡◌, ◌≢◌, ℕ, ◌⊎◌, false, List, [], ◌∷◌}
 use Rattle.std.specs.Borrow.{GName}
 use Rattle.std.specs.List.{AllZip}
-use Rattle.dialers.specs.Dials.{Dials}
-use Rattle.doors.specs.Doors.{NoneToCome}
+use Rattle.dialers.specs.Dials.{Dials, NoneToCome}
 use Rattle.door_workers.specs.declared.tally.Tally.{Tally}
 use Rattle.fault_counts.specs.Causes.{Rose}
 use Rattle.outside.specs.Bytes.{Took}

@@ -1,6 +1,6 @@
 use Rattle.std.proofs.Common.{◌≡◌, ◌+◌, ◌<◌, ◌≤◌, length, arith, ap, refl}
 use Rattle.std.specs.Prelude.{vec_len, vec_capacity}
-use Rattle.doors.proofs.memory.MemoryDoorDoor.give_back.Goals as goal
+use Rattle.dialers.proofs.memory.MemoryLinks.keep.Goals as goal
 
 pub overflow_sub-self : goal.overflow_sub-self
 overflow_sub-self g c =
