@@ -119,10 +119,19 @@ def state():
 
 
 def entries(paths):
-    """What each command took, the last time that it ran; and of each run that ended what it took whole."""
-    lines = [json.loads(line) for path in paths for line in pathlib.Path(path).read_text().splitlines()]
-    last = {(line["crate"], line["part"], line["number"]): line for line in lines if "crate" in line}
-    return [*last.values()], [line for line in lines if "wall" in line]
+    """What the commands of each crate's part took, in the last run that had any; and of each run that ended what it
+    took whole. A program has several: its check, and a build by each compiler."""
+    last, wholes = {}, []
+    for path in paths:
+        lines = [json.loads(line) for line in pathlib.Path(path).read_text().splitlines()]
+        wholes += [line for line in lines if "wall" in line]
+        run = {}
+        for line in lines:
+            if "crate" in line:
+                key = line["crate"], line["part"], line["number"]
+                run[key] = line | {"seconds": line["seconds"] + run.get(key, {"seconds": 0})["seconds"]}
+        last |= run
+    return [*last.values()], wholes
 
 
 def crates():
